@@ -3,7 +3,7 @@ use Rattle.std.proofs.Common.{◌≡◌, ℕ, ◌+◌, ◌<◌, List, [], ◌∷
 use Rattle.std.proofs.lemmas.List.{drop-drop, drop_all}
 use Rattle.memchr.specs.Find.{IsFirstByte, is_byte}
 use Rattle.cj_stream.specs.Meaning.Lines.{Line, ended_line, lines, raw}
-use Rattle.cj_stream.proofs.LineLemmas.{begun-none, closed-none}
+use Rattle.cj_stream.proofs.LineLemmas.{begun-none, closed-none, lines-cut}
 use Rattle.cj_stream.proofs.PartsLemmas.{lines-headed}
 use Rattle.cj_stream.proofs.PieceSlices.{lf_found, NoLf-before, NoLf-nowhere}
 use Rattle.cityseq_c.specs.Features.{Passes, Place, past_from}
@@ -20,7 +20,7 @@ first-begun : (s : List ℕ) → IsFirstByte (is_byte 10) s None → 0 < length 
 first-begun [] h some = absurd (omega arith)
 first-begun (b ∷ s) h some =
     let free = NoLf-nowhere (b ∷ s) h in
-    rw (closed-none (b ∷ s) free, begun-none (b ∷ s) free) refl
+    lines-cut (b ∷ s) ∙ rw (closed-none (b ∷ s) free, begun-none (b ∷ s) free) refl
 
 -- a line is passed, where the bytes begin with it
 passes : (line at n : ℕ) (s : List ℕ) (l : Line) (rest : List Line) → lines s ≡ l ∷ rest → length (raw l) ≡ n

@@ -6,8 +6,8 @@ use Rattle.std.proofs.lemmas.Bool.{eqb-true, ltb-true, ltb-false}
 use Rattle.std.proofs.lemmas.Bool.Decides.{nat_tests}
 use Rattle.std.proofs.Math.Seq.{take-suc}
 use Rattle.memchr.specs.Find.{IsFirstByte, IsLastByte, is_byte}
-use Rattle.cj_stream.specs.Lines.{NoLf, whole}
-use Rattle.cj_stream.specs.Meaning.Lines.{closed, begun, ended_line, raw}
+use Rattle.cj_stream.specs.Lines.{NoLf, whole, closed, begun}
+use Rattle.cj_stream.specs.Meaning.Lines.{ended_line, raw}
 use Rattle.cj_stream.proofs.IsLinesLemmas.{whole-begun}
 use Rattle.cj_stream.proofs.LineLemmas.{NoLf-from_places, begun-lf, closed-ended, closed-more, closed-none}
 use Rattle.cj_stream.proofs.PieceSlices.{lf_found, lf_front, NoLf-before, NoLf-nowhere}

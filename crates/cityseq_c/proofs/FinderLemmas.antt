@@ -2,11 +2,11 @@
 use Rattle.std.proofs.Common.{◌≡◌, ℕ, zero, suc, ◌+◌, ◌-◌, ◌⊎◌, inl, inr, ◌≤◌, List, [], ◌∷◌, ◌++◌, drop, length, take, sym, ap, refl, ◌∙◌, arith, append_assoc, length-append}
 use Rattle.std.specs.List.{flat_map}
 use Rattle.std.proofs.lemmas.List.{append-nil, take_all}
-use Rattle.cj_stream.specs.Meaning.Lines.{Line, begun, ended_line, last_line, lines, raw}
-use Rattle.cj_stream.specs.Lines.{NoLf}
+use Rattle.cj_stream.specs.Meaning.Lines.{Line, ended_line, lines, raw}
+use Rattle.cj_stream.specs.Lines.{begun, last_line, NoLf}
 use Rattle.std.proofs.lemmas.Grind.{flat_map-append}
 use Rattle.cj_stream.proofs.IsLinesLemmas.{lines-are_lines}
-use Rattle.cj_stream.proofs.LineLemmas.{closed-none}
+use Rattle.cj_stream.proofs.LineLemmas.{closed-none, lines-cut}
 use Rattle.cj_stream.proofs.PartsLemmas.{lines-headed}
 use Rattle.cityseq_c.specs.Features.{Passes, Place, past_from}
 use Rattle.cityseq_c.specs.Begins.{AreBehind, IsAlong, begin_of}
@@ -72,7 +72,7 @@ last-few [] = omega arith
 last-few (b ∷ c) = omega arith
 
 few-lines : (s : List ℕ) → NoLf s → length (lines s) ≤ 1
-few-lines s free = rw (closed-none s free) (last-few (begun s))
+few-lines s free = rw (lines-cut s, closed-none s free) (last-few (begun s))
 
 -- a header and a part, cut behind the first line
 pub behind : (header part : List ℕ) → AreCut header part → AreBehind header part

@@ -3,7 +3,7 @@ use Rattle.std.proofs.Common.{◌≡◌, ℕ, zero, suc, ◌+◌, ◌≤◌, Lis
 use Rattle.std.specs.List.{flat_map}
 use Rattle.std.specs.Prelude.{slice_get}
 use Rattle.std.proofs.lemmas.List.{length-append}
-use Rattle.cj_stream.specs.Meaning.Item.{Item, raw_item}
+use Rattle.cj_stream.specs.Items.{Item, raw_item}
 use Rattle.cj_stream.specs.Meaning.Lines.{Line, lines, raw}
 use Rattle.cj_stream.specs.Meaning.Rules.{Rules}
 use Rattle.cj_stream.specs.Verdict.{is_kept, item_after, kept_from, output_first, verdict}

@@ -10,13 +10,14 @@ use Rattle.cj_stream.specs.declared.ending.End.TheVariants.{Complete, Refused, R
 use Rattle.cj_stream.specs.declared.running.Outcome.{Outcome}
 use Rattle.cj_stream.specs.Bound.{IsBelow, IsExact, exact_peaks, first_lines}
 use Rattle.cj_stream.specs.Meaning.Bound.{IsBounded}
-use Rattle.cj_stream.specs.Meaning.Lines.{joined, Line, ended_line, lines, raw}
+use Rattle.cj_stream.specs.Meaning.Lines.{Line, ended_line, lines, raw}
+use Rattle.cj_stream.specs.Lines.{joined, NoLf}
 use Rattle.cj_stream.specs.Cut.{PutsPieces, in_pieces}
 use Rattle.cj_stream.specs.Engine.{Counts, Delivers, Faults}
 use Rattle.cj_stream.specs.Meaning.Headline.{IsUnhindered}
-use Rattle.cj_stream.specs.Meaning.Item.{is_feature}
-use Rattle.cj_stream.specs.Lines.{NoLf}
+use Rattle.cj_stream.specs.Items.{is_feature}
 use Rattle.cj_stream.specs.Parts.{headed}
+use Rattle.cj_stream.proofs.LineLemmas.{first-length}
 use Rattle.cj_stream.specs.ReportSink.{Notes}
 use Rattle.cj_stream.specs.Run.{CountsAll, Ends}
 use Rattle.cj_stream.specs.Meaning.Outputs.{Took}
@@ -132,8 +133,8 @@ module _ (rules : Rules) (h part : List ℕ) (free : NoLf h) (n : ℕ) (few : n 
 bounded-more : (limits : LimitPair) (h part : List ℕ) (peaks : Peaks) → NoLf h → IsBounded limits (headed h []) peaks
     → IsBounded limits (headed h part) peaks
 bounded-more limits h part peaks free x =
-    let same = first-headed h [] free in
-    let more = first-headed h part free in
+    let same = first-length (headed h []) ∙ ap length (first-headed h [] free) in
+    let more = first-length (headed h part) ∙ ap length (first-headed h part free) in
     record {
       bytes = rw more (let y = x.bytes in rw same at y);
       tokens = rw more (let y = x.tokens in rw same at y);

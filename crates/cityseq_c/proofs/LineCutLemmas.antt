@@ -3,7 +3,7 @@ use Rattle.std.proofs.Common.{◌≡◌, ℕ, ◌+◌, List, [], ◌∷◌, leng
 use Rattle.std.proofs.lemmas.Bool.{eqb-true}
 use Rattle.std.proofs.lemmas.List.{take_all, length-append}
 use Rattle.memchr.specs.Find.{IsFirstByte, is_byte}
-use Rattle.cj_stream.specs.Meaning.Lines.{closed}
+use Rattle.cj_stream.specs.Lines.{closed}
 use Rattle.cj_stream.proofs.LineLemmas.{closed-ended, closed-none}
 use Rattle.cj_stream.proofs.PieceSlices.{lf_found, lf_front, NoLf-before, NoLf-nowhere}
 use Rattle.cityseq_c.specs.Request.{AreCut}

@@ -3,7 +3,7 @@ use Rattle.std.specs.Prelude.{slice_set}
 use Rattle.std.proofs.lemmas.Bool.Decides.{nat_tests}
 use Rattle.cityseq_c.specs.declared.features.record_of.FeatureRecord.{FeatureRecord}
 use Rattle.std.proofs.Common.{◌≡◌, ℕ, ◌+◌, ◌<◌, ◌≤◌, List, [], ◌∷◌, true, false, ltb, Some, None, length, arith, subst}
-use Rattle.cj_stream.specs.Meaning.Item.{Item}
+use Rattle.cj_stream.specs.Items.{Item}
 use Rattle.cj_stream.specs.Meaning.Lines.{Line}
 use Rattle.cityseq_c.specs.Features.{AddsAt, AddsRecord, IsRecordOf, KeepsRoom, listed_count, listed_loan, listed_room, ListsFeature, Seeks, Spot, listed_place, seek}
 use Rattle.cityseq_c.specs.declared.features.listed.Listed.{Listed}

@@ -16,8 +16,9 @@ use Rattle.cj_stream.specs.declared.running.Outcome.{Outcome}
 use Rattle.cj_stream.specs.Bound.{exact_peaks, first_lines, held_length, is_legible, is_readable, is_text, tree_nest, tree_size, IsExact, IsBelow}
 use Rattle.cj_stream.specs.Meaning.Bound.{greatest, of_first, IsBounded}
 use Rattle.cj_stream.specs.Engine.{Counts, Delivers, Faults}
-use Rattle.cj_stream.specs.Meaning.Item.{is_feature}
-use Rattle.cj_stream.specs.Meaning.Lines.{Line, ended_line, later_of, lines, raw}
+use Rattle.cj_stream.specs.Items.{is_feature}
+use Rattle.cj_stream.specs.Meaning.Lines.{Line, ended_line, lines, raw}
+use Rattle.cj_stream.specs.Lines.{later_of}
 use Rattle.cj_stream.specs.Run.{CountsAll, Ends}
 use Rattle.cj_stream.specs.Meaning.Outputs.{Took}
 use Rattle.cj_stream.specs.Sink.{SinkLaw}

@@ -5,7 +5,7 @@ use Rattle.std.specs.List.{AllZip}
 use Rattle.std.proofs.lemmas.Bool.{ltb-true, ltb-false}
 use Rattle.std.proofs.lemmas.List.{append-nil, take_more_set, drop-set-lt, length-set}
 use Rattle.cj_spans.specs.Meaning.Tree.{Tree}
-use Rattle.cj_stream.specs.Meaning.Item.{Item}
+use Rattle.cj_stream.specs.Items.{Item}
 use Rattle.cj_stream.specs.Meaning.Lines.{Line}
 use Rattle.cj_stream.specs.Meaning.Outputs.{Took}
 use Rattle.cityseq_c.specs.Features.{AddsAt, HoldsRecords, IsRecordOf, KeepsRoom, ListsBy, ListsItem, Place, Spot, StoresBy, listed_count, listed_loan, listed_place, listed_room, seek}

@@ -5,7 +5,7 @@ use Rattle.std.proofs.lemmas.List.{append-nil, drop-drop, length-append}
 use Rattle.cj_stream.specs.declared.ending.End.TheVariants.{WriteFault}
 use Rattle.cj_stream.specs.Engine.{Faults}
 use Rattle.cj_stream.specs.Meaning.Headline.{IsUnhindered}
-use Rattle.cj_stream.specs.Meaning.Item.{Item, raw_item}
+use Rattle.cj_stream.specs.Items.{Item, raw_item}
 use Rattle.cj_stream.specs.Meaning.Outputs.{Took}
 use Rattle.cj_stream.specs.Meaning.Rules.{Rules}
 use Rattle.cj_stream.specs.Verdict.{kept, kept_first, output, up_to, stream_of}

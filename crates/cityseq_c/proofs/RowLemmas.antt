@@ -17,7 +17,7 @@ use Rattle.cj_geometry.specs.Meaning.ObjectTypes.{object_types}
 use Rattle.cj_feature.specs.Examples.{plain_header}
 use Rattle.cj_feature.proofs.Worked.{plain_feature}
 use Rattle.cj_stream.specs.GoingRows.{going}
-use Rattle.cj_stream.specs.Meaning.Item.{is_feature}
+use Rattle.cj_stream.specs.Items.{is_feature}
 use Rattle.cj_stream.specs.Item.{tree_of}
 use Rattle.cj_stream.specs.Meaning.Lines.{Line, ended_line, raw}
 use Rattle.cj_stream.specs.Rows.{small_feature, small_header, wide_rules}

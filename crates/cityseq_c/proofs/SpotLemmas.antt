@@ -7,13 +7,13 @@ use Rattle.std.proofs.lemmas.Bool.Decides.{nat_tests}
 use Rattle.std.proofs.lemmas.Grind.{flat_map-append}
 use Rattle.std.proofs.lemmas.List.{append-nil, take-append-drop}
 use Rattle.std.proofs.lemmas.Slice.Eq.{bytes_eq-Decides}
-use Rattle.cj_stream.specs.Meaning.Item.{Item, is_feature}
+use Rattle.cj_stream.specs.Items.{Item, is_feature}
 use Rattle.cj_stream.specs.Meaning.Lines.{Line, ended_line, lines, raw}
 use Rattle.cj_stream.specs.Lines.{NoLf}
 use Rattle.cj_stream.specs.Meaning.Rules.{Rules}
 use Rattle.cj_stream.specs.Verdict.{good_from, is_kept, item_after, kept, kept_from, refusal_of, verdict}
 use Rattle.cj_stream.proofs.GoodLemmas.{good-take}
-use Rattle.cj_stream.proofs.LineLemmas.{begun-none, closed-none}
+use Rattle.cj_stream.proofs.LineLemmas.{begun-none, closed-none, lines-cut}
 use Rattle.cj_stream.proofs.MovedLemmas.{after-same}
 use Rattle.cj_stream.proofs.PartsLemmas.{lines-headed}
 use Rattle.cityseq_c.specs.Features.{Place, Spot, past, seek, spot_after, spots, spots_from}
@@ -185,5 +185,5 @@ found-spots rules header part (inr cut) =
     alone [] free = refl
     alone (b ∷ h) free =
         let one : lines (b ∷ h) ≡ record { content = b ∷ h; lf = false } ∷ [] =
-        rw (closed-none (b ∷ h) free, begun-none (b ∷ h) free) refl in
+        lines-cut (b ∷ h) ∙ rw (closed-none (b ∷ h) free, begun-none (b ∷ h) free) refl in
         rw one (found-good rules (record { content = b ∷ h; lf = false }) [])

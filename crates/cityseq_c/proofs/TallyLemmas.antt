@@ -9,7 +9,7 @@ use Rattle.cj_decimal.specs.Meaning.Number.{Number as Decimal}
 use Rattle.cj_feature.specs.Meaning.Transform.{transform_values}
 use Rattle.cj_geometry.specs.ObjectTypes.{type_count}
 use Rattle.cj_stream.specs.CountSink.{is_header}
-use Rattle.cj_stream.specs.Meaning.Item.{Item}
+use Rattle.cj_stream.specs.Items.{Item}
 use Rattle.cj_stream.specs.declared.ending.End.TheVariants.{Complete}
 use Rattle.cj_stream.specs.declared.running.Outcome.{Outcome}
 use Rattle.cj_stream.specs.Meaning.Headline.{IsUnhindered}

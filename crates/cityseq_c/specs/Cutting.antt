@@ -1,7 +1,6 @@
 -- Where a part of a stream is cut.
 use Rattle.std.specs.Prelude.{ℕ, ◌+◌, List, [], ◌∷◌, length, nat_lt, take, if◌then◌else◌}
-use Rattle.cj_stream.specs.Meaning.Lines.{closed}
-use Rattle.cj_stream.specs.Lines.{whole}
+use Rattle.cj_stream.specs.Lines.{closed, whole}
 
 -- where the first of some lines ends that LF ended; 0 where there is none
 abbrev pub first_end : List (List ℕ) → ℕ

@@ -9,8 +9,9 @@ use Rattle.cj_spans.specs.Places.{spelling_of}
 use Rattle.cj_spans.specs.Meaning.Tree.{Tree, start_of}
 use Rattle.cj_feature.specs.Meaning.CityObject.{object_geometries}
 use Rattle.cj_stream.specs.Meaning.Criteria.{objects_of}
-use Rattle.cj_stream.specs.Meaning.Item.{Item, is_feature}
-use Rattle.cj_stream.specs.Meaning.Lines.{Line, raw, lines, later_of}
+use Rattle.cj_stream.specs.Items.{Item, is_feature}
+use Rattle.cj_stream.specs.Meaning.Lines.{Line, raw, lines}
+use Rattle.cj_stream.specs.Lines.{later_of}
 use Rattle.cj_stream.specs.Tallied.{IsRange, beside, capped, class_count, how_often, lod_classes, numbers_on}
 use Rattle.cj_stream.specs.Tallied.{type_numbers}
 use Rattle.cj_stream.specs.Meaning.Rules.{Rules}

@@ -10,8 +10,7 @@ use Rattle.cj_stream.specs.BoxText.{box_text}
 use Rattle.cj_stream.specs.Meaning.Criteria.{Criteria, Box}
 use Rattle.cj_stream.specs.Lines.{NoLf}
 use Rattle.cj_stream.specs.Meaning.Lines.{newline}
-use Rattle.cj_stream.specs.Meaning.Options.{OptionSet}
-use Rattle.cj_stream.specs.Meaning.Rules.{Rules}
+use Rattle.cj_stream.specs.Meaning.Rules.{OptionSet, Rules}
 use Rattle.cj_stream.specs.declared.query.fault.QueryFault.{QueryFault}
 use Rattle.cj_stream.specs.declared.query.fault.QueryFault.TheVariants.{Memory, UnknownTypeName, BadBox as BadBoxText}
 use Rattle.cj_stream.specs.declared.query.fault.QueryFault.TheVariants.{BoxRange as BoxTextRange}
@@ -109,7 +108,7 @@ fault_of r = or_fault (ids_asked r) (or_fault (types_asked r) (or_fault (lods_as
 -- ---- all that is asked
 
 abbrev pub options_of : Request → OptionSet
-options_of r = record { keep_going = r.keep_going; tree = r.tree; exclude = r.exclude }
+options_of r = record { keep_going = r.keep_going; all_reached = r.tree; exclude = r.exclude }
 
 -- a header and a part are cut behind the first line: the header is a line that LF ends; or the first line that LF does
 -- not end, and there is no more

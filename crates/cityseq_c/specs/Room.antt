@@ -1,6 +1,6 @@
 -- What contracts see of bytes that are lent for an output.
 use Rattle.std.specs.Prelude.{◌≡◌, ℕ, ◌+◌, ◌<◌, List, ◌++◌, drop, length, take}
-use Rattle.cj_stream.specs.Meaning.Item.{raw_item}
+use Rattle.cj_stream.specs.Items.{raw_item}
 use Rattle.cj_stream.specs.Sink.{SinkLaw, HasRisen}
 use Rattle.cityseq_c.specs.declared.room.Room.{Room}
 

@@ -9,9 +9,11 @@ use Rattle.cj_stream.specs.declared.output.WriteFault.{WriteFault as Unwritten}
 use Rattle.cj_stream.specs.declared.report_sink.Report.{Report}
 use Rattle.cj_stream.specs.declared.running.Outcome.{Outcome}
 use Rattle.cj_stream.specs.Engine.{Counts}
-use Rattle.cj_stream.specs.Meaning.Headline.{Headline, fate_of}
-use Rattle.cj_stream.specs.Meaning.Outputs.{outputs, Channel, Took}
-use Rattle.cj_stream.specs.Meaning.Item.{is_feature}
+use Rattle.cj_stream.specs.Meaning.Headline.{Headline}
+use Rattle.cj_stream.specs.Run.{fate_of}
+use Rattle.cj_stream.specs.Meaning.Outputs.{Took}
+use Rattle.cj_stream.specs.Output.{outputs, Channel}
+use Rattle.cj_stream.specs.Items.{is_feature}
 use Rattle.cj_stream.specs.ReportSink.{Collects}
 use Rattle.cj_stream.specs.Run.{Run, HeadlineOfRun, LacksRoom, Account, Gave, IsReadWithin, RunsNoting, StopsInTime, Writes, WritesLines}
 use Rattle.cj_stream.specs.Sink.{HasRisen, RisesOnErr, AppendsPart}
@@ -20,7 +22,7 @@ use Rattle.cj_stream.specs.Verdict.{good, kept, kept_first, reported, reported_f
 use Rattle.cj_stream.specs.Bound.{exact_peaks}
 use Rattle.cj_stream.specs.TallySink.{Tally, IsTallyOf, no_tally}
 use Rattle.cj_stream.specs.Query.{rules_for}
-use Rattle.cityseq_command.specs.Performed.{end_of_writing, Says, SaysCheck, SaysSummary, Answers, Does, asked, ended_by, rules_of_ask, run_of, went}
+use Rattle.cityseq_command.specs.Performed.{end_of_writing, Says, SaysCheck, SaysSummary, Answers, Does, asked, ended_by, rules_of_ask, run_of, told_by, went}
 use Rattle.cityseq_command.specs.FaultLines.{Wrote}
 use Rattle.cityseq_command.specs.declared.ask.Ask.{Ask}
 use Rattle.cityseq_command.specs.declared.ask.Ask.TheVariants.{Check, Filter, Info}
@@ -144,7 +146,7 @@ pub Does-run : {N : Type 0} (notes : N → Report → N → Type 0) (ask : Ask) 
     → RunsNoting Collects (run_of ask r outcome) [] (reported_first (rules_of_ask ask) outcome.lines r)
     → Answers ask (went r at_end outcome (reported_first (rules_of_ask ask) outcome.lines r)) told.ended a b
     → (told.ended ≡ WriteFault → HasRisen a.failures b.failures)
-    → Does notes (asked ask r at_start at_end) told (outputs a n) (outputs b m)
+    → Does notes (asked ask r at_start at_end) told (told_by a n) (told_by b m)
 Does-run notes ask r at_start at_end outcome told a b n m rest account within noted stops collected answers cause =
     let all = reported_first (rules_of_ask ask) outcome.lines r in
     let took = subst (λ rs. Took notes n rs m) (sym noted.reports.told) noted.reports.noted in

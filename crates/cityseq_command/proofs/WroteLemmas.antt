@@ -3,8 +3,8 @@ use Rattle.std.proofs.Common.{◌≡◌, ℕ, ◌+◌, ◌<◌, ◌≤◌, List,
 use Rattle.std.specs.Prelude.{IsErr}
 use Rattle.std.specs.List.{flat_map}
 use Rattle.std.proofs.lemmas.List.{append-nil, take_all}
-use Rattle.cj_stream.specs.Meaning.Outputs.{Channel, Took}
-use Rattle.cj_stream.specs.Output.{channel}
+use Rattle.cj_stream.specs.Meaning.Outputs.{Took}
+use Rattle.cj_stream.specs.Output.{Channel, channel}
 use Rattle.cj_stream.specs.Sink.{HasRisen}
 use Rattle.cj_stream.specs.declared.report_sink.Report.{Report}
 use Rattle.cj_stream.specs.declared.output.WriteFault.{WriteFault}

@@ -2,8 +2,8 @@
 use Rattle.std.specs.Prelude.{◌≡◌, ℕ, zero, suc, List, [], ◌∷◌, ◌++◌, Option, Some, Result, Ok, Err, OnOk, OnErr, codes}
 use Rattle.std.specs.Prelude.{decimal}
 use Rattle.std.specs.Io.KnownBytes.{Appends}
-use Rattle.cj_stream.specs.Meaning.Lines.{joined}
-use Rattle.cj_stream.specs.Meaning.Outputs.{Channel}
+use Rattle.cj_stream.specs.Lines.{joined}
+use Rattle.cj_stream.specs.Output.{Channel}
 use Rattle.cj_stream.specs.Sink.{AppendsPart, RisesOnErr}
 use Rattle.cityseq_command.specs.declared.fault_lines.Shown.{Shown}
 use Rattle.cj_budget.specs.declared.limits.LimitFault.{LimitFault}

@@ -1,6 +1,6 @@
 -- The criteria that small texts of options make.
 use Rattle.std.specs.Prelude.{◌≡◌, List, [], ◌∷◌, Bool, true, None, Some, Ok, Err, codes, slice_set}
-use Rattle.cj_stream.specs.Meaning.Criteria.{everything}
+use Rattle.cj_stream.specs.Usual.{everything}
 use Rattle.cj_stream.specs.Adding.{no_types}
 use Rattle.cj_stream.specs.BoxRows.{ones}
 use Rattle.cj_stream.specs.declared.query.fault.QueryFault.TheVariants.{UnknownTypeName, BadBox, EmptyBox}

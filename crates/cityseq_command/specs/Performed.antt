@@ -6,18 +6,17 @@ use Rattle.clap.specs.Words.{kind_of}
 use Rattle.clap.specs.declared.error.kind.ErrorKind.{ErrorKind}
 use Rattle.clap.specs.declared.error.kind.ErrorKind.TheVariants.{OutOfMemory, DisplayHelp, DisplayVersion}
 use Rattle.cj_budget.specs.Meaning.Limits.{LimitPair}
-use Rattle.cj_stream.specs.Meaning.Criteria.{everything}
+use Rattle.cj_stream.specs.Usual.{everything}
 use Rattle.cj_stream.specs.Bound.{exact_peaks}
 use Rattle.cj_stream.specs.Run.{HeadlineOfRun, Run, Account, IsReadWithin, RunsNoting, StopsInTime, Writes}
 use Rattle.cj_stream.specs.Run.{WritesLines}
-use Rattle.cj_stream.specs.Meaning.Outputs.{Outputs, outputs, Channel}
-use Rattle.cj_stream.specs.Meaning.Item.{is_feature}
-use Rattle.cj_stream.specs.Meaning.Options.{OptionSet}
+use Rattle.cj_stream.specs.Output.{outputs, Channel}
+use Rattle.cj_stream.specs.Items.{is_feature}
+use Rattle.cj_stream.specs.Meaning.Rules.{OptionSet, Rules}
 use Rattle.cj_stream.specs.Query.{rules_for}
 use Rattle.cj_stream.specs.ReportSink.{Collects}
 use Rattle.cj_stream.specs.Sink.{HasRisen}
 use Rattle.cj_stream.specs.TallySink.{Tally, IsTallyOf}
-use Rattle.cj_stream.specs.Meaning.Rules.{Rules}
 use Rattle.cj_stream.specs.Verdict.{Stream, good, kept, reported, stream_of, up_to}
 use Rattle.cj_stream.specs.declared.ending.End.{End}
 use Rattle.cj_stream.specs.declared.ending.End.TheVariants.{Complete, Refused, ReadFault, ReadLimit, WriteFault, Memory}
@@ -134,11 +133,19 @@ ended_by outcome end = record {
   ended = end;
 }
 
+-- what is known of standard output, and a sink of reports
+pub record Told (N : Type 0) : Type 0 where
+  pub channel : Channel
+  pub reports : N
+
+abbrev pub told_by : {N : Type 0} → Channel → N → Told N
+told_by c reports = record { channel = c; reports = reports }
+
 -- What is asked was done with bytes r that were read, but for what is said at its end: the account of the run over
 -- them, which stopped in time; its reports, which a sink of reports has taken; what standard output has got, and that a
 -- write to it failed where that is told; and how many lines were refused that reading went on after. Told is the run's
 -- outcome, but for its end.
-pub record Does {N : Type 0} (notes : N → Report → N → Type 0) (of : Asked) (told : Outcome) (old new : Outputs N) :
+pub record Does {N : Type 0} (notes : N → Report → N → Type 0) (of : Asked) (told : Outcome) (old new : Told N) :
     Type 0 where
   pub outcome : Outcome
   pub refused : List Report

@@ -2,8 +2,8 @@
 -- its output.
 use Rattle.std.specs.Prelude.{◌≡◌, ℕ, List, [], Option, Result}
 use Rattle.std.specs.List.{flat_map}
-use Rattle.cj_stream.specs.Meaning.Outputs.{Channel, Took}
-use Rattle.cj_stream.specs.Output.{channel}
+use Rattle.cj_stream.specs.Meaning.Outputs.{Took}
+use Rattle.cj_stream.specs.Output.{Channel, channel}
 use Rattle.cj_stream.specs.ReportSink.{Collects}
 use Rattle.cj_stream.specs.Run.{Run, RunsNoting}
 use Rattle.cj_stream.specs.declared.ending.End.TheVariants.{Refused}

@@ -5,7 +5,7 @@ use Rattle.std.specs.List.{flat_map}
 use Rattle.cj_budget.specs.declared.limits.Peaks.{Peaks}
 use Rattle.cj_decimal.specs.Meaning.Number.{Number}
 use Rattle.cj_geometry.specs.Meaning.ObjectTypes.{ObjectRow, object_types}
-use Rattle.cj_stream.specs.Meaning.Lines.{joined}
+use Rattle.cj_stream.specs.Lines.{joined}
 use Rattle.cj_stream.specs.TallySink.{Tally}
 use Rattle.cityseq_command.specs.Text.{text_line, count_line, counted}
 

@@ -1,7 +1,7 @@
 -- Worked texts of `check` and `info`, which compute.
 use Rattle.std.specs.Prelude.{◌≡◌, [], ◌∷◌, ◌++◌, Some, pos, negsuc, codes, replicate}
 use Rattle.cj_decimal.specs.Meaning.Number.{scaled}
-use Rattle.cj_stream.specs.Meaning.Lines.{joined}
+use Rattle.cj_stream.specs.Lines.{joined}
 use Rattle.cj_stream.specs.TallySink.{Tally, no_tally}
 use Rattle.cityseq_command.specs.Summary.{check_text, summary_text}
 

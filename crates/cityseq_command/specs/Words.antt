@@ -7,7 +7,7 @@ use Rattle.cj_budget.specs.Meaning.Limits.{LimitPair}
 use Rattle.cj_budget.specs.Limits.{InLine, InDepth}
 use Rattle.cj_budget.specs.declared.limits.LimitFault.{LimitFault}
 use Rattle.cj_budget.specs.declared.limits.LimitFault.TheVariants.{LineLimit, DepthLimit}
-use Rattle.cj_stream.specs.Meaning.Options.{OptionSet}
+use Rattle.cj_stream.specs.Meaning.Rules.{OptionSet}
 use Rattle.cj_stream.specs.Query.{criteria}
 use Rattle.cj_stream.specs.declared.query.fault.QueryFault.{QueryFault}
 use Rattle.cityseq_command.specs.Commands.{IsCalled, program_app}
@@ -64,18 +64,18 @@ pub record HasFlag (m : ArgMatches) (option : List ℕ) (given : Bool) : Type 0 
 -- the options that `check` was given, and none that it does not take
 pub record HasCheckOptions (m : ArgMatches) (options : OptionSet) : Type 0 where
   pub keep_going : HasFlag m (codes "keep-going") options.keep_going
-  pub tree : HasFlag m (codes "tree") options.tree
+  pub tree : HasFlag m (codes "tree") options.all_reached
   pub exclude : options.exclude ≡ false
 
 -- the options that `filter` was given
 pub record HasFilterOptions (m : ArgMatches) (options : OptionSet) : Type 0 where
   pub keep_going : HasFlag m (codes "keep-going") options.keep_going
-  pub tree : HasFlag m (codes "tree") options.tree
+  pub tree : HasFlag m (codes "tree") options.all_reached
   pub exclude : HasFlag m (codes "exclude") options.exclude
 
 -- the options that `info` was given, and none that it does not take
 pub record HasInfoOptions (m : ArgMatches) (options : OptionSet) : Type 0 where
-  pub tree : HasFlag m (codes "tree") options.tree
+  pub tree : HasFlag m (codes "tree") options.all_reached
   pub keep_going : options.keep_going ≡ false
   pub exclude : options.exclude ≡ false
 

@@ -2,8 +2,8 @@
 ghost use Rattle.std.specs.Prelude.{◌≡◌, ℕ, List};
 ghost use Rattle.std.specs.Io.KnownBytes.{Consumes, IsAtEnd};
 ghost use Rattle.cj_stream.specs.Output.{channel};
+ghost use Rattle.cityseq_command.specs.Performed.{told_by};
 ghost use Rattle.cityseq_command.specs.Performed.{end_of_writing as told_after, Does, Performs, TakesOptions, asked};
-ghost use Rattle.cj_stream.specs.Meaning.Outputs.{outputs};
 
 use crate::fault_lines::{show_after, status_after};
 use crate::report_writer::WriteReports;
@@ -51,7 +51,7 @@ fn check<R: Read, W: Write + Drop, N: ReportSink>(
     ensures { (r : List ℕ) × Consumes (R.remaining reader.old) (R.remaining reader.new) r
         × Does N.notes
         (asked (Ask.Check limits options) r (reader.new ≡ reader.old) (IsAtEnd (R.remaining reader.new))) result
-        (outputs (channel W.contents out.old) reports.old) (outputs (channel W.contents out.new) reports.new) }
+        (told_by (channel W.contents out.old) reports.old) (told_by (channel W.contents out.new) reports.new) }
 {
     let query = Query::all(alloc);
     let outcome = run(
@@ -88,7 +88,7 @@ fn info<R: Read, W: Write + Drop, N: ReportSink>(
     ensures { (r : List ℕ) × Consumes (R.remaining reader.old) (R.remaining reader.new) r
         × Does N.notes
         (asked (Ask.Info limits options) r (reader.new ≡ reader.old) (IsAtEnd (R.remaining reader.new))) result
-        (outputs (channel W.contents out.old) reports.old) (outputs (channel W.contents out.new) reports.new) }
+        (told_by (channel W.contents out.old) reports.old) (told_by (channel W.contents out.new) reports.new) }
 {
     let query = Query::all(alloc);
     let mut tally = TallySink::new();

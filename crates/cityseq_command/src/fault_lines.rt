@@ -2,7 +2,7 @@
 //! status.
 ghost use Rattle.std.specs.Prelude.{◌≡◌, OnOk, OnErr, map, ◌∷◌, [], codes, decimal};
 ghost use Rattle.std.specs.Io.KnownBytes.{Appends};
-ghost use Rattle.cj_stream.specs.Meaning.Lines.{joined};
+ghost use Rattle.cj_stream.specs.Lines.{joined};
 ghost use Rattle.cj_stream.specs.Sink.{AppendsPart, RisesOnErr};
 ghost use Rattle.cj_stream.specs.Output.{channel, output_writer, output_failures};
 ghost use Rattle.cityseq_command.specs.FaultLines.{Wrote, WroteAfter, fault_line, limit_line, query_line, shown_end};

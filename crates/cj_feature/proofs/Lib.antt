@@ -1,3 +1,4 @@
+mod AxisMaps
 pub mod Fixed
 pub mod FixedRule
 pub mod Fitting

@@ -23,7 +23,8 @@ use Rattle.cj_geometry.specs.Meaning.Numbers.{spelling, value_findings, whole_fi
 use Rattle.cj_feature.specs.Meaning.Feature.{known_type, object_type, geometries, texts, second_level, city_object}
 use Rattle.cj_feature.specs.Meaning.Feature.{city_objects, vertex_list}
 use Rattle.cj_feature.specs.inner.Typed.{is_row, is_typed, are_one, are_two, are_three, is_vertex, begins_whole}
-use Rattle.cj_feature.specs.Meaning.CityObject.{number_on, vertex_of}
+use Rattle.cj_feature.specs.Meaning.CityObject.{vertex_of}
+use Rattle.cj_feature.specs.Axes.{number_on}
 use Rattle.cj_feature.proofs.None.{none-both, of_kind-none, by-member, none-each}
 
 -- ---- city objects

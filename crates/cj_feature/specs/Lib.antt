@@ -1,3 +1,4 @@
+pub mod Axes
 pub mod Examples
 pub mod HeaderView
 pub mod Meaning

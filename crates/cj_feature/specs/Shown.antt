@@ -12,7 +12,8 @@ use Rattle.cj_feature.specs.declared.header.reading.HeaderParts.{HeaderParts}
 use Rattle.cj_feature.specs.Meaning.Header.{header}
 use Rattle.cj_feature.specs.Meaning.Feature.{templates_of}
 use Rattle.cj_decimal.specs.Meaning.Affine.{AffineMap}
-use Rattle.cj_feature.specs.Meaning.Transform.{transform_values, maps_of}
+use Rattle.cj_feature.specs.Meaning.Transform.{transform_values}
+use Rattle.cj_feature.specs.Axes.{maps_of}
 
 -- the first two of these numbers are fixed
 abbrev pub are_fixed : List Number → Bool

@@ -11,7 +11,8 @@ use Rattle.cj_feature.specs.declared.feature.city_object.Objects.{Objects}
 use Rattle.cj_feature.specs.declared.feature.coordinates.Coordinates.{Coordinates}
 use Rattle.cj_feature.specs.declared.feature.geometries.Geometries.{Geometries}
 use Rattle.cj_feature.specs.declared.feature.vertices.Vertices.{Vertices}
-use Rattle.cj_feature.specs.Meaning.CityObject.{vertex_of, number_on, object_geometries}
+use Rattle.cj_feature.specs.Meaning.CityObject.{vertex_of, object_geometries}
+use Rattle.cj_feature.specs.Axes.{number_on}
 
 -- ---- city objects
 

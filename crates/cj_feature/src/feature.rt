@@ -1,5 +1,5 @@
 //! Features: the later lines of a stream.
-ghost use Rattle.std.specs.Prelude.{◌≡◌, ◌<◌, ℕ, List, [], false, Some, IfSome, codes, map, option_map};
+ghost use Rattle.std.specs.Prelude.{◌≡◌, ◌<◌, ℕ, List, [], false, None, Some, IfSome, codes, get_or, map, option_map};
 ghost use Rattle.std.specs.Str.{chars};
 ghost use Rattle.cj_spans.specs.Meaning.Parts.{member_of, text_of};
 ghost use Rattle.cj_spans.specs.View.{document, document_line, document_source, tree, tree_in, line_of};
@@ -49,7 +49,8 @@ impl<'a> Feature<'a> {
     ghost use Rattle.cj_geometry.specs.Meaning.Lod.{lod};
     ghost use Rattle.cj_spans.specs.Meaning.Parts.{items_if, members_if};
     ghost use Rattle.cj_feature.specs.Meaning.Relations.{IsIn};
-    ghost use Rattle.cj_feature.specs.Meaning.CityObject.{vertex_of, number_on, object_geometries};
+    ghost use Rattle.cj_feature.specs.Meaning.CityObject.{vertex_of, object_geometries};
+    ghost use Rattle.cj_feature.specs.Axes.{number_on};
     ghost use Rattle.cj_feature.specs.View.{feature_tree, feature_line, feature_header, feature_header_line};
     ghost use Rattle.cj_feature.specs.Walks.{objects_left, objects_line, geometries_left, geometries_line};
     ghost use Rattle.cj_feature.specs.Walks.{vertices_left, coordinates_left};
@@ -155,8 +156,11 @@ impl<'a> Feature<'a> {
     #[tactic(auto, unfolding(crate::specs::View::feature_tree, crate::specs::Walks::vertices_left))]
     pub fn coordinates(&self, axis: usize) -> Coordinates<'a>
         requires { axis < 3 }
-        ensures { coordinates_left result
+        ensures numbers { coordinates_left result
             ≡ map (number_on axis)
+            (map vertex_of (items_if (member_of (chars (codes "vertices")) (feature_tree self.now)))) }
+        ensures there { map Some (coordinates_left result)
+            ≡ map (λ v. get_or v axis None)
             (map vertex_of (items_if (member_of (chars (codes "vertices")) (feature_tree self.now)))) }
     {
         Coordinates::over(self.vertices().items, axis)

@@ -1,5 +1,5 @@
 //! Headers: the first line of a stream.
-ghost use Rattle.std.specs.Prelude.{◌≡◌, [], Some, None, map, codes};
+ghost use Rattle.std.specs.Prelude.{◌≡◌, [], IfSome, Some, None, map, codes};
 ghost use Rattle.std.specs.Option.{ForSome};
 ghost use Rattle.std.specs.Str.{chars};
 ghost use Rattle.cj_spans.specs.View.{document, document_line};
@@ -33,6 +33,7 @@ pub struct Header<'a> {
 
 impl<'a> Header<'a> {
     ghost use Rattle.cj_feature.specs.Meaning.Transform.{transform_values};
+    ghost use Rattle.cj_feature.specs.Axes.{AreThere};
     ghost use Rattle.cj_feature.specs.Shown.{maps_if, parts_box};
     ghost use Rattle.cj_feature.specs.HeaderView.{header_tree, header_line, has_box};
 
@@ -163,7 +164,8 @@ impl<'a> Header<'a> {
     /// checked for a box.
     #[tactic(auto, unfolding(crate::specs::HeaderView::header_tree, crate::specs::HeaderView::has_box))]
     pub fn affine(&self) -> Option<[Affine; 2]>
-        ensures { result ≡ maps_if (has_box self.now) (header_tree self.now) }
+        ensures maps { result ≡ maps_if (has_box self.now) (header_tree self.now) }
+        ensures there { IfSome result (λ maps. AreThere (header_tree self.now) maps) }
     {
         match self.kept {
             Some(parts) => parts.maps,

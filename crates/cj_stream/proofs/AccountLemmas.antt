@@ -12,13 +12,13 @@ use Rattle.cj_spans.specs.declared.reason.Reason.{Reason}
 use Rattle.cj_stream.specs.declared.ending.End.{End}
 use Rattle.cj_stream.specs.declared.ending.End.TheVariants.{Complete, Refused, ReadFault, ReadLimit, WriteFault, Memory}
 use Rattle.cj_stream.specs.declared.running.Outcome.{Outcome}
-use Rattle.cj_stream.specs.Meaning.Bound.{IsBounded, bytes_bound, tokens_bound}
+use Rattle.cj_stream.specs.Meaning.Bound.{IsBounded, bytes_bound, tokens_bound, of_first as first_measure}
 use Rattle.cj_stream.specs.Bound.{IsExact, exact_peaks, contents, is_readable, is_legible}
 use Rattle.cj_stream.specs.Cut.{IsUnread}
 use Rattle.cj_stream.specs.Engine.{Counts}
-use Rattle.cj_stream.specs.Meaning.Item.{is_feature}
-use Rattle.cj_stream.specs.Meaning.Lines.{Line, closed, begun, ended_line, lines, later_of, first_content}
-use Rattle.cj_stream.specs.Lines.{NoLf, whole}
+use Rattle.cj_stream.specs.Items.{is_feature}
+use Rattle.cj_stream.specs.Meaning.Lines.{Line, ended_line, lines}
+use Rattle.cj_stream.specs.Lines.{closed, begun, later_of, first_content, NoLf, whole}
 use Rattle.cj_stream.specs.Parts.{headed, IsCut, moved_end, moved_report, greater_peaks, both_outcomes}
 use Rattle.cj_stream.specs.Run.{Run, Ends, Account}
 use Rattle.cj_stream.specs.Meaning.Rules.{Rules}
@@ -27,7 +27,7 @@ use Rattle.cj_stream.specs.Verdict.{verdict, refusal_in, judged, long_line, good
 use Rattle.cj_stream.proofs.FirstLemmas.{first-good}
 use Rattle.cj_stream.proofs.GoodLemmas.{some_of}
 use Rattle.cj_stream.proofs.IsLinesLemmas.{lines-whole}
-use Rattle.cj_stream.proofs.LineLemmas.{closed-ended, begun-ended, closed-then, begun-then}
+use Rattle.cj_stream.proofs.LineLemmas.{closed-ended, begun-ended, closed-then, begun-then, first-length, lines-cut}
 use Rattle.cj_stream.proofs.PartsLemmas.{none-begun, contents-headed, contents-parts, first-headed, exact-parts, all-lines, front-lines, back-lines, front-none, header-valid, front-good, back-good, lines-counted, ending-parts, kept-first, reported-first, refusal-first, kept-joined, reported-joined, refusal-joined, refused-stays}
 use Rattle.cj_stream.proofs.ReadingLemmas.{map_lines-append}
 use Rattle.cj_stream.proofs.RunLemmas.{refusal-stays}
@@ -42,7 +42,7 @@ begun-parts : (a b : List ℕ) → whole a ≡ a → begun (a ++ b) ≡ begun b
 begun-parts a b w = begun-then a b ∙ ap (λ z. begun (z ++ b)) (none-begun a w)
 
 lines-ended : (a : List ℕ) → whole a ≡ a → lines a ≡ map ended_line (closed a)
-lines-ended a w = let none = none-begun a w in rw (none, append-nil (map ended_line (closed a))) refl
+lines-ended a w = let none = none-begun a w in lines-cut a ∙ rw (none, append-nil (map ended_line (closed a))) refl
 
 judged-headed : (limits : LimitPair) (h s : List ℕ) → NoLf h
     → judged limits (headed h s) ≡ ended_line h ∷ judged limits s
@@ -251,14 +251,18 @@ module _ (rules : Rules) (h a : List ℕ) (cut : IsCut h a) (done : ending rules
 
 module _ (limits : LimitPair) (h a b : List ℕ) (cut : IsCut h a) where
   -- the bound hangs on the header alone
-  same-first : (s t : List ℕ) → first_content (headed h s) ≡ first_content (headed h t)
-  same-first s t = first-headed h s cut.header ∙ sym (first-headed h t cut.header)
+  same-first : (s t : List ℕ) → first_measure (λ (l : Line). length l.content) (lines (headed h s))
+      ≡ first_measure (λ (l : Line). length l.content) (lines (headed h t))
+  same-first s t =
+      first-length (headed h s)
+      ∙ (ap length (first-headed h s cut.header ∙ sym (first-headed h t cut.header))
+      ∙ sym (first-length (headed h t)))
 
   same-bytes : (s t : List ℕ) → bytes_bound limits (headed h s) ≡ bytes_bound limits (headed h t)
-  same-bytes s t = ap (λ c. min (length c) limits.line + limits.line) (same-first s t)
+  same-bytes s t = ap (λ n. min n limits.line + limits.line) (same-first s t)
 
   same-tokens : (s t : List ℕ) → tokens_bound limits (headed h s) ≡ tokens_bound limits (headed h t)
-  same-tokens s t = ap (λ c. (min (length c) limits.line + limits.line + limits.depth) / 2 + 1) (same-first s t)
+  same-tokens s t = ap (λ n. (min n limits.line + limits.line + limits.depth) / 2 + 1) (same-first s t)
 
   Bounded-stays : (p : Peaks) → IsBounded limits (headed h a) p → IsBounded limits (headed h (a ++ b)) p
   Bounded-stays p first = record {

@@ -1,6 +1,6 @@
 -- The list of judged lines says what the lines one after another say.
 use Rattle.std.proofs.Common.{◌≡◌, ℕ, ◌+◌, ◌<◌, ◌≤◌, List, [], ◌∷◌, ◌++◌, Bool, true, false, cond, eqb, ltb, length, map, Option, Some, None, refl, sym, ap, subst, ◌∙◌, arith, length-append}
-use Rattle.std.specs.Prelude.{not, ◌&&◌, ◌||◌, option_map, unwrap_or}
+use Rattle.std.specs.Prelude.{not, ◌&&◌, ◌||◌, option_and_then, option_map, unwrap_or}
 use Rattle.std.specs.List.{cons_option, filter_map, find, flat_map}
 use Rattle.std.proofs.lemmas.Bool.Decides.{nat_tests}
 use Rattle.std.proofs.lemmas.List.Sums.{take_while-cons}
@@ -13,8 +13,9 @@ use Rattle.cj_stream.specs.declared.ending.End.{End}
 use Rattle.cj_stream.specs.declared.ending.End.TheVariants.{Complete}
 use Rattle.cj_stream.specs.Item.{tree_of, judged_tree}
 use Rattle.cj_stream.specs.Judged.{judged_at, judged_later, judged_behind, judged_list, judged_lines}
-use Rattle.cj_stream.specs.Meaning.Item.{raw_item}
-use Rattle.cj_stream.specs.Meaning.Judged.{JudgedLine, ends, handled, item_by, item_of, report_by, report_of, kept_in, output_in, reported_in, end_of_report, end_at, ending_in}
+use Rattle.cj_stream.specs.Items.{Item, raw_item}
+use Rattle.cj_stream.specs.Meaning.Judged.{JudgedLine, ends, handled, report_by, report_of, output_in, reported_in, end_of_report, ending_in, written_by}
+use Rattle.cj_stream.specs.Judged.{item_by, item_of, kept_in}
 use Rattle.cj_stream.specs.Meaning.Lines.{Line, lines}
 use Rattle.cj_stream.specs.Meaning.Rules.{Rules}
 use Rattle.cj_stream.specs.Meaning.Verdict.{Verdict, Invalid, Blank, LeftOut, Kept, IsVerdict}
@@ -47,6 +48,7 @@ module _ (rules : Rules) where
   pub record Agrees (before ls : List Line) (js : List JudgedLine) : Type 0 where
     pub good : good_from rules before ls ≡ map (λ j. j.line) (handled rules js)
     pub kept : kept_from rules before (good_from rules before ls) ≡ kept_in rules js
+    pub written : flat_map raw_item (kept_in rules js) ≡ output_in rules js
     pub reported : reported_from rules before (good_from rules before ls) ≡ reported_in rules js
     pub refusal : refusal_from rules before ls
         ≡ option_map (λ (j : JudgedLine). end_of_report (report_of j)) (find (ends rules) js)
@@ -70,6 +72,13 @@ module _ (rules : Rules) where
         → kept_from rules before (l ∷ gs) ≡ cons_option (item_of j) (kept_from rules (before ++ l ∷ []) gs)
     kept-cons Kept e gs = let item = is.item (is.verdict ∙ e) in rw (e, item) refl
     kept-cons other e gs = let none = nothing other (is.verdict ∙ e) refl in rw (e, none) refl
+
+    -- what is written of it
+    written-cons : (v : Verdict) → j.verdict ≡ v → (others : List Item)
+        → flat_map raw_item (cons_option (item_of j) others)
+        ≡ written_by j.line j.verdict ++ flat_map raw_item others
+    written-cons Kept at others = let item = is.item at in rw (item, at, is.line) refl
+    written-cons other at others = let none = nothing other at refl in rw (none, at) refl
 
     reported-cons : (v : Verdict) → verdict rules before l.content ≡ v → (gs : List Line)
         → reported_from rules before (l ∷ gs) ≡ cons_option (report_of j) (reported_from rules (before ++ l ∷ []) gs)
@@ -96,6 +105,10 @@ module _ (rules : Rules) where
           kept = ap (λ z. kept_from rules before z) good
               ∙ (kept-cons (verdict rules before l.content) refl gs
               ∙ (ap (λ z. cons_option (item_of j) z) a.kept ∙ sym (ap (λ z. filter_map item_of z) h)));
+          written = ap (λ z. flat_map raw_item (filter_map item_of z)) h
+              ∙ (written-cons j.verdict refl (kept_in rules js)
+              ∙ (ap (λ z. written_by j.line j.verdict ++ z) a.written
+              ∙ sym (ap (λ z. flat_map (λ (q : JudgedLine). written_by q.line q.verdict) z) h)));
           reported = ap (λ z. reported_from rules before z) good
               ∙ (reported-cons (verdict rules before l.content) refl gs
               ∙ (ap (λ z. cons_option (report_of j) z) a.reported ∙ sym (ap (λ z. filter_map report_of z) h)));
@@ -120,6 +133,8 @@ module _ (rules : Rules) where
         record {
           good = rw (e, on) (sym (ap (λ z. map (λ (q : JudgedLine). q.line) z) h));
           kept = rw (e, on) (sym (ap (λ z. filter_map item_of z) h));
+          written = ap (λ z. flat_map raw_item (filter_map item_of z)) h
+              ∙ sym (ap (λ z. flat_map (λ (q : JudgedLine). written_by q.line q.verdict) z) h);
           reported = rw (e, on) (sym (ap (λ z. filter_map report_of z) h));
           refusal = rw (e, on)
               (sym (ap (λ z. end_if (cond z (Some j) (find (ends rules) js))) here
@@ -160,7 +175,7 @@ module _ (rules : Rules) where
   -- behind a header
   pub later-agrees : (first : Line) (xs : List Line) (n : ℕ) → n ≡ length (first ∷ xs) + 1 → (ls : List Line)
       → Agrees (first ∷ xs) ls (judged_later rules (tree_of rules.limits.depth first.content) n ls)
-  later-agrees first xs n e [] = record { good = refl; kept = refl; reported = refl; refusal = refl }
+  later-agrees first xs n e [] = record { good = refl; kept = refl; written = refl; reported = refl; refusal = refl }
   later-agrees first xs n e (l ∷ ls) =
       let h = tree_of rules.limits.depth first.content in
       let later : 1 < n = omega (arith, e) in
@@ -182,7 +197,7 @@ module _ (rules : Rules) where
 
   -- of all lines
   pub list-agrees : (ls : List Line) → Agrees [] ls (judged_list rules ls)
-  list-agrees [] = record { good = refl; kept = refl; reported = refl; refusal = refl }
+  list-agrees [] = record { good = refl; kept = refl; written = refl; reported = refl; refusal = refl }
   list-agrees (l ∷ ls) = go (judged_at rules 1 None l).verdict refl
     where
       is : IsVerdict rules None l.content (judged_at rules 1 None l).tree (judged_at rules 1 None l).verdict
@@ -233,7 +248,7 @@ module _ (rules : Rules) where
     kept-in = (list-agrees (lines s)).kept
 
     pub output-in : output rules s ≡ output_in rules (judged_lines rules s)
-    output-in = ap (λ is. flat_map raw_item is) kept-in
+    output-in = ap (λ is. flat_map raw_item is) kept-in ∙ (list-agrees (lines s)).written
 
     pub reported-in : reported rules s ≡ reported_in rules (judged_lines rules s)
     reported-in = (list-agrees (lines s)).reported
@@ -241,7 +256,7 @@ module _ (rules : Rules) where
     pub ending-in : ending rules s ≡ ending_in rules (judged_lines rules s)
     ending-in = go (lines s) (list-agrees (lines s)).refusal
       where
-        by : (o : Option JudgedLine) → unwrap_or (end_if o) Complete ≡ end_at o
+        by : (o : Option JudgedLine) → unwrap_or (end_if o) Complete ≡ end_of_report (option_and_then report_of o)
         by None = refl
         by (Some j) = refl
 

@@ -9,7 +9,7 @@ use Rattle.cj_spans.specs.Meaning.Tree.{Tree, size, nest}
 use Rattle.cj_spans.proofs.Judgements.{judgement, say_same}
 use Rattle.cj_stream.specs.Bound.{tree_size, tree_nest, contents, exact_peaks}
 use Rattle.cj_stream.specs.BoundRows.{usual, held, EmptyRow, HeaderRow, CutRow, EdgeRow, ExactRow}
-use Rattle.cj_stream.specs.Meaning.Lines.{first_content}
+use Rattle.cj_stream.specs.Lines.{first_content}
 use Rattle.cj_stream.specs.Rows.{small_header, small_feature}
 use Rattle.cj_feature.specs.Examples.{plain_header}
 use Rattle.cj_feature.proofs.Worked.{plain_feature}

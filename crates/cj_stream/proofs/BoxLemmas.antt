@@ -3,22 +3,25 @@ use Rattle.std.proofs.Common.{◌≡◌, ℕ, zero, suc, ◌+◌, ◌<◌, ◌�
 use Rattle.std.specs.Int.{int_min, int_max, w64, cast_signed, cast_unsigned}
 use Rattle.std.specs.List.{fold, list_any}
 use Rattle.std.specs.Option.{unwrap_or}
+use Rattle.std.specs.Prelude.{codes}
+use Rattle.std.specs.Str.{chars}
 use Rattle.std.specs.Ordering.{int_cmp, is_le, is_ge}
 use Rattle.std.specs.declared.cmp.Ordering.{Ordering}
 use Rattle.std.specs.declared.cmp.Ordering.TheVariants.{Less, Equal, Greater}
 use Rattle.std.proofs.Math.Nat.{mul-le-mul_right}
-use Rattle.std.proofs.lemmas.List.{get_or_default}
 use Rattle.std.proofs.lemmas.Int.{ints, to_z-of_z, fits_signed_from_abs, fold-int_min_bounds, fold-int_max_bounds}
 use Rattle.cj_decimal.specs.Meaning.Affine.{AffineMap, image}
 use Rattle.cj_spans.specs.Meaning.Tree.{Tree}
 use Rattle.cj_spans.specs.Meaning.Parts.{items_of}
 use Rattle.cj_geometry.specs.Meaning.Numbers.{whole_of}
 use Rattle.cj_geometry.proofs.Numbers.{whole-small}
-use Rattle.cj_feature.specs.Meaning.Transform.{maps_of}
-use Rattle.cj_feature.specs.Shown.{maps_if}
-use Rattle.cj_feature.specs.Meaning.CityObject.{vertex_of, number_on}
+use Rattle.cj_feature.specs.Axes.{AreThere, number_on}
+use Rattle.cj_feature.specs.Meaning.Transform.{units_at}
+use Rattle.cj_feature.specs.Meaning.CityObject.{vertex_of}
 use Rattle.cj_stream.specs.declared.query.extent.Range.{Range}
-use Rattle.cj_stream.specs.Meaning.Criteria.{Box, axis_map, vertices_of, some_at_most, some_at_least, is_in}
+use Rattle.cj_stream.specs.Meaning.Criteria.{Box, coordinate, coordinate_by, there_is, vertices_of, some_at_most}
+use Rattle.cj_stream.specs.Meaning.Criteria.{some_at_least, is_in}
+use Rattle.cj_stream.specs.Tallied.{numbers_on}
 use Rattle.cj_stream.specs.Extent.{alone, widened, range_of, meets, IsSmall}
 use borrow.Author.Differences.{up, down, product_is}
 
@@ -255,49 +258,70 @@ first_small axis n ns (t ∷ ts) e =
 
 -- ---- the box, by the numbers on each axis
 
-any-numbers : (test : ℤ → Bool) (axis : ℕ) (vs : List (List (Option ℤ)))
-    → list_any (λ v. test (number_on axis v)) vs ≡ list_any test (map (number_on axis) vs)
-any-numbers test axis [] = refl
-any-numbers test axis (v ∷ vs) = ap (λ b. test (number_on axis v) || b) (any-numbers test axis vs)
+any-there : (test : ℤ → Bool) (m : AffineMap) (ns : List ℤ)
+    → list_any (λ o. there_is test (coordinate_by o (Some m.scale) (Some m.shift))) (map Some ns)
+    ≡ list_any (λ n. test (image m n)) ns
+any-there test m [] = refl
+any-there test m (n ∷ ns) = ap (λ b. test (image m n) || b) (any-there test m ns)
+
+any-map : {A B : Type 0} (test : B → Bool) (f : A → B) (xs : List A)
+    → list_any (λ x. test (f x)) xs ≡ list_any test (map f xs)
+any-map test f [] = refl
+any-map test f (x ∷ xs) = ap (λ b. test (f x) || b) (any-map test f xs)
 
 and_assoc : (a b c d : Bool) → (a && b && c && d) ≡ ((a && b) && (c && d))
 and_assoc true true c d = refl
 and_assoc true false c d = refl
 and_assoc false b c d = refl
 
-pub box-numbers : (box : Box) (header t : Tree)
-    → is_in box header t ≡ (meets (axis_map header 0) box.min_x box.max_x (map (number_on 0) (vertices_of t))
-    && meets (axis_map header 1) box.min_y box.max_y (map (number_on 1) (vertices_of t)))
-box-numbers box header t =
-    let x = axis_map header 0 in
-    let y = axis_map header 1 in
-    let vs = vertices_of t in
-    let west = any-numbers (λ n. int_le (image x n) box.max_x) 0 vs in
-    let east = any-numbers (λ n. int_le box.min_x (image x n)) 0 vs in
-    let south = any-numbers (λ n. int_le (image y n) box.max_y) 1 vs in
-    let north = any-numbers (λ n. int_le box.min_y (image y n)) 1 vs in
+-- the numbers of an axis are there: those of its map, and those of all vertices
+pub record OnAxis (header t : Tree) (axis : ℕ) (m : AffineMap) : Type 0 where
+  pub scale : units_at (chars (codes "scale")) header axis ≡ Some m.scale
+  pub shift : units_at (chars (codes "translate")) header axis ≡ Some m.shift
+  pub numbers : map Some (numbers_on axis t) ≡ map (λ v. get_or v axis None) (vertices_of t)
+
+pub on-axis : (header t : Tree) (maps : List AffineMap) (axis : ℕ) (d : AffineMap) → AreThere header maps
+    → axis < length maps → map Some (numbers_on axis t) ≡ map (λ v. get_or v axis None) (vertices_of t)
+    → OnAxis header t axis (get_or maps axis d)
+on-axis header t maps axis d there within numbers = record {
+  scale = there.scale axis d within;
+  shift = there.shift axis d within;
+  numbers = numbers;
+}
+
+module _ (header t : Tree) (axis : ℕ) (m : AffineMap) (on : OnAxis header t axis m) where
+  any-on : (test : ℤ → Bool) → list_any (λ v. there_is test (coordinate header axis v)) (vertices_of t)
+      ≡ list_any (λ n. test (image m n)) (numbers_on axis t)
+  any-on test =
+      rw (on.scale, on.shift)
+      (any-map (λ o. there_is test (coordinate_by o (Some m.scale) (Some m.shift))) (λ v. get_or v axis None)
+      (vertices_of t)
+      ∙ (ap (list_any (λ o. there_is test (coordinate_by o (Some m.scale) (Some m.shift)))) (sym on.numbers)
+      ∙ any-there test m (numbers_on axis t)))
+
+  axis-meets : (low high : ℤ) → (some_at_most header t axis high && some_at_least header t axis low)
+      ≡ meets m low high (numbers_on axis t)
+  axis-meets low high =
+      ap (λ b. b && some_at_least header t axis low) (any-on (λ n. int_le n high))
+      ∙ ap (λ b. list_any (λ n. int_le (image m n) high) (numbers_on axis t) && b) (any-on (λ n. int_le low n))
+
+-- a box is met if it is met on the first axis, and on the other
+pub box-first : (box : Box) (header t : Tree) (x : AffineMap) → OnAxis header t 0 x
+    → is_in box header t ≡ (meets x box.min_x box.max_x (numbers_on 0 t)
+    && (some_at_most header t 1 box.max_y && some_at_least header t 1 box.min_y))
+box-first box header t x on =
     and_assoc (some_at_most header t 0 box.max_x) (some_at_least header t 0 box.min_x)
-    (some_at_most header t 1 box.max_y) (some_at_least header t 1 box.min_y) ∙ cc
+    (some_at_most header t 1 box.max_y) (some_at_least header t 1 box.min_y)
+    ∙ ap (λ b. b && (some_at_most header t 1 box.max_y && some_at_least header t 1 box.min_y))
+    (axis-meets header t 0 x on box.min_x box.max_x)
 
--- the maps that a header shows with a box are those of its tree
-pub maps_shown : (with_box : Bool) (header : Tree) (shown : Option (List AffineMap)) (maps : List AffineMap)
-    → with_box ≡ true → shown ≡ maps_if with_box header → shown ≡ Some maps → maps ≡ maps_of header
-maps_shown true header shown maps is e f = same maps (maps_of header) (sym f ∙ e)
-  where
-    same : (a b : List AffineMap) → Some a ≡ Some b → a ≡ b
-    same a b h = cc
-maps_shown false header shown maps is e f = absurd (cc is)
-
--- what is told by the map at an index is told by that of the axis
-pub axis_told : (header : Tree) (axis : ℕ) (maps : List AffineMap) (d : AffineMap) (low high : ℤ) (ns : List ℤ)
-    (told : Bool)
-    → maps ≡ maps_of header → axis < length maps → told ≡ meets (get_or maps axis d) low high ns
-    → told ≡ meets (axis_map header axis) low high ns
-axis_told header axis maps d low high ns told are within tells =
-    let map_is : get_or maps axis d ≡ axis_map header axis =
-    get_or_default maps axis d (record { scale = pos 0; shift = pos 0 }) within
-    ∙ ap (λ ms. get_or ms axis (record { scale = pos 0; shift = pos 0 })) are in
-    tells ∙ ap (λ m. meets m low high ns) map_is
+pub box-numbers : (box : Box) (header t : Tree) (x y : AffineMap) → OnAxis header t 0 x → OnAxis header t 1 y
+    → is_in box header t ≡ (meets x box.min_x box.max_x (numbers_on 0 t)
+    && meets y box.min_y box.max_y (numbers_on 1 t))
+box-numbers box header t x y on_x on_y =
+    box-first box header t x on_x
+    ∙ ap (λ b. meets x box.min_x box.max_x (numbers_on 0 t) && b)
+    (axis-meets header t 1 y on_y box.min_y box.max_y)
 
 -- two tests, of which the first is known
 pub and_second : (a b c d : Bool) → a ≡ b → a ≡ true → c ≡ d → c ≡ (b && d)

@@ -2,7 +2,7 @@
 use Rattle.std.proofs.Common.{◌≡◌, ℕ, List, ◌++◌, sym, ap, ◌∙◌, append_assoc}
 use Rattle.cj_stream.specs.declared.ending.End.{End}
 use Rattle.cj_stream.specs.Carrying.{FramerState, TakesAll, TakesSome}
-use Rattle.cj_stream.specs.Meaning.Lines.{closed}
+use Rattle.cj_stream.specs.Lines.{closed}
 use Rattle.cj_stream.specs.Reading.{Reads}
 use Rattle.cj_stream.specs.Scanning.{Scanning, Scanned, HeldUntil}
 use Rattle.cj_stream.specs.Sink.{SinkLaw, with_sink}

@@ -5,9 +5,8 @@ use Rattle.cj_stream.specs.declared.ending.End.TheVariants.{Complete, Refused, R
 use Rattle.cj_stream.specs.declared.report_sink.CountReports.{CountReports}
 use Rattle.cj_stream.specs.declared.report_sink.Report.{Report}
 use Rattle.cj_stream.specs.CountReports.{count_of, no_reports, CountsFirst, CountsReportsOfRun, CountsReportsOfPieces}
-use Rattle.cj_stream.specs.Meaning.Lines.{joined}
+use Rattle.cj_stream.specs.Lines.{joined, whole}
 use Rattle.cj_stream.specs.Cut.{in_pieces}
-use Rattle.cj_stream.specs.Lines.{whole}
 use Rattle.cj_stream.specs.ReportSink.{CountsReport, Notes, NotesRun, NotesPieces}
 use Rattle.cj_stream.specs.Meaning.Outputs.{Took}
 use Rattle.cj_stream.specs.Sink.{TookFront, prefixes}

@@ -6,9 +6,9 @@ use Rattle.std.proofs.lemmas.Bool.{ltb-true}
 use Rattle.cj_spans.specs.declared.reason.Reason.TheVariants.{LineTooLong}
 use Rattle.cj_stream.specs.declared.ending.End.{End}
 use Rattle.cj_stream.specs.declared.ending.End.TheVariants.{Complete, Refused, ReadFault, ReadLimit, WriteFault, Memory}
-use Rattle.cj_stream.specs.Meaning.Item.{Item}
-use Rattle.cj_stream.specs.Meaning.Lines.{Line, closed, begun, first_of, ended_line, last_line, lines, joined}
-use Rattle.cj_stream.specs.Lines.{NoLf, whole}
+use Rattle.cj_stream.specs.Items.{Item}
+use Rattle.cj_stream.specs.Meaning.Lines.{Line, ended_line, lines}
+use Rattle.cj_stream.specs.Lines.{closed, begun, first_of, last_line, joined, NoLf, whole}
 use Rattle.cj_stream.specs.Meaning.Rules.{Rules}
 use Rattle.cj_stream.specs.Verdict.{verdict, header_of, item_after, goes_on, refusal_of, refusal_in, refusal_from, good_from, kept_from, kept_first, kept, reported_from, reported, good, ending, judged, long_line, stretch, up_to}
 use Rattle.cj_stream.specs.Cut.{PutsPieces, EndsAt, Copies, TookWhole, IsUnread, in_pieces, given_after}
@@ -19,7 +19,7 @@ use Rattle.cj_stream.specs.Meaning.Outputs.{Took}
 use Rattle.cj_stream.specs.Sink.{LeavesNext, SinkLaw}
 use Rattle.cj_stream.specs.Output.{writes_law}
 use Rattle.cj_stream.proofs.JoinedLemmas.{joined-cut, joined-next}
-use Rattle.cj_stream.proofs.LineLemmas.{closed-then, begun-then, NoLf-begun, first_content-long}
+use Rattle.cj_stream.proofs.LineLemmas.{closed-then, begun-then, lines-cut, NoLf-begun, first_content-long}
 use Rattle.cj_stream.proofs.VerdictLemmas.{refusal-append, verdict-long}
 use Rattle.cj_stream.proofs.IsLinesLemmas.{lines-whole}
 use Rattle.cj_stream.proofs.ReadingLemmas.{map_lines-append, length-map_lines}
@@ -32,14 +32,20 @@ use Rattle.cj_stream.proofs.Apart.{none-some}
 -- a text that goes on: the lines that LF ended, and those of what had begun
 pub lines-more : (q more : List ℕ) → lines (q ++ more) ≡ map ended_line (closed q) ++ lines (begun q ++ more)
 lines-more q more =
+    let now : map ended_line (closed (q ++ more)) ++ last_line (begun (q ++ more))
+    ≡ map ended_line (closed q) ++ (map ended_line (closed (begun q ++ more)) ++ last_line (begun (begun q ++ more))) =
     rw (closed-then q more, begun-then q more, map_lines-append (closed q) (closed (begun q ++ more)))
     (append_assoc (map ended_line (closed q)) (map ended_line (closed (begun q ++ more)))
-    (last_line (begun (begun q ++ more))))
+    (last_line (begun (begun q ++ more)))) in
+    lines-cut (q ++ more)
+    ∙ (now ∙ ap (λ z. map ended_line (closed q) ++ z) (sym (lines-cut (begun q ++ more))))
 
 -- the first line of some begun bytes is as long as they are
 first-line : (c t : List ℕ) → NoLf c → 0 < length c → (l : Line) × (rest : List Line) × (lines (c ++ t) ≡ l ∷ rest)
     × (length c ≤ length l.content)
-first-line c t free some = go (closed (c ++ t)) (begun (c ++ t)) (first_content-long c t free)
+first-line c t free some =
+    let first = go (closed (c ++ t)) (begun (c ++ t)) (first_content-long c t free) in
+    (first.0, first.1, lines-cut (c ++ t) ∙ first.2, first.3)
   where
     go : (cs : List (List ℕ)) (u : List ℕ) → length c ≤ length (first_of cs u) → (l : Line) × (rest : List Line)
         × (map ended_line cs ++ last_line u ≡ l ∷ rest) × (length c ≤ length l.content)

@@ -4,7 +4,8 @@ use Rattle.std.specs.Prelude.{if◌then◌else◌}
 use Rattle.cj_spans.specs.declared.reason.Reason.{Reason}
 use Rattle.cj_stream.specs.declared.ending.End.{End}
 use Rattle.cj_stream.specs.declared.ending.End.TheVariants.{Refused, WriteFault, Memory}
-use Rattle.cj_stream.specs.Meaning.Lines.{Line, closed, ended_line}
+use Rattle.cj_stream.specs.Meaning.Lines.{Line, ended_line}
+use Rattle.cj_stream.specs.Lines.{closed}
 use Rattle.cj_stream.specs.Meaning.Verdict.{Verdict, Invalid, Blank, LeftOut, Kept}
 use Rattle.cj_stream.specs.Verdict.{verdict, item_after, goes_on, refusal_of, is_kept}
 use Rattle.cj_stream.specs.Reading.{Reading, next_verdict, next_item, is_lenient, IsLeft, Passes, Refuses, Deals, Settles, Reads, JudgedAs, judged_next}

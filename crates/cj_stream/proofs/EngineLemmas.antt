@@ -5,8 +5,9 @@ use Rattle.std.proofs.lemmas.List.{append-nil}
 use Rattle.cj_budget.specs.Meaning.Limits.{LimitPair}
 use Rattle.cj_stream.specs.declared.ending.End.{End}
 use Rattle.cj_stream.specs.declared.ending.End.TheVariants.{Complete, Refused, ReadFault, ReadLimit, WriteFault, Memory}
-use Rattle.cj_stream.specs.Meaning.Lines.{Line, closed, begun, ended_line, last_line, lines, first_content}
-use Rattle.cj_stream.specs.Meaning.Item.{Item}
+use Rattle.cj_stream.specs.Meaning.Lines.{Line, ended_line, lines}
+use Rattle.cj_stream.specs.Lines.{closed, begun, last_line, first_content}
+use Rattle.cj_stream.specs.Items.{Item}
 use Rattle.cj_stream.specs.Meaning.Rules.{Rules}
 use Rattle.cj_stream.specs.Meaning.Verdict.{Invalid}
 use Rattle.cj_stream.specs.Verdict.{verdict, header_of, goes_on, refusal_from, refusal_in, kept_from, judged, kept_first, stretch, up_to}
@@ -19,7 +20,7 @@ use Rattle.cj_stream.specs.Reading.{Reading, is_lenient, IsSound, Reads, kept_cl
 use Rattle.cj_stream.specs.Engine.{EngineState, StandsFor, Counts, Going, Faults, Delivers, Tells, limits_of, held_by, peaks_of}
 use Rattle.cj_stream.specs.Sink.{SinkLaw, with_sink}
 use Rattle.cj_stream.proofs.FirstLemmas.{take-front, lines-front, first-front, first-closed_lines}
-use Rattle.cj_stream.proofs.LineLemmas.{closed-grows, first_content-grows, none-from_length}
+use Rattle.cj_stream.proofs.LineLemmas.{closed-grows, first_content-grows, first-length, lines-cut, none-from_length}
 use Rattle.cj_stream.proofs.IsLinesLemmas.{lines-whole}
 use Rattle.cj_stream.proofs.VerdictLemmas.{refusal-append, verdict-long}
 use Rattle.cj_stream.proofs.ScanningLemmas.{few-scanned, first-closed}
@@ -41,7 +42,7 @@ pub peaks-bounded : (limits : LimitPair) (s : List ℕ) (bytes : ℕ) (f : Scann
     → IsBounded limits s (record { bytes = bytes; tokens = f.header.peak + f.line.peak; depth = f.opened.peak })
 peaks-bounded limits s bytes f h room few = record {
   bytes = h;
-  tokens = omega (arith, few);
+  tokens = omega (arith, few, first-length s);
   depth = omega (arith, room.opened_within.below_limit, room.opened);
 }
 
@@ -57,6 +58,7 @@ peak-le f p more s h =
       h.peak,
       ap length h.header,
       first_content-grows p more,
+      first-length (p ++ more),
       h.header_within.below_limit,
       h.line_within.below_limit,
       s.header,
@@ -78,6 +80,7 @@ few-front n p more e =
       e,
       closed-grows p more,
       length-map_lines (closed (p ++ more)),
+      ap length (lines-cut (p ++ more)),
       length-append cs (last_line (begun (p ++ more))),
     )
 
@@ -92,10 +95,11 @@ Counts-front f p more h = record {
 
 -- what can be judged is a prefix of the lines
 pub judged-front : (limits : LimitPair) (q : List ℕ) → (extra : List Line) × (lines q ≡ judged limits q ++ extra)
-judged-front limits q = go (nat_lt limits.line (length (begun q)))
+judged-front limits q = let x = go (nat_lt limits.line (length (begun q))) in (x.0, lines-cut q ∙ x.1)
   where
     go : (b : Bool) → (extra : List Line)
-        × (lines q ≡ (map ended_line (closed q) ++ cond b (last_line (begun q)) []) ++ extra)
+        × (map ended_line (closed q) ++ last_line (begun q)
+        ≡ (map ended_line (closed q) ++ cond b (last_line (begun q)) []) ++ extra)
     go true = ([], sym (append-nil _))
     go false = (last_line (begun q), ap (λ z. z ++ last_line (begun q)) (sym (append-nil (map ended_line (closed q)))))
 

@@ -14,7 +14,7 @@ use Rattle.cj_stream.specs.Carrying.{FramerState, Carries, TakesAll, TakesSome, 
 use Rattle.cj_stream.specs.Ending.{answer_of, header_end, line_end}
 use Rattle.cj_stream.specs.Engine.{EngineState, state, StandsFor, given, peaks_of, end_of}
 use Rattle.cj_stream.specs.Feeding.{Feeds, IsFinished}
-use Rattle.cj_stream.specs.Meaning.Lines.{closed}
+use Rattle.cj_stream.specs.Lines.{closed}
 use Rattle.cj_stream.specs.Reading.{Reads, Stops, Finishes, further}
 use Rattle.cj_stream.specs.Scanning.{Scanned, HeldUntil}
 use Rattle.cj_stream.specs.Sink.{SinkLaw, with_sink}

@@ -10,9 +10,9 @@ use Rattle.cj_spans.specs.declared.reason.Reason.TheVariants.{NoHeader}
 use Rattle.cj_stream.specs.declared.ending.End.{End}
 use Rattle.cj_stream.specs.declared.ending.End.TheVariants.{Complete, Refused, ReadFault, ReadLimit, WriteFault, Memory}
 use Rattle.cj_stream.specs.Ending.{answer_of}
-use Rattle.cj_stream.specs.Meaning.Lines.{Line, closed, begun, first_content, ended_line, last_line, later_of, lines}
-use Rattle.cj_stream.specs.Lines.{begun_after}
-use Rattle.cj_stream.specs.Meaning.Item.{Item}
+use Rattle.cj_stream.specs.Meaning.Lines.{Line, ended_line, lines}
+use Rattle.cj_stream.specs.Lines.{closed, begun, first_content, last_line, later_of, begun_after}
+use Rattle.cj_stream.specs.Items.{Item}
 use Rattle.cj_stream.specs.Meaning.Rules.{Rules}
 use Rattle.cj_stream.specs.Meaning.Verdict.{Verdict, Invalid, Blank, LeftOut, Kept}
 use Rattle.cj_stream.specs.Verdict.{verdict, item_after, goes_on, refusal_of, is_kept, refusal_in, refusal_from, kept_from, ending, ending_of, kept_first, stretch, up_to}
@@ -22,7 +22,7 @@ use Rattle.cj_stream.specs.Reading.{Reading, next_verdict, next_item, is_lenient
 use Rattle.cj_stream.specs.Scanning.{Scanning, Scanned, ScansNext, HasRoom, HoldsFew}
 use Rattle.cj_stream.specs.Engine.{StandsFor, Counts, Faults, Delivers, Concludes, end_of}
 use Rattle.cj_stream.specs.Sink.{SinkLaw, with_sink}
-use Rattle.cj_stream.proofs.LineLemmas.{none-from_length, begun_after-empty}
+use Rattle.cj_stream.proofs.LineLemmas.{lines-cut, none-from_length, begun_after-empty}
 use Rattle.cj_stream.proofs.DealtLemmas.{Came, passed, refused, failed, lacked, came}
 use Rattle.cj_stream.proofs.VerdictLemmas.{refusal-append, kept-append}
 use Rattle.cj_stream.proofs.ReadingLemmas.{length-map_lines, left-same, zero_or, kept-next, refused-next, greatest-later, held-nothing}
@@ -91,7 +91,8 @@ finishes-with law (b ∷ c) f g s t r some d = d
 -- the lists after a last line was dealt with, and of a text without one
 pub scanned-last : (f : Reading) (p : List ℕ) (a b : Scanning) → Reads f p → 0 < length (begun p)
     → Scanned f.rules.limits (closed p) a → ScansNext f a b → Scanned f.rules.limits (contents p) b
-scanned-last f p a b reads some s deal = go (begun p) some (deal (closed p) (begun p) (sym reads.lines) reads.begun s)
+scanned-last f p a b reads some s deal =
+    rw (lines-cut p) (go (begun p) some (deal (closed p) (begun p) (sym reads.lines) reads.begun s))
   where
     go : (c : List ℕ) → 0 < length c → Scanned f.rules.limits (closed p ++ c ∷ []) b
         → Scanned f.rules.limits (map (λ l. l.content) (map ended_line (closed p) ++ last_line c)) b
@@ -100,7 +101,7 @@ scanned-last f p a b reads some s deal = go (begun p) some (deal (closed p) (beg
 
 pub scanned-closed : (limits : LimitPair) (p : List ℕ) (a : Scanning) → begun p ≡ [] → Scanned limits (closed p) a
     → Scanned limits (contents p) a
-scanned-closed limits p a e s = rw (e, contents-closed (closed p)) s
+scanned-closed limits p a e s = rw (lines-cut p, e, contents-closed (closed p)) s
 
 -- a last line of these bytes
 abbrev unended : ℕ → List ℕ → Line
@@ -124,7 +125,7 @@ module _ {S : Type 0} (law : SinkLaw S) (f g : Reading) (s t : S) (p : List ℕ)
       go (inl z) =
           let none : closed p ≡ [] = none-from_length (closed p) (sym reads.lines ∙ z) in
           let first : eqb f.lines 0 ≡ true = grind (arith, nat_tests) in
-          rw (d.0, first) (nothing (rw (none, e) refl) z e d.1 d.2)
+          rw (d.0, first) (nothing (lines-cut p ∙ rw (none, e) refl) z e d.1 d.2)
       go (inr z) = let some : eqb f.lines 0 ≡ false = grind (arith, nat_tests) in rw (d.0, some) (whole z e d.1 d.2)
 
   came-last : (r : Result (Unit {0}) End) → Finishes law p (with_sink f s) r (with_sink g t) → CameLast law f g s t p r
@@ -138,7 +139,7 @@ module _ {S : Type 0} (law : SinkLaw S) (f g : Reading) (s t : S) (p : List ℕ)
   length-cs = length-map_lines (closed p) ∙ sym reads.lines
 
   lines-last : (b : ℕ) (c : List ℕ) → begun p ≡ b ∷ c → lines p ≡ map ended_line (closed p) ++ unended b c ∷ []
-  lines-last b c e = rw e refl
+  lines-last b c e = lines-cut p ∙ rw e refl
 
   -- all lines, counted
   take-last : (b : ℕ) (c : List ℕ) → begun p ≡ b ∷ c → take (f.lines + 1) (lines p) ≡ map ended_line (closed p)
@@ -171,7 +172,7 @@ module _ {S : Type 0} (law : SinkLaw S) (f g : Reading) (s t : S) (p : List ℕ)
   concluded : (r : Result (Unit {0}) End) → CameLast law f g s t p r → Concluded f.rules p g.lines (end_of r)
   concluded r (nothing none z e same still) = rw (none, same, z) (refl, refl)
   concluded r (whole z e same still) =
-      let all : lines p ≡ map ended_line (closed p) ++ [] = rw e refl in
+      let all : lines p ≡ map ended_line (closed p) ++ [] = lines-cut p ∙ rw e refl in
       let good : refusal_in f.rules (map ended_line (closed p) ++ []) ≡ None =
       rw (append-nil (map ended_line (closed p))) reads.good in
       rw (same, all) (
@@ -271,7 +272,7 @@ module _ {S : Type 0} (law : SinkLaw S) (f g : Reading) (s t : S) (p : List ℕ)
   peak r (nothing none z e same still) done = cc
   peak r (whole z e same still) done =
       let later : greatest (held_length f.rules.limits) (later_of (contents p)) ≡ greatest (held_length f.rules.limits)
-      (later_of (closed p)) = rw (e, contents-closed (closed p)) refl in
+      (later_of (closed p)) = rw (lines-cut p, e, contents-closed (closed p)) refl in
       let first : f.header.peak ≡ length (first_content p) = reads.peak ∙ ap length reads.header in
       let line = rw (e, begun_after-empty (closed p)) at reads.line_peak in
       rw same (omega (arith, later, first, line, held-nothing f.rules.limits))

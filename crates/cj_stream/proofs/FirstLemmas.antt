@@ -1,13 +1,13 @@
 -- What is said of the first lines of a text, be it what is kept of them or what is reported.
 use Rattle.std.proofs.Common.{◌≡◌, ℕ, List, [], ◌∷◌, ◌++◌, length, take, drop, map, None, refl, sym, ap, ◌∙◌, append_assoc}
 use Rattle.std.proofs.lemmas.List.{append-nil, take-append-drop}
-use Rattle.cj_stream.specs.Meaning.Lines.{Line, closed, begun, ended_line, last_line, lines}
-use Rattle.cj_stream.specs.Lines.{whole}
+use Rattle.cj_stream.specs.Meaning.Lines.{Line, ended_line, lines}
+use Rattle.cj_stream.specs.Lines.{closed, begun, last_line, whole}
 use Rattle.cj_stream.specs.Meaning.Rules.{Rules}
 use Rattle.cj_stream.specs.Verdict.{refusal_in, good, good_from}
 use Rattle.cj_stream.proofs.GoodLemmas.{good-take, good-append, good-all}
 use Rattle.cj_stream.proofs.IsLinesLemmas.{lines-whole}
-use Rattle.cj_stream.proofs.LineLemmas.{closed-then}
+use Rattle.cj_stream.proofs.LineLemmas.{closed-then, lines-cut}
 use Rattle.cj_stream.proofs.ReadingLemmas.{length-map_lines, map_lines-append}
 
 pub take-front : (xs ys : List Line) (n : ℕ) → n ≡ length xs → take n (xs ++ ys) ≡ xs
@@ -25,6 +25,7 @@ lines-front n p more e =
     let ds = map ended_line (closed (begun p ++ more)) ++ last_line (begun (p ++ more)) in
     let t : take n (cs ++ ds) ≡ cs = take-front cs ds n (e ∙ sym (length-map_lines (closed p))) in
     rw (
+      lines-cut (p ++ more),
       closed-then p more,
       map_lines-append (closed p) (closed (begun p ++ more)),
       append_assoc cs (map ended_line (closed (begun p ++ more))) (last_line (begun (p ++ more))),

@@ -4,7 +4,7 @@ use Rattle.std.proofs.lemmas.List.{append-nil}
 use Rattle.cj_stream.specs.declared.ending.End.{End}
 use Rattle.cj_stream.specs.declared.pieces.PiecesOutcome.{PiecesOutcome}
 use Rattle.cj_stream.specs.declared.report_sink.Report.{Report}
-use Rattle.cj_stream.specs.Meaning.Lines.{joined, closed}
+use Rattle.cj_stream.specs.Lines.{joined, closed}
 use Rattle.cj_stream.specs.Cut.{Fed, TookWhole, in_pieces, given_after}
 use Rattle.cj_stream.specs.Engine.{EngineState, StandsFor, Delivers, rules_of, lines_of, peaks_of}
 use Rattle.cj_stream.specs.Feeding.{Feeds, IsFinished}

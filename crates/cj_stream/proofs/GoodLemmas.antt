@@ -7,7 +7,7 @@ use Rattle.cj_spans.specs.declared.reason.Reason.TheVariants.{NoHeader}
 use Rattle.cj_stream.specs.declared.ending.End.{End}
 use Rattle.cj_stream.specs.declared.ending.End.TheVariants.{Complete, Refused}
 use Rattle.cj_stream.specs.Meaning.Lines.{Line, lines}
-use Rattle.cj_stream.specs.Meaning.Item.{Item}
+use Rattle.cj_stream.specs.Items.{Item}
 use Rattle.cj_stream.specs.Meaning.Rules.{Rules}
 use Rattle.cj_stream.specs.Meaning.Verdict.{Verdict, Invalid, Blank, LeftOut, Kept}
 use Rattle.cj_stream.specs.Verdict.{verdict, item_after, goes_on, refusal_of, is_kept, refusal_from, refusal_in, good_from, kept_from, good, kept, kept_first, ending, ending_of}

@@ -13,11 +13,13 @@ use Rattle.cj_stream.specs.Bound.{IsExact}
 use Rattle.cj_stream.specs.Cut.{Copies, IsUnread, in_pieces}
 use Rattle.cj_stream.specs.Item.{tree_of}
 use Rattle.cj_stream.specs.Judged.{judged_list, judged_lines}
-use Rattle.cj_stream.specs.Meaning.Lines.{Line, begun, closed, ended_line, joined, last_line, lines}
-use Rattle.cj_stream.specs.Meaning.Headline.{Headline, IsUnhindered, Fate, fate_of, BeginsWell, RefusedMemory}
+use Rattle.cj_stream.specs.Meaning.Lines.{Line, ended_line, lines}
+use Rattle.cj_stream.specs.Lines.{begun, closed, joined, last_line}
+use Rattle.cj_stream.specs.Meaning.Headline.{Headline, IsUnhindered, Fate, BeginsWell, RefusedMemory}
+use Rattle.cj_stream.specs.Run.{fate_of, HeadlineOfRun, Run, Account, Ends, LacksRoom, Runs, Writes}
 use Rattle.cj_stream.specs.Reading.{LacksMemory}
-use Rattle.cj_stream.specs.Run.{HeadlineOfRun, Run, Account, Ends, LacksRoom, Runs, Writes}
-use Rattle.cj_stream.specs.Meaning.Outputs.{Outputs, outputs, Channel, Took}
+use Rattle.cj_stream.specs.Meaning.Outputs.{Outputs, Took}
+use Rattle.cj_stream.specs.Output.{outputs, Channel}
 use Rattle.cj_stream.specs.ReportSink.{NotesRun, NotesPieces}
 use Rattle.cj_stream.specs.Sink.{HasRisen, SinkLaw}
 use Rattle.cj_stream.specs.Meaning.Judged.{output_in, reported_in, ending_in}
@@ -29,7 +31,7 @@ use Rattle.cj_stream.proofs.Apart.{none-some}
 use Rattle.cj_stream.proofs.CutLemmas.{refused-more}
 use Rattle.cj_stream.proofs.JudgedLemmas.{list-are, list-only, no_tree}
 use Rattle.cj_stream.proofs.JudgedPeaks.{HasPeaks-exact, IsExact-peaks}
-use Rattle.cj_stream.proofs.LineLemmas.{closed-then}
+use Rattle.cj_stream.proofs.LineLemmas.{closed-then, lines-cut}
 use Rattle.cj_stream.proofs.NoteLemmas.{noted-none}
 use Rattle.cj_stream.proofs.OutputLemmas.{memory-sink}
 use Rattle.cj_stream.proofs.VerdictLemmas.{verdict-first}
@@ -75,7 +77,9 @@ fault-not_memory h = cc
 first-stays : (r more c : List ℕ) → slice_get (lines r) 0 ≡ Some (ended_line c)
     → slice_get (lines (r ++ more)) 0 ≡ Some (ended_line c)
 first-stays r more c h =
-    rw (closed-then r more) (go (closed r) (begun r) (closed (begun r ++ more)) (begun (r ++ more)) h)
+    let first = rw (lines-cut r) at h in
+    rw (lines-cut (r ++ more), closed-then r more)
+    (go (closed r) (begun r) (closed (begun r ++ more)) (begun (r ++ more)) first)
   where
     go : (cs : List (List ℕ)) (b : List ℕ) (ds : List (List ℕ)) (d : List ℕ)
         → slice_get (map ended_line cs ++ last_line b) 0 ≡ Some (ended_line c)
@@ -117,10 +121,10 @@ Keeps-same (Some xs) = refl
 
 module _ {N : Type 0} (notes : N → Report → N → Type 0) (rules : Rules) (text given : List ℕ) (e : End) (peaks : Peaks)
     (old new : Outputs N) where
-  pub Headline-told : (IsUnhindered e → Appends old.channel.bytes new.channel.bytes (output rules text))
+  pub Headline-told : (IsUnhindered e → Appends old.bytes new.bytes (output rules text))
       → (IsUnhindered e → Took notes old.reports (reported rules text) new.reports)
       → (IsUnhindered e → e ≡ ending rules text)
-      → (e ≡ WriteFault → HasRisen old.channel.failures new.channel.failures)
+      → (e ≡ WriteFault → HasRisen old.failures new.failures)
       → (e ≡ Memory → RefusedMemory (judged_lines rules text) old new)
       → IsBounded rules.limits given peaks
       → (e ≡ Complete → IsExact rules.limits text peaks)
@@ -128,7 +132,7 @@ module _ {N : Type 0} (notes : N → Report → N → Type 0) (rules : Rules) (t
   Headline-told writes gives ends cause memory held exact = record {
     js = judged_lines rules text;
     judged = list-are rules (lines text);
-    writes = λ u. subst (λ bs. Appends old.channel.bytes new.channel.bytes bs) (output-in rules text) (writes u);
+    writes = λ u. subst (λ bs. Appends old.bytes new.bytes bs) (output-in rules text) (writes u);
     gives = λ u. subst (λ rs. Took notes old.reports rs new.reports) (reported-in rules text) (gives u);
     ends = λ u. ends u ∙ ending-in rules text;
     cause = cause;
@@ -256,8 +260,8 @@ module _ {N : Type 0} (notes : N → Report → N → Type 0) (fate : Fate End) 
   one-list = list-only fate.rules (lines fate.text) h.js h.judged
 
   pub headline-writes : IsUnhindered fate.end
-      → Appends old.channel.bytes new.channel.bytes (output fate.rules fate.text)
-  headline-writes u = subst (λ bs. Appends old.channel.bytes new.channel.bytes bs)
+      → Appends old.bytes new.bytes (output fate.rules fate.text)
+  headline-writes u = subst (λ bs. Appends old.bytes new.bytes bs)
       (ap (output_in fate.rules) one-list ∙ sym (output-in fate.rules fate.text)) (h.writes u)
 
   pub headline-gives : IsUnhindered fate.end → Took notes old.reports (reported fate.rules fate.text) new.reports

@@ -1,19 +1,20 @@
 -- `lines` are the lines of a text, and no others are.
-use Rattle.std.proofs.Common.{◌≡◌, inl, inr, ℕ, List, [], ◌∷◌, ◌++◌, Bool, true, false, cond, eqb, map, refl, sym, ap, ◌∙◌, append_assoc}
+use Rattle.std.proofs.Common.{◌≡◌, inl, inr, ℕ, List, [], ◌∷◌, ◌++◌, Bool, true, false, cond, eqb, map, refl, sym, ap, subst, ◌∙◌, append_assoc}
 use Rattle.std.proofs.lemmas.Grind.{flat_map-append}
 use Rattle.std.specs.List.{flat_map}
 use Rattle.std.proofs.lemmas.List.{append-nil}
 use Rattle.std.proofs.lemmas.Bool.{eqb-true}
-use Rattle.cj_stream.specs.Meaning.Lines.{Line, raw, closed, begun, begun_with, onto_first, ended_line, last_line, lines}
-use Rattle.cj_stream.specs.Lines.{NoLf, whole}
+use Rattle.cj_stream.specs.Meaning.Lines.{Line, raw, ended_line, lines}
+use Rattle.cj_stream.specs.Lines.{closed, begun, begun_with, onto_first, last_line, NoLf, whole}
 use Rattle.cj_stream.specs.IsLines.{AreEnded, HaveNoLf, IsLines, IsWhole}
-use Rattle.cj_stream.proofs.LineLemmas.{closed-none, begun-none, closed-ended, begun-ended, NoLf-begun}
+use Rattle.cj_stream.proofs.LineLemmas.{closed-none, begun-none, lines-cut, NoLf-begun}
 
-lines-ended : (c t : List ℕ) → NoLf c → lines (c ++ 10 ∷ t) ≡ ended_line c ∷ lines t
-lines-ended c t h = rw (closed-ended c t h, begun-ended c t h) refl
+pub lines-ended : (c t : List ℕ) → NoLf c → lines (c ++ 10 ∷ t) ≡ ended_line c ∷ lines t
+lines-ended [] t h = refl
+lines-ended (b ∷ c) t h = rw (h.0, lines-ended c t h.1) refl
 
 lines-begun : (c : List ℕ) → NoLf c → lines c ≡ last_line c
-lines-begun c h = rw (closed-none c h, begun-none c h) refl
+lines-begun c h = lines-cut c ∙ rw (closed-none c h, begun-none c h) refl
 
 last_line-some : (c : List ℕ) → (c ≡ [] → ⊥) → last_line c ≡ record { content = c; lf = false } ∷ []
 last_line-some [] h = absurd (h refl)
@@ -86,13 +87,13 @@ AreEnded-last (d ∷ []) (b ∷ c) = (refl, AreEnded-last [] (b ∷ c))
 AreEnded-last (d ∷ e ∷ cs) c = (refl, AreEnded-last (e ∷ cs) c)
 
 pub lines-are_lines : (s : List ℕ) → IsLines s (lines s)
-lines-are_lines s = record {
+lines-are_lines s = subst (IsLines s) (sym (lines-cut s)) (record {
   contents = HaveNoLf-append (map ended_line (closed s)) (last_line (begun s)) (HaveNoLf-closed s)
       (HaveNoLf-last (begun s) (NoLf-begun s));
   joined = flat_map-append raw (map ended_line (closed s)) (last_line (begun s))
       ∙ (ap (λ z. whole s ++ z) (raw-last (begun s)) ∙ whole-begun s);
   ended = AreEnded-last (closed s) (begun s);
-}
+})
 
 AreEnded-closed : (cs : List (List ℕ)) → AreEnded (map ended_line cs)
 AreEnded-closed [] = tt

@@ -88,7 +88,7 @@ module _ (rules : Rules) (n : ℕ) (x : Tree) (header : Option Tree) (fits : Fit
       go false l false u blanks b same e = not_utf8 (short-from _ _ l) u
       go false l true u true b same e = rw (e, b) (blank_line (short-from _ _ l) u b)
       go false l true u false b same e =
-          rw (e, b) (text-is (record { short = short-from _ _ l; text = u; full = b })
+          rw (e, b) (text-is (record { short = short-from _ _ l; text = u; not_blank = b })
           (judgement c rules.limits.depth))
 
   -- ---- and no other is
@@ -115,13 +115,13 @@ module _ (rules : Rules) (n : ℕ) (x : Tree) (header : Option Tree) (fits : Fit
   judged-sunk i s (sunk k r) = (refl, ap (λ z. Invalid z TooDeep) (say_same (sunk k r) (sunk i s)))
 
   read-tree : IsRead rules header c → read_tree rules header c ≡ spelled_tree (judgement c rules.limits.depth)
-  read-tree read = rw (not-long (length c) rules.limits.line read.short, read.text, read.full) refl
+  read-tree read = rw (not-long (length c) rules.limits.line read.short, read.text, read.not_blank) refl
 
   read-verdict : IsRead rules header c
       → verdict_at rules n x c ≡ text_verdict rules n x (judgement c rules.limits.depth)
   unfolding verdict_at
   read-verdict read =
-      let full : is_blank_line n c ≡ false = fits.blank c ∙ read.full in
+      let full : is_blank_line n c ≡ false = fits.blank c ∙ read.not_blank in
       rw (not-long (length c) rules.limits.line read.short, read.text, full) refl
 
   bytes-verdict : length c ≤ rules.limits.line → is_utf8 c ≡ false

@@ -4,7 +4,8 @@ use Rattle.cj_spans.specs.Meaning.Tree.{Tree}
 use Rattle.cj_stream.specs.declared.ending.End.TheVariants.{Complete}
 use Rattle.cj_stream.specs.Item.{tree_of}
 use Rattle.cj_stream.specs.Judged.{judged_at, judged_later, judged_list, judged_lines}
-use Rattle.cj_stream.specs.Meaning.Lines.{Line, ended_line, later_of, lines}
+use Rattle.cj_stream.specs.Meaning.Lines.{Line, ended_line, lines}
+use Rattle.cj_stream.specs.Lines.{later_of}
 use Rattle.cj_stream.specs.Meaning.Rules.{Rules}
 use Rattle.cj_stream.specs.Meaning.Verdict.{Kept}
 use Rattle.cj_stream.specs.Parts.{headed, IsCut, moved_line}

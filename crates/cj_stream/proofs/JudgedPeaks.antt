@@ -1,6 +1,6 @@
 -- What was held at most of a complete stream is what its judged lines say.
 use Rattle.std.proofs.Common.{◌≡◌, ℕ, ◌+◌, ◌<◌, List, [], ◌∷◌, ◌++◌, Bool, true, false, cond, ltb, length, map, max, Option, Some, None, refl, sym, ap, subst, ◌∙◌, arith}
-use Rattle.std.specs.Prelude.{not, ◌&&◌, ◌||◌, is_some}
+use Rattle.std.specs.Prelude.{not, ◌&&◌, ◌||◌, drop, is_some, option_and_then}
 use Rattle.std.specs.List.{find, list_all}
 use Rattle.std.specs.Str.{is_utf8}
 use Rattle.std.specs.Str.Lossy.{utf8_valid_len}
@@ -16,13 +16,15 @@ use Rattle.cj_stream.specs.Bound.{IsExact, exact_peaks, held_length, is_readable
 use Rattle.cj_stream.specs.Bound.{is_legible as are_readable}
 use Rattle.cj_stream.specs.Judged.{spelled_tree, read_tree, judged_at, judged_behind, judged_later, judged_list, judged_lines}
 use Rattle.cj_stream.specs.Meaning.Bound.{HasPeaks, greatest, held_bytes, is_blank_verdict, is_legible, nest_if, peaks_in, size_if}
-use Rattle.cj_stream.specs.Meaning.Judged.{JudgedLine, ends, end_at, end_of_report, ending_in, report_by}
-use Rattle.cj_stream.specs.Meaning.Lines.{Line, begun, closed, ended_line, first_content, first_of, last_line, later_of, lines}
+use Rattle.cj_stream.specs.Meaning.Judged.{JudgedLine, ends, end_of_report, ending_in, report_by, report_of}
+use Rattle.cj_stream.specs.Meaning.Lines.{Line, ended_line, lines}
+use Rattle.cj_stream.specs.Lines.{begun, closed, first_content, first_of, last_line, later_of}
 use Rattle.cj_stream.specs.Meaning.Rules.{Rules}
 use Rattle.cj_stream.specs.Meaning.Verdict.{Verdict, Invalid, Blank, LeftOut, Kept, is_blank, is_blank_byte}
 use Rattle.cj_stream.specs.Verdict.{by_least, ending, first_line, text_verdict, verdict_at}
 use Rattle.cj_stream.proofs.AgreeLemmas.{ending-in}
 use Rattle.cj_stream.proofs.BlankLemmas.{blank-tree}
+use Rattle.cj_stream.proofs.LineLemmas.{lines-cut}
 use Rattle.cj_stream.proofs.JudgedLemmas.{IsFirst, behind-some, first-blank, first-is, first-left, first-verdict, kept-tree}
 
 or-true : (x : Bool) → x || true ≡ true
@@ -31,7 +33,7 @@ or-true false = refl
 
 -- the first line begins a stream
 first-line : (s : List ℕ) (l : Line) (ls : List Line) → lines s ≡ l ∷ ls → first_content s ≡ l.content
-first-line s l ls e = go (closed s) (begun s) e
+first-line s l ls e = go (closed s) (begun s) (sym (lines-cut s) ∙ e)
   where
     go : (cs : List (List ℕ)) (b : List ℕ) → map ended_line cs ++ last_line b ≡ l ∷ ls → first_of cs b ≡ l.content
     go [] [] e = cc
@@ -124,7 +126,8 @@ module _ (rules : Rules) where
   refused-first l ls place reason e =
       let at : ends rules (judged_at rules 1 None l) ≡ true = rw e refl in
       let rest = judged_behind rules (judged_at rules 1 None l).verdict (judged_at rules 1 None l).tree ls in
-      ap (λ b. end_at (cond b (Some (judged_at rules 1 None l)) (find (ends rules) rest))) at
+      ap (λ b. end_of_report (option_and_then report_of
+      (cond b (Some (judged_at rules 1 None l)) (find (ends rules) rest)))) at
       ∙ ap (λ v. end_of_report (report_by 1 v)) e
 
   pub kept-first : (l : Line) (ls : List Line) → ending_in rules (judged_list rules (l ∷ ls)) ≡ Complete
@@ -144,7 +147,7 @@ module _ (rules : Rules) where
 
   record SamePeaks (s : List ℕ) (js : List JudgedLine) : Type 0 where
     peaks : exact_peaks rules.limits s ≡ peaks_in rules.limits js
-    readable : are_readable rules.limits s ≡ list_all is_legible (later_of js)
+    readable : are_readable rules.limits s ≡ list_all is_legible (drop 1 js)
 
   headed-peaks : (s : List ℕ) (h : Tree) (l : Line) (ls : List Line) → lines s ≡ l ∷ ls
       → SamePeaks s (judged_at rules 1 None l ∷ judged_later rules h 2 ls)

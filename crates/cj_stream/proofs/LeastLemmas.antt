@@ -7,14 +7,15 @@ use Rattle.cj_stream.specs.Bound.{IsBelow, contents, exact_peaks, first_lines, h
 use Rattle.cj_stream.specs.Meaning.Bound.{greatest}
 use Rattle.cj_stream.specs.declared.ending.End.{End}
 use Rattle.cj_stream.specs.Engine.{EngineState, limits_of, lines_of, peaks_of}
-use Rattle.cj_stream.specs.Meaning.Lines.{begun, closed, ended_line, first_content, first_of, last_line, later_of, lines, raw}
-use Rattle.cj_stream.specs.Lines.{begun_after, whole}
+use Rattle.cj_stream.specs.Meaning.Lines.{Line, ended_line, lines, raw}
+use Rattle.cj_stream.specs.Lines.{begun, closed, first_content, first_of, last_line, later_of, begun_after, whole}
 use Rattle.cj_stream.specs.Reading.{Reading, Reads, Stays, Finishes, FinishesWith, is_lenient}
 use Rattle.cj_stream.specs.Scanning.{Scanning, Scanned, HeldAll, HeldUntil, Rises}
 use Rattle.cj_stream.specs.Sink.{SinkLaw, with_sink}
 use Rattle.cj_stream.proofs.FirstLemmas.{lines-front}
 use Rattle.cj_stream.proofs.FinishLemmas.{Finishes-concludes, contents-closed, contents-last, peaks-finished}
 use Rattle.cj_stream.proofs.GoodLemmas.{good-complete}
+use Rattle.cj_stream.proofs.LineLemmas.{lines-cut}
 use Rattle.cj_stream.proofs.IsLinesLemmas.{lines-are_lines, lines-whole}
 use Rattle.cj_stream.proofs.ReadingLemmas.{greatest-later, held-nothing}
 use Rattle.cj_stream.proofs.ScanningLemmas.{first-closed}
@@ -60,7 +61,9 @@ contents-whole q = rw (lines-whole q) (contents-ended (closed q))
 
 -- the first line is the first of the contents
 first-contents : (s : List ℕ) → length (first_content s) ≡ length (first_of (contents s) [])
-first-contents s = go (closed s) (begun s)
+first-contents s =
+    go (closed s) (begun s)
+    ∙ ap (λ ls. length (first_of (map (λ (l : Line). l.content) ls) [])) (sym (lines-cut s))
   where
     go : (cs : List (List ℕ)) (b : List ℕ)
         → length (first_of cs b) ≡ length (first_of (map (λ l. l.content) (map ended_line cs ++ last_line b)) [])
@@ -122,7 +125,14 @@ least-until e limits p bytes done left under cut reads h =
 pub begun-held : (f : Reading) (q : List ℕ) → Reads f q
     → (exact_peaks f.rules.limits q).bytes ≤ f.header.peak + f.line.peak
 begun-held f q h =
-    omega (arith, h.peak, ap length h.header, h.line_peak, later (begun q))
+    omega (
+      arith,
+      h.peak,
+      ap length h.header,
+      h.line_peak,
+      ap (λ ls. greatest (held_length f.rules.limits) (later_of (map (λ (l : Line). l.content) ls))) (lines-cut q),
+      later (begun q),
+    )
   where
     later : (b : List ℕ) → greatest (held_length f.rules.limits)
         (later_of (map (λ l. l.content) (map ended_line (closed q) ++ last_line b)))

@@ -13,7 +13,8 @@ use Rattle.cj_spans.specs.declared.reason.Reason.TheVariants.{LineTooLong, NotUt
 use Rattle.cj_stream.specs.declared.ending.End.{End}
 use Rattle.cj_stream.specs.declared.ending.End.TheVariants.{Complete, Refused}
 use Rattle.cj_stream.specs.Bound.{is_spelled, is_readable, exact_peaks, IsExact}
-use Rattle.cj_stream.specs.Meaning.Lines.{Line, later_of, lines}
+use Rattle.cj_stream.specs.Meaning.Lines.{Line, lines}
+use Rattle.cj_stream.specs.Lines.{later_of}
 use Rattle.cj_stream.specs.Meaning.Rules.{Rules}
 use Rattle.cj_stream.specs.Meaning.Verdict.{Verdict, Invalid, Blank, LeftOut, Kept, is_blank_byte}
 use Rattle.cj_stream.specs.Verdict.{verdict_at, text_verdict, verdict, header_of, goes_on, refusal_of, refusal_from, refusal_in, reports_of, good_from, good, reported_from, reported, ending, ending_of}

@@ -1,7 +1,9 @@
 -- The lines of a text that goes on.
-use Rattle.std.proofs.Common.{◌≡◌, ℕ, List, [], ◌∷◌, ◌++◌, Bool, true, false, eqb, cond, suc, ◌<◌, ◌≤◌, length, get_or, arith, refl, ap, ◌∙◌, length-append}
+use Rattle.std.proofs.Common.{◌≡◌, ℕ, List, [], ◌∷◌, ◌++◌, Bool, true, false, eqb, cond, suc, ◌<◌, ◌≤◌, length, map, get_or, arith, refl, ap, ◌∙◌, length-append}
 use Rattle.std.proofs.lemmas.List.{append-nil}
-use Rattle.cj_stream.specs.Meaning.Lines.{closed, begun, begun_with, onto_first, first_of, first_content}
+use Rattle.cj_stream.specs.Meaning.Bound.{of_first}
+use Rattle.cj_stream.specs.Meaning.Lines.{Line, ended_line, in_front, lines}
+use Rattle.cj_stream.specs.Lines.{closed, begun, begun_with, onto_first, first_of, first_content, last_line}
 use Rattle.cj_stream.specs.Lines.{begun_after, NoLf}
 
 -- a test that is not true is false
@@ -123,6 +125,33 @@ first_of-onto : (b : ℕ) (cs : List (List ℕ)) (s : List ℕ)
     → first_of (onto_first b cs) (begun_with cs b s) ≡ b ∷ first_of cs s
 first_of-onto b [] s = refl
 first_of-onto b (c ∷ cs) s = refl
+
+-- ---- the lines, by what LF ended and what it did not end
+
+front-last : (b : ℕ) (u : List ℕ) → in_front b (last_line u) ≡ last_line (b ∷ u)
+front-last b [] = refl
+front-last b (c ∷ u) = refl
+
+lines-byte : (b : ℕ) (is : Bool) (ls : List Line) (cs : List (List ℕ)) (u : List ℕ)
+    → ls ≡ map ended_line cs ++ last_line u
+    → cond is (ended_line [] ∷ ls) (in_front b ls)
+    ≡ map ended_line (cond is ([] ∷ cs) (onto_first b cs)) ++ last_line (cond is u (begun_with cs b u))
+lines-byte b true ls cs u e = ap (λ z. ended_line [] ∷ z) e
+lines-byte b false ls [] u e = ap (in_front b) e ∙ front-last b u
+lines-byte b false ls (c ∷ cs) u e = ap (in_front b) e
+
+pub lines-cut : (s : List ℕ) → lines s ≡ map ended_line (closed s) ++ last_line (begun s)
+lines-cut [] = refl
+lines-cut (b ∷ s) = lines-byte b (eqb b 10) (lines s) (closed s) (begun s) (lines-cut s)
+
+pub first-length : (s : List ℕ) → of_first (λ (l : Line). length l.content) (lines s) ≡ length (first_content s)
+first-length s = ap (of_first (λ (l : Line). length l.content)) (lines-cut s) ∙ go (closed s) (begun s)
+  where
+    go : (cs : List (List ℕ)) (b : List ℕ)
+        → of_first (λ (l : Line). length l.content) (map ended_line cs ++ last_line b) ≡ length (first_of cs b)
+    go [] [] = refl
+    go [] (b ∷ s) = refl
+    go (c ∷ cs) b = refl
 
 -- a byte that is no LF begins the first line
 first_content-byte : (b : ℕ) (s : List ℕ) → eqb b 10 ≡ false → first_content (b ∷ s) ≡ b ∷ first_content s

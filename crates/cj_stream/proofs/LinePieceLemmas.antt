@@ -8,13 +8,13 @@ use Rattle.cj_stream.specs.declared.ending.End.TheVariants.{Complete, Refused, R
 use Rattle.cj_stream.specs.declared.line_pieces.LinesOutcome.{LinesOutcome}
 use Rattle.cj_stream.specs.declared.ending.LineEnd.{LineEnd}
 use Rattle.cj_stream.specs.declared.ending.LineEnd.TheVariants.{Complete as LineComplete, Refused as LineRefused, WriteFault as LineWriteFault}
-use Rattle.cj_stream.specs.Meaning.Lines.{joined, closed, begun, ended_line, last_line, lines}
+use Rattle.cj_stream.specs.Meaning.Lines.{ended_line, lines}
+use Rattle.cj_stream.specs.Lines.{joined, closed, begun, last_line, whole}
 use Rattle.cj_stream.specs.Cut.{IsUnread, PutsPieces, TookWhole, in_pieces, given_after}
 use Rattle.cj_stream.specs.Ending.{line_end}
 use Rattle.cj_stream.specs.Engine.{Counts, Delivers}
-use Rattle.cj_stream.specs.Meaning.Item.{Item}
+use Rattle.cj_stream.specs.Items.{Item}
 use Rattle.cj_stream.specs.LinePieces.{kept_after, PutsLines, CopiesLines, later_pieces}
-use Rattle.cj_stream.specs.Lines.{whole}
 use Rattle.cj_stream.specs.Run.{Ends}
 use Rattle.cj_stream.specs.Meaning.Outputs.{Took}
 use Rattle.cj_stream.specs.Sink.{LeavesNext, SinkLaw, TookFront, prefixes}
@@ -25,7 +25,7 @@ use Rattle.cj_stream.proofs.CutLemmas.{given-told}
 use Rattle.cj_stream.proofs.FirstLemmas.{first-either, first-good, first-same, first-split, first-whole}
 use Rattle.cj_stream.proofs.IsLinesLemmas.{lines-whole}
 use Rattle.cj_stream.proofs.JoinedLemmas.{joined-next}
-use Rattle.cj_stream.proofs.LineLemmas.{closed-grows}
+use Rattle.cj_stream.proofs.LineLemmas.{closed-grows, lines-cut}
 use Rattle.cj_stream.proofs.OutputLemmas.{Took-appends, kept-next_line, writes_part, front-bytes, next-bytes}
 use Rattle.cj_stream.proofs.PieceLemmas.{Took-append}
 use Rattle.cj_stream.proofs.ReadingLemmas.{length-map_lines}
@@ -43,7 +43,8 @@ module _ {S : Type 0} (law : SinkLaw S) (rules : Rules) (p : List ℕ) (n : ℕ)
     whole-taken x =
         let cs = map ended_line (closed (p ++ x)) in
         let few : n ≤ length cs = omega (arith, first, closed-grows p x, length-map_lines (closed (p ++ x))) in
-        ap (λ z. take n z) (lines-whole (p ++ x)) ∙ sym (take-append-le n cs (last_line (begun (p ++ x))) few)
+        ap (λ z. take n z) (lines-whole (p ++ x))
+        ∙ (sym (take-append-le n cs (last_line (begun (p ++ x))) few) ∙ ap (λ z. take n z) (sym (lines-cut (p ++ x))))
 
     -- what is kept of whole lines after them
     whole-kept : (x : List ℕ) (xs : List Item) → refusal_in rules (lines (whole (p ++ x))) ≡ None

@@ -2,9 +2,9 @@
 use Rattle.std.proofs.Common.{◌≡◌, ℕ, ◌+◌, List, [], ◌∷◌, ◌++◌, suc, length, map, drop, arith, refl, sym, ap, ◌∙◌, append_assoc}
 use Rattle.std.specs.List.{flat_map}
 use Rattle.cj_stream.specs.declared.ending.End.TheVariants.{Complete}
-use Rattle.cj_stream.specs.Meaning.Lines.{joined, raw, closed, ended_line, lines, later_of}
-use Rattle.cj_stream.specs.Meaning.Item.{Item, raw_item}
-use Rattle.cj_stream.specs.Lines.{whole}
+use Rattle.cj_stream.specs.Meaning.Lines.{raw, ended_line, lines}
+use Rattle.cj_stream.specs.Lines.{joined, closed, later_of, whole}
+use Rattle.cj_stream.specs.Items.{Item, raw_item}
 use Rattle.cj_stream.specs.Parts.{headed, IsCut, AreComplete, moved_end}
 use Rattle.cj_stream.specs.Meaning.Rules.{Rules}
 use Rattle.cj_stream.specs.Verdict.{item_after, kept_from, kept, output, ending}

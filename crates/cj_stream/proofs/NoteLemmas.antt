@@ -9,12 +9,12 @@ use Rattle.cj_stream.specs.declared.ending.LineEnd.{LineEnd}
 use Rattle.cj_stream.specs.declared.ending.LineEnd.TheVariants.{Complete as LineComplete, Refused as LineRefused, WriteFault as LineWriteFault}
 use Rattle.cj_budget.specs.declared.limits.Peaks.{Peaks}
 use Rattle.cj_stream.specs.declared.report_sink.Report.{Report}
-use Rattle.cj_stream.specs.Meaning.Lines.{joined, Line, closed, begun, ended_line, last_line, lines}
+use Rattle.cj_stream.specs.Meaning.Lines.{Line, ended_line, lines}
+use Rattle.cj_stream.specs.Lines.{joined, closed, begun, last_line, NoLf, whole}
 use Rattle.cj_stream.specs.Cut.{in_pieces}
 use Rattle.cj_stream.specs.Ending.{line_end}
-use Rattle.cj_stream.specs.Meaning.Item.{Item}
+use Rattle.cj_stream.specs.Items.{Item}
 use Rattle.cj_stream.specs.LinePieces.{reported_after, NotesLines, later_pieces}
-use Rattle.cj_stream.specs.Lines.{NoLf, whole}
 use Rattle.cj_stream.specs.Reading.{Reading, told_verdict, Stores, Settles, Reads, JudgedAs}
 use Rattle.cj_stream.specs.ReportSink.{Collects, Notes, NotesRun, NotesPieces}
 use Rattle.cj_stream.specs.Run.{Run, Ends, RunsNoting}
@@ -29,7 +29,7 @@ use Rattle.cj_stream.proofs.EngineLemmas.{Counts-front}
 use Rattle.cj_stream.proofs.FirstLemmas.{lines-front, first-either, first-good, first-same, first-split, first-whole}
 use Rattle.cj_stream.proofs.PieceLemmas.{Took-append}
 use Rattle.cj_stream.proofs.ReadingLemmas.{length-map_lines, map_lines-append, next-verdict, told-verdict, reported-append, Reads-stored}
-use Rattle.cj_stream.proofs.LineLemmas.{closed-lf}
+use Rattle.cj_stream.proofs.LineLemmas.{closed-lf, lines-cut}
 use Rattle.cj_stream.proofs.StaysLemmas.{settled-err}
 
 -- ---- what is reported of the first line
@@ -274,8 +274,9 @@ module _ {N : Type 0} (notes : N → Report → N → Type 0) where
       omega (arith, one, reads.lines, length-map_lines (closed p), length-append xs (l ∷ [])) in
       let front = lines-front f.lines p [] reads.lines in
       one-noted f g p false p n m reads (rw (append-nil p) at front)
-      (ap (λ z. take g.lines (map ended_line (closed p) ++ z)) (last-some (begun p) some)
-      ∙ take_all g.lines (xs ++ l ∷ []) few) noted
+      (ap (λ z. take g.lines z) (lines-cut p)
+      ∙ (ap (λ z. take g.lines (map ended_line (closed p) ++ z)) (last-some (begun p) some)
+      ∙ take_all g.lines (xs ++ l ∷ []) few)) noted
 
   -- what came of a last line
   pub Notes-finished : {S : Type 0} (law : SinkLaw S) (on : Bool) (v : Verdict) (i : Item) (f g : Reading) (s t : S)

@@ -8,7 +8,7 @@ use Rattle.cj_stream.specs.declared.ending.End.{End}
 use Rattle.cj_stream.specs.declared.ending.End.TheVariants.{Complete, Refused, ReadFault, ReadLimit, WriteFault, Memory}
 use Rattle.cj_stream.specs.Meaning.Lines.{Line, lines}
 use Rattle.cj_stream.specs.Lines.{whole}
-use Rattle.cj_stream.specs.Meaning.Item.{Item, raw_item}
+use Rattle.cj_stream.specs.Items.{Item, raw_item}
 use Rattle.cj_stream.specs.Meaning.Rules.{Rules}
 use Rattle.cj_stream.specs.Verdict.{verdict, is_kept, refusal_in, good, good_from, kept_from, kept, kept_first, item_after, output_first, stretch, up_to, stream_of}
 use Rattle.cj_stream.specs.Engine.{Counts, Delivers}

@@ -18,9 +18,9 @@ use Rattle.cj_stream.specs.declared.ending.End.{End}
 use Rattle.cj_stream.specs.declared.ending.End.TheVariants.{Complete, Refused}
 use Rattle.cj_stream.specs.Bound.{exact_peaks, contents, held_length, tree_size, tree_nest}
 use Rattle.cj_stream.specs.Meaning.Bound.{greatest}
-use Rattle.cj_stream.specs.Meaning.Item.{raw_item, is_feature}
-use Rattle.cj_stream.specs.Meaning.Lines.{Line, closed, begun, ended_line, lines, later_of, first_content}
-use Rattle.cj_stream.specs.Lines.{NoLf, whole}
+use Rattle.cj_stream.specs.Items.{raw_item, is_feature}
+use Rattle.cj_stream.specs.Meaning.Lines.{Line, ended_line, lines}
+use Rattle.cj_stream.specs.Lines.{closed, begun, later_of, first_content, NoLf, whole}
 use Rattle.cj_stream.specs.Parts.{headed, IsCut, moved_end, moved_report, greater_peaks}
 use Rattle.cj_stream.specs.Meaning.Rules.{Rules}
 use Rattle.cj_stream.specs.Meaning.Verdict.{Verdict, Invalid, Blank, LeftOut, Kept, is_blank_byte}
@@ -30,8 +30,8 @@ use Rattle.cj_stream.proofs.CutLemmas.{lines-more, good-stays}
 use Rattle.cj_stream.proofs.EngineLemmas.{same-peaks}
 use Rattle.cj_stream.proofs.GoodLemmas.{good-append, good-all, complete-none, ending-refused}
 use Rattle.std.proofs.lemmas.Grind.{flat_map-append}
-use Rattle.cj_stream.proofs.IsLinesLemmas.{whole-begun}
-use Rattle.cj_stream.proofs.LineLemmas.{closed-ended, begun-ended, none-from_length}
+use Rattle.cj_stream.proofs.IsLinesLemmas.{lines-ended, whole-begun}
+use Rattle.cj_stream.proofs.LineLemmas.{closed-ended, begun-ended, lines-cut, none-from_length}
 use Rattle.cj_stream.proofs.MovedLemmas.{refusal-moved, good-moved, kept-moved, reported-moved}
 use Rattle.cj_stream.proofs.ReadingLemmas.{reported-append}
 use Rattle.cj_stream.proofs.RunLemmas.{refusal-stays}
@@ -46,12 +46,12 @@ none-begun a w =
     (omega (arith, ap length (whole-begun a), ap length w, length-append (whole a) (begun a)))
 
 pub lines-headed : (h s : List ℕ) → NoLf h → lines (headed h s) ≡ ended_line h ∷ lines s
-lines-headed h s free = rw (closed-ended h s free, begun-ended h s free) refl
+lines-headed h s free = lines-ended h s free
 
 pub lines-parts : (a b : List ℕ) → whole a ≡ a → lines (a ++ b) ≡ lines a ++ lines b
 lines-parts a b w =
     let none = none-begun a w in
-    lines-more a b ∙ rw (none, append-nil (map ended_line (closed a))) refl
+    lines-more a b ∙ rw (lines-cut a, none, append-nil (map ended_line (closed a))) refl
 
 -- ---- a first line that is not refused
 

@@ -8,9 +8,9 @@ use Rattle.cj_spans.specs.declared.reason.Reason.{Reason}
 use Rattle.cj_spans.specs.declared.reason.Reason.TheVariants.{LineTooLong}
 use Rattle.cj_stream.specs.declared.ending.End.{End}
 use Rattle.cj_stream.specs.declared.ending.End.TheVariants.{Refused, WriteFault, Memory}
-use Rattle.cj_stream.specs.Meaning.Lines.{lines, closed, begun, ended_line}
-use Rattle.cj_stream.specs.Lines.{NoLf}
-use Rattle.cj_stream.specs.Meaning.Item.{Item}
+use Rattle.cj_stream.specs.Meaning.Lines.{lines, ended_line}
+use Rattle.cj_stream.specs.Lines.{closed, begun, NoLf}
+use Rattle.cj_stream.specs.Items.{Item}
 use Rattle.cj_stream.specs.Meaning.Rules.{Rules}
 use Rattle.cj_stream.specs.Meaning.Verdict.{Verdict, Invalid, Blank, LeftOut, Kept}
 use Rattle.cj_stream.specs.Verdict.{verdict, item_after, refusal_of, is_kept, long_line}

@@ -1,10 +1,9 @@
 -- Which small features satisfy what is asked, computed.
-use Rattle.std.proofs.Common.{◌≡◌, List, [], ◌∷◌, Bool, Option, Some, ℤ, pos, refl}
-use Rattle.std.specs.Prelude.{◌^◌, ◌&&◌, int_le, get_or}
+use Rattle.std.proofs.Common.{◌≡◌, List, [], ◌∷◌, Bool, Option, Some, None, ℤ, ℕ, pos, refl}
+use Rattle.std.specs.Prelude.{◌^◌, ◌&&◌, codes, int_le, get_or}
 use Rattle.std.specs.List.{list_any}
 use Rattle.std.specs.Str.{chars}
 use lib.Utf8.{encode}
-use Rattle.cj_decimal.specs.Meaning.Affine.{AffineMap, image}
 use Rattle.cj_decimal.specs.Meaning.Decimal.{decimal_of}
 use Rattle.cj_decimal.specs.Meaning.Reading.{digits_front, digits_rest, begins, begins_digit, is_empty, body, is_int}
 use Rattle.cj_decimal.specs.Meaning.Reading.{is_frac, frac_digits, after_frac, exp_digits, is_whole_digits, is_exp}
@@ -13,9 +12,8 @@ use Rattle.cj_spans.specs.Meaning.Text.{text, code_points_after, first_code_poin
 use Rattle.cj_spans.specs.Meaning.Tree.{Tree}
 use Rattle.cj_geometry.specs.Meaning.ObjectTypes.{object_types}
 use Rattle.cj_geometry.proofs.Digits.{whole-zero, whole-one}
-use Rattle.cj_feature.specs.Meaning.Transform.{maps_of}
-use Rattle.cj_feature.specs.Meaning.CityObject.{number_on}
-use Rattle.cj_stream.specs.Meaning.Criteria.{Box, holds, vertices_of}
+use Rattle.cj_feature.specs.Meaning.Transform.{units_at}
+use Rattle.cj_stream.specs.Meaning.Criteria.{Box, coordinate_by, holds, there_is, vertices_of}
 use Rattle.cj_stream.specs.QueryRows.{plain_header, two_objects, one_instance, boxed, IdRows, TypeRows, LodRows, InstanceRows, InBoxRows, OutOfBoxRows, EachPartRows}
 
 pub ids : IdRows
@@ -40,27 +38,36 @@ each = (refl, refl, refl, refl)
 
 -- ---- boxes
 
--- a box is met by these vertices under these maps
-abbrev met : Box → List (List (Option ℤ)) → List AffineMap → Bool
-met box vs maps =
-    let none : AffineMap = record { scale = pos 0; shift = pos 0 } in
-    list_any (λ v. int_le (image (get_or maps 0 none) (number_on 0 v)) box.max_x) vs
-    && list_any (λ v. int_le box.min_x (image (get_or maps 0 none) (number_on 0 v))) vs
-    && list_any (λ v. int_le (image (get_or maps 1 none) (number_on 1 v)) box.max_y) vs
-    && list_any (λ v. int_le box.min_y (image (get_or maps 1 none) (number_on 1 v))) vs
+-- a box is met by these vertices with these scales and translations
+abbrev met : Box → List (List (Option ℤ)) → Option ℤ → Option ℤ → Option ℤ → Option ℤ → Bool
+met box vs scale_x shift_x scale_y shift_y =
+    list_any (λ v. there_is (λ n. int_le n box.max_x) (coordinate_by (get_or v 0 None) scale_x shift_x)) vs
+    && list_any (λ v. there_is (λ n. int_le box.min_x n) (coordinate_by (get_or v 0 None) scale_x shift_x)) vs
+    && list_any (λ v. there_is (λ n. int_le n box.max_y) (coordinate_by (get_or v 1 None) scale_y shift_y)) vs
+    && list_any (λ v. there_is (λ n. int_le box.min_y n) (coordinate_by (get_or v 1 None) scale_y shift_y)) vs
 
-in-box : (header t : Tree) (box : Box) (vs : List (List (Option ℤ))) (maps : List AffineMap) → vertices_of t ≡ vs
-    → maps_of header ≡ maps → holds (boxed box) header t ≡ met box vs maps
-unfolding holds
-in-box header t box vs maps vertices its_maps = rw (vertices, its_maps) refl
+abbrev scale : ℕ → Option ℤ
+scale axis = units_at (chars (codes "scale")) plain_header axis
 
-abbrev itself : AffineMap
-itself = record { scale = pos (10 ^ 18); shift = pos 0 }
+abbrev shift : ℕ → Option ℤ
+shift axis = units_at (chars (codes "translate")) plain_header axis
 
-maps : maps_of plain_header ≡ itself ∷ itself ∷ []
+abbrev unit : Option ℤ
+unit = Some (pos (10 ^ 18))
+
+abbrev none : Option ℤ
+none = Some (pos 0)
+
+-- the header's transform
+transform : (scale 0 ≡ unit) × (shift 0 ≡ none) × (scale 1 ≡ unit) × (shift 1 ≡ none)
 unfolding text code_points_after first_code_point first_width chars encode decimal_of digits_front digits_rest begins
     begins_digit is_empty body is_int is_frac frac_digits after_frac exp_digits is_whole_digits is_exp exp_value
-maps = refl
+transform = (refl, refl, refl, refl)
+
+in-box : (t : Tree) (box : Box) (vs : List (List (Option ℤ))) → vertices_of t ≡ vs
+    → holds (boxed box) plain_header t ≡ met box vs unit none unit none
+unfolding holds
+in-box t box vs vertices = rw (vertices, transform.0, transform.1, transform.2, transform.3) refl
 
 abbrev two_vertices : List (List (Option ℤ))
 two_vertices = (Some (pos 0) ∷ Some (pos 0) ∷ Some (pos 1) ∷ []) ∷ (Some (pos 1) ∷ Some (pos 0) ∷ Some (pos 0) ∷ [])
@@ -76,16 +83,16 @@ no_vertices = refl
 
 pub within : InBoxRows
 within = (
-  in-box plain_header two_objects _ two_vertices _ vertices maps,
-  in-box plain_header two_objects _ two_vertices _ vertices maps,
-  in-box plain_header two_objects _ two_vertices _ vertices maps,
+  in-box two_objects _ two_vertices vertices,
+  in-box two_objects _ two_vertices vertices,
+  in-box two_objects _ two_vertices vertices,
 )
 
 pub outside : OutOfBoxRows
 outside = (
-  in-box plain_header two_objects _ two_vertices _ vertices maps,
-  in-box plain_header two_objects _ two_vertices _ vertices maps,
-  in-box plain_header two_objects _ two_vertices _ vertices maps,
-  in-box plain_header two_objects _ two_vertices _ vertices maps,
-  in-box plain_header one_instance _ [] _ no_vertices maps,
+  in-box two_objects _ two_vertices vertices,
+  in-box two_objects _ two_vertices vertices,
+  in-box two_objects _ two_vertices vertices,
+  in-box two_objects _ two_vertices vertices,
+  in-box one_instance _ [] no_vertices,
 )

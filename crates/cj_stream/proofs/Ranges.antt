@@ -8,7 +8,7 @@ use Rattle.std.proofs.lemmas.List.{append-nil}
 use Rattle.std.proofs.lemmas.List.Elements.{All-nil, All-cons, All-append, All-contains, All-contains_itself, All-weaker, Contains-append_cases, Contains-append_left, Contains-append_right, Contains-push}
 use Rattle.cj_decimal.specs.Word.{IsWordOf}
 use Rattle.cj_decimal.proofs.Below.{words_in_order, word_room, word_zero}
-use Rattle.cj_feature.specs.Meaning.CityObject.{number_on}
+use Rattle.cj_feature.specs.Axes.{number_on}
 use Rattle.cj_stream.specs.Parts.{wider, WidensFront}
 use Rattle.cj_stream.specs.Tallied.{IsRange}
 use Rattle.cj_stream.specs.TallySink.{AreWordsOf, RangesFront, TakesNumber, TakesSome, Widens}

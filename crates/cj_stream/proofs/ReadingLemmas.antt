@@ -8,11 +8,11 @@ use Rattle.std.proofs.lemmas.Bool.Decides.{nat_tests}
 use Rattle.cj_budget.specs.Bounded.{IsWithin}
 use Rattle.cj_budget.specs.Meaning.Limits.{LimitPair}
 use Rattle.cj_spans.specs.declared.reason.Reason.TheVariants.{LineTooLong}
-use Rattle.cj_stream.specs.Meaning.Lines.{Line, closed, begun, ended_line, first_of, first_content, later_of}
-use Rattle.cj_stream.specs.Lines.{begun_after, begun_later, NoLf}
+use Rattle.cj_stream.specs.Meaning.Lines.{Line, ended_line}
+use Rattle.cj_stream.specs.Lines.{closed, begun, first_of, first_content, later_of, begun_after, begun_later, NoLf}
 use Rattle.std.specs.List.{filter}
 use Rattle.cj_spans.specs.Meaning.Tree.{Tree}
-use Rattle.cj_stream.specs.Meaning.Item.{Item, is_feature}
+use Rattle.cj_stream.specs.Items.{Item, is_feature}
 use Rattle.cj_stream.specs.Item.{item_at}
 use Rattle.cj_stream.specs.Meaning.Rules.{Rules}
 use Rattle.cj_stream.specs.Meaning.Verdict.{Verdict, Invalid, Blank, LeftOut, Kept}

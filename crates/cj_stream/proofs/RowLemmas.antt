@@ -23,12 +23,12 @@ use Rattle.cj_spans.proofs.WorkedLines.{after, spells_end}
 use Rattle.cj_feature.specs.Examples.{plain_header, other_id}
 use Rattle.cj_feature.proofs.Worked.{plain_feature, euro_feature as euro_tree, euro_feature-valid, plain_header-valid, plain_feature-valid, other_id-refused, feature-no_header, header-no_feature}
 use Rattle.cj_stream.specs.declared.ending.End.TheVariants.{Complete, Refused}
-use Rattle.cj_stream.specs.Meaning.Item.{raw_item}
+use Rattle.cj_stream.specs.Items.{raw_item}
 use Rattle.cj_stream.specs.Item.{judged_tree, tree_of}
 use Rattle.cj_stream.specs.Meaning.Lines.{Line, raw, ended_line}
 use Rattle.cj_stream.specs.Rows.{small_header, small_feature, lost_feature, euro_feature, wide_rules, tight_rules, Gives, WholeRow, BlankRow, OrderRow, BadRow, LongRow}
-use Rattle.cj_stream.specs.Meaning.Criteria.{everything, holds}
-use Rattle.cj_stream.specs.Meaning.Options.{usual_options}
+use Rattle.cj_stream.specs.Meaning.Criteria.{holds}
+use Rattle.cj_stream.specs.Usual.{everything, usual_options}
 use Rattle.cj_stream.specs.Meaning.Rules.{Rules}
 use Rattle.cj_stream.specs.Verdict.{goes_on, is_kept_if_valid, verdict, verdict_at, text_verdict, by_least, tree_verdict, ending_of, good_from, kept_from}
 use Rattle.cj_stream.specs.Meaning.Verdict.{Invalid, Blank, Kept, is_blank_byte}

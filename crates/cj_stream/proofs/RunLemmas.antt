@@ -5,8 +5,8 @@ use Rattle.std.proofs.lemmas.List.{append-nil}
 use Rattle.std.specs.Io.KnownBytes.{Consumes, Keeps}
 use Rattle.cj_stream.specs.declared.ending.End.{End}
 use Rattle.cj_stream.specs.declared.ending.End.TheVariants.{Complete, Refused, ReadFault, ReadLimit, WriteFault, Memory}
-use Rattle.cj_stream.specs.Meaning.Lines.{Line, closed, last_line, lines}
-use Rattle.cj_stream.specs.Lines.{whole}
+use Rattle.cj_stream.specs.Meaning.Lines.{Line, lines}
+use Rattle.cj_stream.specs.Lines.{closed, last_line, whole}
 use Rattle.cj_stream.specs.Meaning.Rules.{Rules}
 use Rattle.cj_stream.specs.Verdict.{verdict, refusal_of, refusal_in, refusal_from, judged, ending, ending_of, kept_first, stretch, up_to}
 use Rattle.cj_stream.specs.Engine.{EngineState, EngineFailsToGrow, HasFailedToGrow, StandsFor, Counts, Delivers, Faults, Concludes, Tells, rules_of, limits_of, lines_of, peaks_of}

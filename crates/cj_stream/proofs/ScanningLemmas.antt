@@ -11,8 +11,7 @@ use Rattle.cj_spans.specs.Marks.{bare}
 use Rattle.cj_spans.specs.Meaning.Judgement.{Judgement, spelled, broken, sunk, judged_size, judged_nest}
 use Rattle.cj_spans.specs.Scan.{KeepsLaw}
 use Rattle.cj_spans.proofs.Judgements.{judgement}
-use Rattle.cj_stream.specs.Meaning.Lines.{closed, begun, first_of, first_content}
-use Rattle.cj_stream.specs.Lines.{NoLf}
+use Rattle.cj_stream.specs.Lines.{closed, begun, first_of, first_content, NoLf}
 use Rattle.cj_stream.specs.Bound.{tree_size, tree_nest, is_spelled, is_readable}
 use Rattle.cj_stream.specs.Scanning.{Scanning, HasRoom, HasHeld, are_readable, Scanned, ScansNext, HoldsFew, HoldsFewNext, Rises, ScansLine, Forgets}
 use Rattle.cj_stream.specs.Meaning.Verdict.{is_blank_byte}

@@ -4,7 +4,7 @@ use Rattle.std.specs.Prelude.{option_map, unwrap_or}
 use Rattle.std.specs.List.{flat_map}
 use Rattle.cj_stream.specs.declared.ending.End.{End}
 use Rattle.cj_stream.specs.declared.ending.End.TheVariants.{Complete}
-use Rattle.cj_stream.specs.Meaning.Item.{raw_item}
+use Rattle.cj_stream.specs.Items.{raw_item}
 use Rattle.cj_stream.specs.Meaning.Lines.{Line, ended_line, lines}
 use Rattle.cj_stream.specs.Lines.{NoLf}
 use Rattle.cj_stream.specs.Parts.{headed, moved_end}

@@ -1,7 +1,7 @@
 -- What stays of a reading, whatever comes of some bytes.
 use Rattle.std.proofs.Common.{◌≡◌, ◌+◌, inl, inr, Bool, true, false, Result, Ok, Err, arith, refl, ap, ◌∙◌}
 use Rattle.cj_stream.specs.declared.ending.End.{End}
-use Rattle.cj_stream.specs.Meaning.Item.{Item}
+use Rattle.cj_stream.specs.Items.{Item}
 use Rattle.cj_stream.specs.Meaning.Verdict.{Verdict, Invalid, Blank, LeftOut, Kept}
 use Rattle.cj_stream.specs.Reading.{Reading, Stays, Settles, JudgedAs}
 use Rattle.cj_stream.specs.Sink.{SinkLaw, with_sink}

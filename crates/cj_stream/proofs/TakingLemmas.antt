@@ -2,8 +2,8 @@
 use Rattle.std.proofs.Common.{◌≡◌, ℕ, true, List, [], ◌∷◌, ◌++◌, Result, Ok, Err}
 use Rattle.cj_stream.specs.declared.ending.End.{End}
 use Rattle.cj_stream.specs.Carrying.{FramerState, TakesAll, TakesSome}
-use Rattle.cj_stream.specs.Lines.{NoLf}
-use Rattle.cj_stream.specs.Meaning.Lines.{closed, newline}
+use Rattle.cj_stream.specs.Lines.{NoLf, closed}
+use Rattle.cj_stream.specs.Meaning.Lines.{newline}
 use Rattle.cj_stream.specs.Reading.{Settles, Stores, Unstored, is_lenient, judged_begun, told_verdict}
 use Rattle.cj_stream.specs.Scanning.{HoldsFewNext, ScansNext}
 use Rattle.cj_stream.specs.Sink.{SinkLaw, with_sink}

@@ -6,10 +6,9 @@ use Rattle.cj_spans.specs.Meaning.Tree.{Tree}
 use Rattle.cj_stream.specs.declared.sink.CountSink.{CountSink}
 use Rattle.cj_stream.specs.declared.ending.End.{End}
 use Rattle.cj_stream.specs.declared.ending.End.TheVariants.{Complete, Refused, ReadFault, ReadLimit, WriteFault, Memory}
-use Rattle.cj_stream.specs.Meaning.Lines.{joined}
+use Rattle.cj_stream.specs.Lines.{joined, whole}
 use Rattle.cj_stream.specs.Cut.{PutsPieces, in_pieces}
-use Rattle.cj_stream.specs.Meaning.Item.{Item, is_feature}
-use Rattle.cj_stream.specs.Lines.{whole}
+use Rattle.cj_stream.specs.Items.{Item, is_feature}
 use Rattle.cj_stream.specs.Run.{Puts}
 use Rattle.cj_stream.specs.Meaning.Outputs.{Took}
 use Rattle.cj_stream.specs.Sink.{LeavesNext, never_fails}

@@ -12,8 +12,9 @@ use Rattle.cj_decimal.specs.Meaning.Number.{Number}
 use Rattle.cj_feature.specs.Meaning.Transform.{transform_values}
 use Rattle.cj_stream.specs.declared.ending.End.TheVariants.{Complete}
 use Rattle.cj_stream.specs.CountSink.{is_header}
-use Rattle.cj_stream.specs.Meaning.Item.{is_feature}
-use Rattle.cj_stream.specs.Meaning.Lines.{Line, ended_line, later_of}
+use Rattle.cj_stream.specs.Items.{is_feature}
+use Rattle.cj_stream.specs.Meaning.Lines.{Line, ended_line}
+use Rattle.cj_stream.specs.Lines.{later_of}
 use Rattle.cj_stream.specs.Parts.{headed, IsCut, wider, JoinsTallies}
 use Rattle.cj_stream.specs.Tallied.{capped, how_often, type_numbers, lod_classes, numbers_on, IsRange, beside, over_features}
 use Rattle.cj_stream.specs.TallySink.{Tally, last_shown, IsTallyOf}

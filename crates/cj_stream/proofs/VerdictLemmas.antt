@@ -19,7 +19,7 @@ use Rattle.cj_spans.specs.Meaning.Finding.{least}
 use Rattle.cj_spans.specs.Meaning.Least.{IsLeast}
 use Rattle.cj_spans.proofs.Findings.{least_only, fold_least}
 use Rattle.cj_stream.specs.Meaning.Lines.{Line}
-use Rattle.cj_stream.specs.Meaning.Item.{Item}
+use Rattle.cj_stream.specs.Items.{Item}
 use Rattle.cj_stream.specs.Meaning.Rules.{Rules}
 use Rattle.cj_stream.specs.Meaning.Verdict.{Invalid, Blank, LeftOut, Kept, is_blank_byte}
 use Rattle.cj_stream.specs.Verdict.{verdict_at, verdict, findings, is_kept_if_valid, by_least, tree_verdict, text_verdict, item_after, refusal_of, is_kept, refusal_from, kept_from}

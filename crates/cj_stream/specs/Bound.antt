@@ -8,7 +8,8 @@ use Rattle.cj_budget.specs.declared.limits.Peaks.{Peaks}
 use Rattle.cj_spans.specs.Meaning.Judgement.{Judgement, spelled, broken, sunk, judged_size, judged_nest}
 use Rattle.cj_spans.proofs.Judgements.{judgement}
 use Rattle.cj_stream.specs.Meaning.Bound.{of_first, greatest}
-use Rattle.cj_stream.specs.Meaning.Lines.{lines, later_of, first_content, raw}
+use Rattle.cj_stream.specs.Meaning.Lines.{lines, raw}
+use Rattle.cj_stream.specs.Lines.{later_of, first_content}
 use Rattle.cj_stream.specs.Meaning.Verdict.{is_blank_byte}
 
 -- no count is above the other's

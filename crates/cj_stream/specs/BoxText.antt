@@ -5,7 +5,7 @@ use Rattle.std.specs.List.{slice_split, list_all}
 use Rattle.cj_decimal.specs.Meaning.Class.{Class, no_number, out_of_range, not_whole, whole, value_by}
 use Rattle.cj_decimal.proofs.Classes.{class}
 use Rattle.cj_decimal.specs.Meaning.Number.{is_fixed}
-use Rattle.cj_feature.specs.Meaning.Transform.{units_in}
+use Rattle.cj_feature.specs.Axes.{units_in}
 use Rattle.cj_stream.specs.Meaning.Criteria.{Box, there_is}
 use Rattle.cj_stream.specs.declared.query.fault.QueryFault.{QueryFault}
 use Rattle.cj_stream.specs.declared.query.fault.QueryFault.TheVariants.{BadBox, BoxRange, EmptyBox}

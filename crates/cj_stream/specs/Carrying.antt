@@ -4,7 +4,7 @@ use Rattle.std.specs.Prelude.{◌<◌, ◌≤◌, List, ◌++◌, ℕ, Result, O
 use Rattle.cj_stream.specs.declared.ending.End.{End}
 use Rattle.cj_stream.specs.declared.ending.End.TheVariants.{WriteFault, Memory}
 use Rattle.cj_stream.specs.Bound.{contents}
-use Rattle.cj_stream.specs.Meaning.Lines.{closed, first_content}
+use Rattle.cj_stream.specs.Lines.{closed, first_content}
 use Rattle.cj_stream.specs.Reading.{Reading, IsSound, Stays, Reads, further, Advances, Stops, Finishes}
 use Rattle.cj_stream.specs.Scanning.{Scanning, Scanned, HoldsFew, HasRoom, IsReady, ListsFailToGrow, Rises}
 use Rattle.cj_stream.specs.Sink.{SinkLaw, WithSink, with_sink, HasRisen}

@@ -3,7 +3,7 @@ use Rattle.std.specs.Prelude.{ℕ, List, [], ◌∷◌, ◌++◌, Bool, true, fa
 use Rattle.cj_spans.specs.declared.reason.Reason.TheVariants.{NotReached}
 use Rattle.cj_feature.specs.Examples.{chain, part_apart, main_part}
 use Rattle.cj_stream.specs.declared.ending.End.TheVariants.{Complete, Refused}
-use Rattle.cj_stream.specs.Meaning.Criteria.{everything}
+use Rattle.cj_stream.specs.Usual.{everything}
 use Rattle.cj_stream.specs.Rows.{small_header, small_feature, Gives}
 use Rattle.cj_stream.specs.Meaning.Rules.{Rules}
 
@@ -12,7 +12,7 @@ abbrev pub choosing : Bool → Bool → Rules
 choosing tree exclude = record {
   limits = record { line = 8388608; depth = 64 };
   criteria = everything;
-  options = record { keep_going = false; tree = tree; exclude = exclude };
+  options = record { keep_going = false; all_reached = tree; exclude = exclude };
 }
 
 -- the header, and these lines

@@ -6,7 +6,7 @@ use Rattle.cj_stream.specs.declared.sink.CountSink.{CountSink}
 use Rattle.cj_stream.specs.declared.ending.End.{End}
 use Rattle.cj_stream.specs.declared.ending.End.TheVariants.{Complete, Refused, WriteFault, Memory}
 use Rattle.cj_stream.specs.Lines.{whole}
-use Rattle.cj_stream.specs.Meaning.Item.{Item, is_feature}
+use Rattle.cj_stream.specs.Items.{Item, is_feature}
 use Rattle.cj_stream.specs.Verdict.{Stream, kept, ending}
 use Rattle.cj_stream.specs.Cut.{InPieces, all_of, given_of, taken_of}
 

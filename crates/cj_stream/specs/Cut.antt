@@ -4,9 +4,9 @@ use Rattle.std.specs.Io.KnownBytes.{Appends}
 use Rattle.cj_stream.specs.declared.pieces.PiecesOutcome.{PiecesOutcome}
 use Rattle.cj_stream.specs.declared.ending.End.{End}
 use Rattle.cj_stream.specs.declared.ending.End.TheVariants.{Complete, Refused, ReadFault, ReadLimit, WriteFault, Memory}
-use Rattle.cj_stream.specs.Meaning.Lines.{closed, lines, joined}
-use Rattle.cj_stream.specs.Lines.{whole}
-use Rattle.cj_stream.specs.Meaning.Item.{Item}
+use Rattle.cj_stream.specs.Meaning.Lines.{lines}
+use Rattle.cj_stream.specs.Lines.{closed, joined, whole}
+use Rattle.cj_stream.specs.Items.{Item}
 use Rattle.cj_stream.specs.Meaning.Rules.{Rules}
 use Rattle.cj_stream.specs.Verdict.{refusal_in, judged, kept, ending, output, stretch}
 use Rattle.cj_stream.specs.Meaning.Bound.{IsBounded}

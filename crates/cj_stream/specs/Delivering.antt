@@ -3,7 +3,7 @@ use Rattle.std.specs.Prelude.{◌≡◌, Result, Ok, Err}
 use Rattle.cj_stream.specs.declared.desk.Dealt.{Dealt}
 use Rattle.cj_stream.specs.declared.desk.Dealt.TheVariants.{Kept, LeftOut, Blank, Refused}
 use Rattle.cj_stream.specs.declared.output.WriteFault.{WriteFault}
-use Rattle.cj_stream.specs.Meaning.Item.{Item}
+use Rattle.cj_stream.specs.Items.{Item}
 use Rattle.cj_stream.specs.Reading.{DueLine, JudgedAs}
 use Rattle.cj_stream.specs.Sink.{SinkLaw}
 use Rattle.cj_stream.specs.Meaning.Verdict.{Verdict, Invalid, Kept as KeptLine, LeftOut as LeftOutLine}

@@ -6,9 +6,9 @@ use Rattle.cj_budget.specs.declared.limits.Peaks.{Peaks}
 use Rattle.cj_stream.specs.declared.ending.End.{End}
 use Rattle.cj_stream.specs.declared.ending.End.TheVariants.{Complete, Refused, WriteFault, Memory}
 use Rattle.cj_stream.specs.Carrying.{FramerState}
-use Rattle.cj_stream.specs.Meaning.Lines.{Line, closed, lines, first_content}
-use Rattle.cj_stream.specs.Lines.{whole, begun_later}
-use Rattle.cj_stream.specs.Meaning.Item.{Item}
+use Rattle.cj_stream.specs.Meaning.Lines.{Line, lines}
+use Rattle.cj_stream.specs.Lines.{closed, first_content, whole, begun_later}
+use Rattle.cj_stream.specs.Items.{Item}
 use Rattle.cj_stream.specs.Meaning.Rules.{Rules}
 use Rattle.cj_stream.specs.Verdict.{refusal_in, judged, verdict, item_after, is_kept, good, ending, kept_first}
 use Rattle.cj_stream.specs.Verdict.{features_first, reported_first, UpTo, up_to, Stretch}

@@ -7,7 +7,7 @@ use Rattle.cj_feature.specs.declared.header.Header.{Header}
 use Rattle.cj_feature.specs.declared.feature.Feature.{Feature}
 use Rattle.cj_feature.specs.HeaderView.{header_tree, header_line}
 use Rattle.cj_feature.specs.View.{feature_tree, feature_line, feature_header}
-use Rattle.cj_stream.specs.Meaning.Item.{Item}
+use Rattle.cj_stream.specs.Items.{Item}
 use Rattle.cj_stream.specs.Meaning.Lines.{Line}
 
 -- the item that a header is, and the one that a feature is, with or without LF

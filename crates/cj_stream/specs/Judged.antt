@@ -1,10 +1,12 @@
 -- The lines of a stream with their verdicts, computed. The laws say that no other list of judged lines is theirs.
 use Rattle.std.specs.Prelude.{ℕ, ◌+◌, List, [], ◌∷◌, not, ◌&&◌, if◌then◌else◌, Option, Some, None, unwrap_or}
+use Rattle.std.specs.List.{filter_map}
 use Rattle.cj_spans.specs.Meaning.Judgement.{Judgement, spelled, broken, sunk}
 use Rattle.cj_spans.specs.Meaning.Tree.{Tree, array, no_items}
 use Rattle.cj_spans.proofs.Judgements.{judgement}
 use Rattle.cj_stream.specs.Bound.{is_text}
-use Rattle.cj_stream.specs.Meaning.Judged.{JudgedLine}
+use Rattle.cj_stream.specs.Items.{Item}
+use Rattle.cj_stream.specs.Meaning.Judged.{JudgedLine, handled}
 use Rattle.cj_stream.specs.Meaning.Lines.{Line, lines}
 use Rattle.cj_stream.specs.Meaning.Rules.{Rules}
 use Rattle.cj_stream.specs.Meaning.Verdict.{Verdict, Invalid, Blank, LeftOut, Kept, is_blank}
@@ -45,6 +47,18 @@ judged_behind rules Kept None ls = []
 judged_behind rules (Invalid place reason) tree ls = []
 judged_behind rules Blank tree ls = []
 judged_behind rules LeftOut tree ls = []
+
+-- a kept line as what is put to a sink
+abbrev pub item_by : Line → Option Tree → Option Tree → Verdict → Option Item
+item_by line header (Some tree) Kept = Some (record { line = line; tree = tree; header = header })
+item_by line header tree verdict = None
+
+abbrev pub item_of : JudgedLine → Option Item
+item_of j = item_by j.line j.header j.tree j.verdict
+
+-- what is kept
+abbrev pub kept_in : Rules → List JudgedLine → List Item
+kept_in rules js = filter_map item_of (handled rules js)
 
 -- the lines of a text, and those of a stream
 abbrev pub judged_list : Rules → List Line → List JudgedLine

@@ -11,10 +11,9 @@ use Rattle.cj_feature.specs.ReachedMarks.{AreMarks}
 use Rattle.cj_feature.specs.Shown.{ArePartsOf, parts_box}
 use Rattle.cj_stream.specs.Meaning.Criteria.{needs_box}
 use Rattle.cj_stream.specs.Item.{tree_of}
-use Rattle.cj_stream.specs.Meaning.Options.{OptionSet}
+use Rattle.cj_stream.specs.Meaning.Rules.{OptionSet, Rules}
 use Rattle.cj_stream.specs.Reading.{Reading}
 use Rattle.cj_stream.specs.Scanning.{Scanning}
-use Rattle.cj_stream.specs.Meaning.Rules.{Rules}
 use Rattle.cj_stream.specs.Meaning.Verdict.{Invalid}
 use Rattle.cj_stream.specs.Verdict.{is_blank_line, verdict_at, tree_verdict}
 
@@ -37,7 +36,7 @@ pub record ShowsTree (c : List ℕ) (depth : ℕ) (tokens : List Token) : Type 0
 -- the tokens of a later line have the marks that its rules ask for: of the city objects that are reached, where each
 -- has to be
 abbrev pub HasMarks : List ℕ → LimitPair → OptionSet → List Token → Type 0
-HasMarks c limits options tokens = IsTrue options.tree → AreMarks (tree_of limits.depth c) c tokens
+HasMarks c limits options tokens = IsTrue options.all_reached → AreMarks (tree_of limits.depth c) c tokens
 
 -- parts of a header of this tree, read for a box where one is asked for
 pub record IsHeaderOf (t : Tree) (rules : Rules) (known : HeaderParts) : Type 0 where

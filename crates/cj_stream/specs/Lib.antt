@@ -22,6 +22,7 @@ pub mod Ids
 pub mod IsGood
 pub mod IsLines
 pub mod Item
+pub mod Items
 pub mod Judged
 pub mod Judging
 pub mod LinePieces
@@ -42,4 +43,5 @@ pub mod Sink
 pub mod Source
 pub mod Tallied
 pub mod TallySink
+pub mod Usual
 pub mod Verdict

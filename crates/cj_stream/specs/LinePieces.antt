@@ -9,11 +9,10 @@ use Rattle.cj_stream.specs.declared.pieces.PiecesOutcome.{PiecesOutcome}
 use Rattle.cj_stream.specs.declared.report_sink.Report.{Report}
 use Rattle.cj_stream.specs.Meaning.Bound.{IsBounded}
 use Rattle.cj_stream.specs.Bound.{IsExact}
-use Rattle.cj_stream.specs.Meaning.Lines.{joined}
+use Rattle.cj_stream.specs.Lines.{joined, whole}
 use Rattle.cj_stream.specs.Cut.{AppendsMore}
 use Rattle.cj_stream.specs.Ending.{line_end}
-use Rattle.cj_stream.specs.Meaning.Item.{Item, raw_item}
-use Rattle.cj_stream.specs.Lines.{whole}
+use Rattle.cj_stream.specs.Items.{Item, raw_item}
 use Rattle.cj_stream.specs.Meaning.Headline.{Fate}
 use Rattle.cj_stream.specs.Meaning.Outputs.{Outputs, Took}
 use Rattle.cj_stream.specs.Sink.{SinkLaw, prefixes, TookFront, LeavesNext, AppendsPart, HasRisen}
@@ -94,9 +93,9 @@ pub record CopiesLines (later : LaterPieces) (outcome : LinesOutcome) (old new :
 pub record HeadlineOfLines {N : Type 0} (notes : N → Report → N → Type 0) (n : ℕ) (fate : Fate LineEnd)
     (old new : Outputs N) : Type 0 where
   pub writes : fate.end ≢ WriteFault
-      → Appends old.channel.bytes new.channel.bytes (output_after fate.rules n fate.text)
+      → Appends old.bytes new.bytes (output_after fate.rules n fate.text)
   pub gives : fate.end ≢ WriteFault → Took notes old.reports (reported_after fate.rules n fate.text) new.reports
   pub ends : fate.end ≢ WriteFault → line_end fate.end ≡ ending fate.rules fate.text
-  pub cause : fate.end ≡ WriteFault → HasRisen old.channel.failures new.channel.failures
+  pub cause : fate.end ≡ WriteFault → HasRisen old.failures new.failures
   pub held : IsBounded fate.rules.limits fate.given fate.peaks
   pub exact : fate.end ≡ Complete → IsExact fate.rules.limits fate.text fate.peaks

@@ -1,10 +1,8 @@
 pub mod Bound
 pub mod Criteria
 pub mod Headline
-pub mod Item
 pub mod Judged
 pub mod Lines
-pub mod Options
 pub mod Outputs
 pub mod Rules
 pub mod Verdict

@@ -3,8 +3,8 @@ use Rattle.std.specs.Prelude.{ℕ, List, Option, Result}
 use Rattle.std.specs.Io.KnownBytes.{Appends}
 use Rattle.cj_stream.specs.declared.output.Output.{Output}
 use Rattle.cj_stream.specs.declared.output.WriteFault.{WriteFault}
-use Rattle.cj_stream.specs.Meaning.Item.{raw_item}
-use Rattle.cj_stream.specs.Meaning.Outputs.{Channel}
+use Rattle.cj_stream.specs.Items.{raw_item}
+use Rattle.cj_stream.specs.Meaning.Outputs.{Outputs}
 use Rattle.cj_stream.specs.Sink.{SinkLaw, AppendsPart}
 
 -- the writer
@@ -18,6 +18,17 @@ output_failures o = o.failures
 -- what its last flush answered, if nothing was written since
 abbrev pub flush_answer : {W : Type 0} → Output W → Option (Result (Unit {0}) WriteFault)
 flush_answer o = o.noted
+
+-- what is known of a writer: the bytes that it got, if it tells them, how often a write failed, and what the last flush
+-- answered, if nothing was written since
+pub record Channel : Type 0 where
+  pub bytes : Option (List ℕ)
+  pub failures : ℕ
+  pub flushed : Option (Result (Unit {0}) WriteFault)
+
+-- a writer beside a sink of reports
+abbrev pub outputs : {N : Type 0} → Channel → N → Outputs N
+outputs c reports = record { bytes = c.bytes; failures = c.failures; reports = reports }
 
 -- what is known of an output: what its writer tells, and what its calls have answered
 abbrev pub channel : {W : Type 0} → (W → Option (List ℕ)) → Output W → Channel

@@ -4,8 +4,7 @@ use Rattle.cj_budget.specs.Meaning.Limits.{LimitPair}
 use Rattle.cj_stream.specs.declared.query.Query.{Query}
 use Rattle.cj_stream.specs.declared.query.bounds.Bounds.{Bounds}
 use Rattle.cj_stream.specs.Meaning.Criteria.{Criteria, Box}
-use Rattle.cj_stream.specs.Meaning.Options.{OptionSet}
-use Rattle.cj_stream.specs.Meaning.Rules.{Rules}
+use Rattle.cj_stream.specs.Meaning.Rules.{OptionSet, Rules}
 
 -- the box of these bounds
 abbrev pub box_of : Bounds → Box

@@ -5,7 +5,8 @@ use Rattle.std.specs.Prelude.{slice_set}
 use Rattle.cj_spans.specs.declared.token.Kind.TheVariants.{Number, Text}
 use Rattle.cj_spans.specs.Meaning.Tree.{Tree, Atom, Items, Members, scalar, array, object, no_items, item, no_members}
 use Rattle.cj_spans.specs.Meaning.Tree.{member}
-use Rattle.cj_stream.specs.Meaning.Criteria.{Criteria, Box, everything, holds}
+use Rattle.cj_stream.specs.Meaning.Criteria.{Criteria, Box, holds}
+use Rattle.cj_stream.specs.Usual.{everything}
 use Rattle.cj_stream.specs.Adding.{no_types}
 
 -- ---- trees

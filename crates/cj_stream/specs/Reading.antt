@@ -12,9 +12,9 @@ use Rattle.cj_stream.specs.declared.store.Store.{Store}
 use Rattle.cj_spans.specs.declared.reason.Reason.TheVariants.{NoHeader, LineTooLong}
 use Rattle.cj_stream.specs.declared.ending.End.{End}
 use Rattle.cj_stream.specs.declared.ending.End.TheVariants.{Refused, WriteFault, Memory}
-use Rattle.cj_stream.specs.Meaning.Lines.{Line, lines, closed, begun, ended_line, first_content, later_of}
-use Rattle.cj_stream.specs.Lines.{begun_later}
-use Rattle.cj_stream.specs.Meaning.Item.{Item, is_feature}
+use Rattle.cj_stream.specs.Meaning.Lines.{Line, lines, ended_line}
+use Rattle.cj_stream.specs.Lines.{closed, begun, first_content, later_of, begun_later}
+use Rattle.cj_stream.specs.Items.{Item, is_feature}
 use Rattle.cj_stream.specs.Item.{tree_of, item_at}
 use Rattle.cj_stream.specs.Query.{rules_for}
 use Rattle.cj_stream.specs.Meaning.Rules.{Rules}

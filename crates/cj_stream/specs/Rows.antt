@@ -4,8 +4,7 @@ use Rattle.cj_spans.specs.declared.reason.Reason.TheVariants.{NoHeader, LineTooL
 use Rattle.cj_spans.specs.declared.reason.Reason.TheVariants.{MissingMember, IdNotFound}
 use Rattle.cj_stream.specs.declared.ending.End.{End}
 use Rattle.cj_stream.specs.declared.ending.End.TheVariants.{Complete, Refused}
-use Rattle.cj_stream.specs.Meaning.Criteria.{everything}
-use Rattle.cj_stream.specs.Meaning.Options.{usual_options}
+use Rattle.cj_stream.specs.Usual.{everything, usual_options}
 use Rattle.cj_stream.specs.Meaning.Rules.{Rules}
 use Rattle.cj_stream.specs.Verdict.{output, ending}
 

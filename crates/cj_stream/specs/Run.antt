@@ -3,25 +3,30 @@ use Rattle.std.specs.Prelude.{◌≡◌, ◌⊎◌, ℕ, ◌*◌, ◌<◌, ◌�
 use Rattle.std.specs.Prelude.{slice_get}
 use Rattle.std.specs.List.{filter}
 use Rattle.std.specs.Io.KnownBytes.{Appends, Keeps}
+use Rattle.cj_budget.specs.declared.limits.Peaks.{Peaks}
 use Rattle.cj_stream.specs.declared.ending.End.{End}
 use Rattle.cj_stream.specs.declared.ending.End.TheVariants.{Complete, Refused, ReadFault, ReadLimit, WriteFault, Memory}
 use Rattle.cj_stream.specs.declared.report_sink.Report.{Report}
 use Rattle.cj_stream.specs.declared.running.Outcome.{Outcome}
 use Rattle.cj_stream.specs.Meaning.Lines.{Line, lines, raw}
 use Rattle.cj_stream.specs.Lines.{whole}
-use Rattle.cj_stream.specs.Meaning.Item.{is_feature}
+use Rattle.cj_stream.specs.Items.{is_feature}
 use Rattle.cj_stream.specs.Meaning.Rules.{Rules}
 use Rattle.cj_stream.specs.Verdict.{refusal_in, judged, good, is_kept, kept, ending, output, output_first, reported}
 use Rattle.cj_stream.specs.Verdict.{verdict, Stream, stream_of, UpTo, stretch}
 use Rattle.cj_stream.specs.Bound.{IsBelow, IsExact, exact_peaks, first_lines}
 use Rattle.cj_stream.specs.Meaning.Bound.{IsBounded}
 use Rattle.cj_stream.specs.Cut.{IsUnread}
-use Rattle.cj_stream.specs.Meaning.Headline.{Headline, fate_of}
+use Rattle.cj_stream.specs.Meaning.Headline.{Fate, Headline}
 use Rattle.cj_stream.specs.Engine.{EngineState, Counts, Delivers, lines_of, refused_of, peaks_of}
 use Rattle.cj_stream.specs.Reading.{LacksMemory}
 use Rattle.cj_stream.specs.ReportSink.{Notes, NotesRun}
 use Rattle.cj_stream.specs.Sink.{SinkLaw, prefixes, TookFront, LeavesNext, AppendsPart}
 use Rattle.cj_stream.specs.Meaning.Outputs.{Outputs, Took}
+
+-- what became of a stream
+abbrev pub fate_of : {E : Type 0} → Rules → List ℕ → List ℕ → E → Peaks → Fate E
+fate_of rules text given end peaks = record { rules = rules; text = text; given = given; end = end; peaks = peaks }
 
 -- a run: the rules that its lines are judged by, the bytes that it read, and how it went
 pub record Run : Type 0 where
@@ -158,7 +163,7 @@ pub record StopsUnread {N : Type 0} (run : Run) (old new : Outputs N) : Type 0 w
   pub ended : run.outcome.ended ≡ Memory
   pub unread : run.read ≡ []
   pub peaks : run.outcome.peaks ≡ record { bytes = 0; tokens = 0; depth = 0 }
-  pub unwritten : Keeps old.channel.bytes new.channel.bytes
+  pub unwritten : Keeps old.bytes new.bytes
   pub unreported : new.reports ≡ old.reports
 
 -- The headline of a run over the bytes that a reader gave, unless a read failed or the reads ran out. It is that of

@@ -11,7 +11,7 @@ use Rattle.cj_spans.specs.declared.token.Token.{Token}
 use Rattle.cj_spans.specs.Meaning.Judgement.{judged_size, judged_nest}
 use Rattle.cj_spans.proofs.Judgements.{judgement}
 use Rattle.cj_stream.specs.declared.desk.Desk.{Desk}
-use Rattle.cj_stream.specs.Meaning.Lines.{closed, first_of, later_of}
+use Rattle.cj_stream.specs.Lines.{closed, first_of, later_of}
 use Rattle.cj_stream.specs.Reading.{Reading, IsBegun}
 use Rattle.cj_stream.specs.Bound.{tree_size, tree_nest, is_readable}
 use Rattle.cj_stream.specs.Meaning.Bound.{of_first, greatest}

@@ -1,7 +1,7 @@
 -- The law of a sink, and what its calls do to it, one after another.
 use Rattle.std.specs.Prelude.{◌≡◌, ℕ, List, [], ◌∷◌, ◌++◌, Option, Result, Ok, Err}
 use Rattle.std.specs.Io.KnownBytes.{Appends}
-use Rattle.cj_stream.specs.Meaning.Item.{Item}
+use Rattle.cj_stream.specs.Items.{Item}
 use Rattle.cj_stream.specs.Meaning.Outputs.{Took}
 pub use Rattle.cj_budget.specs.Meaning.Counts.{HasRisen}
 pub use Rattle.cj_budget.specs.Counts.{counted}

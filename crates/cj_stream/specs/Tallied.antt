@@ -10,9 +10,10 @@ use Rattle.cj_geometry.specs.Meaning.Lod.{lod}
 use Rattle.cj_geometry.specs.Meaning.ObjectTypes.{ObjectRow}
 use Rattle.cj_geometry.specs.ObjectTypes.{type_count}
 use Rattle.cj_feature.specs.Meaning.Feature.{templates_of}
-use Rattle.cj_feature.specs.Meaning.CityObject.{type_row, number_on, object_geometries}
+use Rattle.cj_feature.specs.Meaning.CityObject.{type_row, object_geometries}
+use Rattle.cj_feature.specs.Axes.{number_on}
 use Rattle.cj_stream.specs.Meaning.Criteria.{objects_of, vertices_of}
-use Rattle.cj_stream.specs.Meaning.Item.{Item}
+use Rattle.cj_stream.specs.Items.{Item}
 
 -- ---- counts
 

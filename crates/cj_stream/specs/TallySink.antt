@@ -11,7 +11,7 @@ use Rattle.cj_geometry.specs.ObjectTypes.{type_count}
 use Rattle.cj_stream.specs.declared.ending.End.{End}
 use Rattle.cj_stream.specs.declared.ending.End.TheVariants.{Complete, Refused, WriteFault, Memory}
 use Rattle.cj_stream.specs.Cut.{InPieces, all_of, given_of, taken_of}
-use Rattle.cj_stream.specs.Meaning.Item.{Item, is_feature}
+use Rattle.cj_stream.specs.Items.{Item, is_feature}
 use Rattle.cj_stream.specs.Lines.{whole}
 use Rattle.cj_stream.specs.CountSink.{one_more, is_header, how_many}
 use Rattle.cj_stream.specs.Tallied.{IsRange, capped, class_count, how_often, lod_classes, numbers_on, over_features}

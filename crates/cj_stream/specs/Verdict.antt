@@ -18,8 +18,9 @@ use Rattle.cj_stream.specs.declared.ending.End.{End}
 use Rattle.cj_stream.specs.declared.ending.End.TheVariants.{Complete, Refused}
 use Rattle.cj_stream.specs.declared.report_sink.Report.{Report}
 use Rattle.cj_stream.specs.Meaning.Criteria.{needs_box, holds}
-use Rattle.cj_stream.specs.Meaning.Lines.{Line, lines, closed, begun, ended_line, last_line}
-use Rattle.cj_stream.specs.Meaning.Item.{Item, raw_item, is_feature}
+use Rattle.cj_stream.specs.Meaning.Lines.{Line, lines, ended_line}
+use Rattle.cj_stream.specs.Lines.{closed, begun, last_line}
+use Rattle.cj_stream.specs.Items.{Item, raw_item, is_feature}
 use Rattle.cj_stream.specs.Item.{tree_of, item_at}
 use Rattle.cj_stream.specs.Meaning.Rules.{Rules}
 use Rattle.cj_stream.specs.Meaning.Verdict.{Verdict, Invalid, Blank, LeftOut, Kept, is_blank_byte}
@@ -32,7 +33,7 @@ is_blank_line number content = nat_lt 1 number && list_all is_blank_byte content
 -- of which each city object has to be reached where that is told
 abbrev pub findings : Rules → ℕ → Tree → Tree → List Finding
 findings rules number header t =
-    if number == 1 then header_findings (needs_box rules.criteria) t else feature_findings header t rules.options.tree
+    if number == 1 then header_findings (needs_box rules.criteria) t else feature_findings header t rules.options.all_reached
 
 -- a feature is asked for that satisfies what is asked, or, where such are left out, one that does not
 abbrev pub is_asked : Rules → Tree → Tree → Bool

@@ -20,22 +20,22 @@ ghost use Rattle.cj_stream.specs.Bound.{IsExact, exact_peaks};
 ghost use Rattle.cj_stream.specs.CountReports.{count_of, no_reports, CountsReportsOfRun};
 ghost use Rattle.cj_stream.specs.CountReports.{CountsReportsOfPieces};
 ghost use Rattle.cj_stream.specs.CountSink.{no_counts, Counts, CountsRun, CountsPieces};
-ghost use Rattle.cj_stream.specs.Meaning.Lines.{joined, Line, ended_line, later_of, lines};
+ghost use Rattle.cj_stream.specs.Meaning.Lines.{Line, ended_line, lines};
+ghost use Rattle.cj_stream.specs.Lines.{joined, later_of, NoLf, whole};
 ghost use Rattle.cj_stream.specs.Cut.{Copies, PutsPieces, InPieces};
 ghost use Rattle.cj_stream.specs.Ending.{line_end};
-ghost use Rattle.cj_stream.specs.Judged.{judged_lines};
+ghost use Rattle.cj_stream.specs.Judged.{judged_lines, kept_in};
 ghost use Rattle.cj_stream.specs.Run.{HeadlineOfRun, Account, LacksRoom, Puts, Run, Runs, RunsNoting, Writes};
 ghost use Rattle.cj_stream.specs.Run.{WritesLines};
 ghost use Rattle.cj_stream.specs.Meaning.Bound.{HasPeaks};
 ghost use Rattle.cj_stream.specs.Meaning.Headline.{Fate, Headline, IsUnhindered, RefusedMemory};
-ghost use Rattle.cj_stream.specs.Meaning.Judged.{JudgedLine, AreJudged, handled, kept_in, output_in};
+ghost use Rattle.cj_stream.specs.Meaning.Judged.{JudgedLine, AreJudged, handled, output_in};
 ghost use Rattle.cj_stream.specs.Meaning.Judged.{reported_in, ending_in};
-ghost use Rattle.cj_stream.specs.Meaning.Outputs.{Outputs, outputs, Took};
+ghost use Rattle.cj_stream.specs.Meaning.Outputs.{Outputs, Took};
+ghost use Rattle.cj_stream.specs.Output.{outputs, output_writer, output_failures, channel, output_law};
 ghost use Rattle.cj_stream.specs.IsGood.{AreGood, EndsAfter};
 ghost use Rattle.cj_stream.specs.IsLines.{IsLines, IsWhole};
-ghost use Rattle.cj_stream.specs.Meaning.Item.{is_feature};
-ghost use Rattle.cj_stream.specs.Lines.{NoLf, whole};
-ghost use Rattle.cj_stream.specs.Output.{output_writer, output_failures, channel, output_law};
+ghost use Rattle.cj_stream.specs.Items.{is_feature};
 ghost use Rattle.cj_stream.specs.Parts.{headed, IsCut, AreComplete, moved_end, moved_line, moved_report};
 ghost use Rattle.cj_stream.specs.Parts.{greater_peaks};
 ghost use Rattle.cj_stream.specs.Parts.{JoinsTallies};
@@ -92,7 +92,7 @@ pub fn judged_lines_tell_all()
 /// few that are handled, or no reports.
 pub fn headlines_tell_all<N: ReportSink>()
     ensures writes { (fate : Fate End) (old new : Outputs N) → Headline N.notes fate old new → IsUnhindered fate.end
-        → Appends old.channel.bytes new.channel.bytes (output fate.rules fate.text) }
+        → Appends old.bytes new.bytes (output fate.rules fate.text) }
     ensures gives { (fate : Fate End) (old new : Outputs N) → Headline N.notes fate old new → IsUnhindered fate.end
         → Took N.notes old.reports (reported fate.rules fate.text) new.reports }
     ensures ends { (fate : Fate End) (old new : Outputs N) → Headline N.notes fate old new → IsUnhindered fate.end

@@ -3,19 +3,17 @@
 //! It says of the bytes after the header what `pieces` says of a whole stream. It has no case for a
 //! lack of memory.
 ghost use Rattle.std.specs.Prelude.{◌≡◌, ◌+◌, ◌++◌, ◌≤◌, ◌^◌, ℕ, List, None, Some, length, map, take};
-ghost use Rattle.cj_stream.specs.Meaning.Lines.{joined};
+ghost use Rattle.cj_stream.specs.Lines.{joined};
 ghost use Rattle.cj_stream.specs.Cut.{TookWhole, Fed, in_pieces, given_after};
 ghost use Rattle.cj_stream.specs.Ending.{line_end};
 ghost use Rattle.cj_stream.specs.Engine.{Delivers, StandsFor, rules_of, lines_of};
 ghost use Rattle.cj_stream.specs.LinePieces.{pieces_outcome, PutsLines, NotesLines, CopiesLines};
 ghost use Rattle.cj_stream.specs.LinePieces.{HeadlineOfLines, later_pieces};
-ghost use Rattle.cj_stream.specs.Output.{output_writer, channel, output_law};
+ghost use Rattle.cj_stream.specs.Output.{output_writer, channel, output_law, outputs};
 ghost use Rattle.cj_stream.specs.ReportSink.{Notes};
-ghost use Rattle.cj_stream.specs.Run.{Ends};
+ghost use Rattle.cj_stream.specs.Run.{Ends, fate_of};
 ghost use Rattle.cj_stream.specs.Sink.{HasRisen};
 ghost use Rattle.cj_stream.specs.Verdict.{stretch};
-ghost use Rattle.cj_stream.specs.Meaning.Headline.{fate_of};
-ghost use Rattle.cj_stream.specs.Meaning.Outputs.{outputs};
 
 use crate::ending::LineEnd;
 use crate::line_reader::LineReader;

@@ -1,6 +1,6 @@
 //! How a stream is read and judged, in addition to the limits and the query.
 ghost use Rattle.std.specs.Prelude.{◌≡◌};
-ghost use Rattle.cj_stream.specs.Meaning.Options.{usual_options};
+ghost use Rattle.cj_stream.specs.Usual.{usual_options};
 
 use std::marker::Model;
 
@@ -16,13 +16,13 @@ pub struct Options {
 }
 
 impl Model for Options {
-    ghost use Rattle.cj_stream.specs.Meaning.Options.{OptionSet};
+    ghost use Rattle.cj_stream.specs.Meaning.Rules.{OptionSet};
 
     ghost Value = { OptionSet };
 
-    ghost view = { λ o. record { keep_going = o.keep_going; tree = o.tree; exclude = o.exclude } };
+    ghost view = { λ o. record { keep_going = o.keep_going; all_reached = o.tree; exclude = o.exclude } };
 
-    ghost inverse = { λ o. record { keep_going = o.keep_going; tree = o.tree; exclude = o.exclude } };
+    ghost inverse = { λ o. record { keep_going = o.keep_going; tree = o.all_reached; exclude = o.exclude } };
 }
 
 impl Options {
@@ -51,7 +51,7 @@ impl Options {
     /// Sets whether each city object of a feature must be reached from the main city object,
     /// through lists of `children`. The feature's `id` names the main city object.
     pub fn tree(self, on: bool) -> Options
-        ensures { result ≡ record self { tree = on } }
+        ensures { result ≡ record self { all_reached = on } }
     {
         Options { tree: on, ..self }
     }
@@ -76,7 +76,7 @@ impl Options {
 
     /// Returns whether each city object must be reached.
     pub fn asks_for_trees(self) -> bool
-        ensures { result ≡ self.tree }
+        ensures { result ≡ self.all_reached }
     {
         self.tree
     }

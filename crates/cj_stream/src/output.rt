@@ -9,7 +9,7 @@
 ghost use Rattle.std.specs.Prelude.{◌≡◌, ◌≤◌, None, Some, OnOk, OnErr};
 ghost use Rattle.std.specs.Io.KnownBytes.{Appends, Keeps};
 ghost use Rattle.cj_stream.specs.Device.{taken_by, flushed_by};
-ghost use Rattle.cj_stream.specs.Meaning.Item.{raw_item};
+ghost use Rattle.cj_stream.specs.Items.{raw_item};
 ghost use Rattle.cj_stream.specs.Item.{header_item, feature_item};
 ghost use Rattle.cj_stream.specs.Meaning.Lines.{raw};
 ghost use Rattle.cj_stream.specs.Sink.{HasRisen, RisesOnErr, AppendsPart, counted};

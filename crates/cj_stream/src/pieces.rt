@@ -2,14 +2,14 @@
 //!
 //! What is held does not depend on the cut, as each line is put together in the engine's own list.
 ghost use Rattle.std.specs.Prelude.{◌≡◌, ◌+◌, ◌≤◌, ◌^◌, [], Some, length, map, take};
-ghost use Rattle.cj_stream.specs.Meaning.Lines.{joined};
+ghost use Rattle.std.specs.List.{concat};
+ghost use Rattle.cj_stream.specs.Lines.{joined};
 ghost use Rattle.cj_stream.specs.Cut.{Copies, PutsPieces, TookWhole, Fed, in_pieces, given_after};
 ghost use Rattle.cj_stream.specs.Engine.{Delivers, HasFailedToGrow, IsFresh, rules_of, lines_of};
-ghost use Rattle.cj_stream.specs.Meaning.Headline.{Headline, IsUnhindered, fate_of};
-ghost use Rattle.cj_stream.specs.Meaning.Outputs.{outputs};
-ghost use Rattle.cj_stream.specs.Output.{output_writer, channel, output_law};
-ghost use Rattle.cj_stream.specs.ReportSink.{Notes, NotesPieces};
+ghost use Rattle.cj_stream.specs.Meaning.Headline.{Headline, IsUnhindered};
 ghost use Rattle.cj_stream.specs.Run.{CountsAll, Ends, outcome_of};
+ghost use Rattle.cj_stream.specs.Output.{outputs, output_writer, channel, output_law};
+ghost use Rattle.cj_stream.specs.ReportSink.{Notes, NotesPieces};
 ghost use Rattle.cj_stream.specs.Sink.{HasRisen};
 ghost use Rattle.cj_stream.specs.Verdict.{stretch};
 
@@ -141,11 +141,16 @@ pub fn headline<W: Write + Drop, N: ReportSink>(
     reports: &mut N,
 ) -> PiecesOutcome
     requires fresh { IsFresh engine.old }
-    requires short { length (joined (map (λ piece. piece.now) pieces.now)) ≤ 2 ^ 60 }
+    requires short { length (concat (map (λ piece. piece.now) pieces.now)) ≤ 2 ^ 60 }
     ensures headline { let cut = map (λ piece. piece.now) pieces.now in
-        Headline N.notes (fate_of (rules_of engine.old) (joined cut) (joined (take (result.taken + 1) cut)) result.ended
-        result.peaks) (outputs (channel W.contents sink.old) reports.old)
-        (outputs (channel W.contents sink.new) reports.new) }
+        Headline N.notes (record {
+          rules = rules_of engine.old;
+          text = concat cut;
+          given = concat (take (result.taken + 1) cut);
+          end = result.ended;
+          peaks = result.peaks;
+        })
+        (outputs (channel W.contents sink.old) reports.old) (outputs (channel W.contents sink.new) reports.new) }
     ensures fed { Fed (rules_of engine.old) [] (map (λ piece. piece.now) pieces.now) result engine.new }
     ensures copies { Copies (in_pieces (rules_of engine.old) (map (λ piece. piece.now) pieces.now) result.taken)
         result.ended (W.contents (output_writer sink.old)) (W.contents (output_writer sink.new)) }

@@ -3,7 +3,8 @@ ghost use Rattle.std.specs.Prelude.{◌≡◌, true, Some, Ok, Err, [], IfErr, O
 ghost use Rattle.cj_spans.specs.Meaning.Tree.{Tree};
 ghost use Rattle.cj_feature.specs.HeaderView.{header_tree, has_box};
 ghost use Rattle.cj_feature.specs.View.{feature_tree};
-ghost use Rattle.cj_stream.specs.Meaning.Criteria.{everything, if_set, needs_box, has_id as id_holds};
+ghost use Rattle.cj_stream.specs.Meaning.Criteria.{if_set, needs_box, has_id as id_holds};
+ghost use Rattle.cj_stream.specs.Usual.{everything};
 ghost use Rattle.cj_stream.specs.Meaning.Criteria.{has_type as type_holds, has_lod as lod_holds};
 ghost use Rattle.cj_stream.specs.Meaning.Criteria.{is_in as in_box, holds as satisfies};
 ghost use Rattle.cj_geometry.specs.ObjectTypes.{row_named};

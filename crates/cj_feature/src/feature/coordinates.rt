@@ -1,8 +1,9 @@
 //! The coordinates of a feature's vertices on one axis, in order.
-ghost use Rattle.std.specs.Prelude.{◌≡◌, ◌<◌, true, map};
+ghost use Rattle.std.specs.Prelude.{◌≡◌, ◌<◌, None, Some, get_or, true, map};
 ghost use Rattle.std.specs.List.{list_all};
 ghost use Rattle.cj_spans.specs.View.{tree, items_left};
-ghost use Rattle.cj_feature.specs.Meaning.CityObject.{vertex_of, number_on};
+ghost use Rattle.cj_feature.specs.Meaning.CityObject.{vertex_of};
+ghost use Rattle.cj_feature.specs.Axes.{number_on};
 ghost use Rattle.cj_feature.specs.inner.Typed.{is_vertex};
 
 use crate::feature::vertices::next_whole;
@@ -39,7 +40,9 @@ impl<'a> Coordinates<'a> {
     pub(crate) fn over(items: Items<'a>, axis: usize) -> Coordinates<'a>
         requires whole { list_all is_vertex (items_left items) ≡ true }
         requires on_an_axis { axis < 3 }
-        ensures { coordinates_left result ≡ map (number_on axis) (map vertex_of (items_left items.entry)) }
+        ensures numbers { coordinates_left result ≡ map (number_on axis) (map vertex_of (items_left items.entry)) }
+        ensures there { map Some (coordinates_left result)
+            ≡ map (λ v. get_or v axis None) (map vertex_of (items_left items.entry)) }
     {
         Coordinates { items, axis }
     }

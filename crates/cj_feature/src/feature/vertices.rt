@@ -4,7 +4,8 @@ ghost use Rattle.std.specs.List.{list_all};
 ghost use Rattle.cj_spans.specs.View.{tree, items_left};
 ghost use Rattle.cj_decimal.specs.Word.{IsWordOf};
 ghost use Rattle.cj_geometry.specs.Meaning.Numbers.{whole_of};
-ghost use Rattle.cj_feature.specs.Meaning.CityObject.{vertex_of, number_on};
+ghost use Rattle.cj_feature.specs.Meaning.CityObject.{vertex_of};
+ghost use Rattle.cj_feature.specs.Axes.{number_on};
 ghost use Rattle.cj_feature.specs.inner.Typed.{is_vertex, begins_whole};
 
 use cj_geometry::rule::{read_whole, read_whole_word};

@@ -16,7 +16,7 @@ ghost use Rattle.cj_geometry.specs.Meaning.Rule.{needs, of_length};
 ghost use Rattle.cj_feature.specs.Meaning.Feature.{templates_of};
 ghost use Rattle.cj_decimal.specs.Meaning.Number.{is_fixed, units_of};
 ghost use Rattle.cj_feature.specs.Meaning.Header.{header};
-ghost use Rattle.cj_feature.specs.Meaning.Transform.{first_maps};
+ghost use Rattle.cj_feature.specs.Axes.{first_maps};
 ghost use Rattle.cj_feature.specs.Shown.{are_fixed, parts_box, ArePartsOf};
 
 use cj_decimal::{Affine, Decimal};

@@ -1,19 +1,25 @@
 -- The most that may be held, and how much was held at most.
-use Rattle.std.specs.Prelude.{◌≡◌, ℕ, ◌+◌, ◌/◌, ◌≤◌, List, [], ◌∷◌, Bool, true, false, ◌||◌, length, max, min, Option, Some, None}
-use Rattle.std.specs.Prelude.{is_some}
+use Rattle.std.specs.Prelude.{◌≡◌, ℕ, ◌+◌, ◌/◌, ◌≤◌, List, [], ◌∷◌, Bool, true, false, ◌||◌, length, max, min, Option}
+use Rattle.std.specs.Prelude.{drop, is_some}
 use Rattle.std.specs.List.{list_all}
+use Rattle.std.specs.Option.{option_map_or}
 use Rattle.cj_budget.specs.Meaning.Limits.{LimitPair}
 use Rattle.cj_budget.specs.declared.limits.Peaks.{Peaks}
 use Rattle.cj_spans.specs.Meaning.Tree.{Tree, size, nest}
 use Rattle.cj_stream.specs.Meaning.Judged.{JudgedLine}
-use Rattle.cj_stream.specs.Meaning.Lines.{first_content, later_of}
-use Rattle.cj_stream.specs.Meaning.Verdict.{Verdict, Invalid, Blank, LeftOut, Kept}
+use Rattle.cj_stream.specs.Meaning.Lines.{Line, lines}
+use Rattle.cj_stream.specs.Meaning.Verdict.{Verdict, Blank}
+
+-- a measure of the first of some things, or 0
+abbrev pub of_first : {X : Type 0} → (X → ℕ) → List X → ℕ
+of_first measure [] = 0
+of_first measure (x ∷ xs) = measure x
 
 -- ---- the bound
 
 -- the bytes of a stream's first line, cut at the line limit
 abbrev pub first_bytes : LimitPair → List ℕ → ℕ
-first_bytes limits s = min (length (first_content s)) limits.line
+first_bytes limits s = min (of_first (λ (l : Line). length l.content) (lines s)) limits.line
 
 -- the bytes of the first line, and those of one line more
 abbrev pub bytes_bound : LimitPair → List ℕ → ℕ
@@ -31,11 +37,6 @@ pub record IsBounded (limits : LimitPair) (s : List ℕ) (peaks : Peaks) : Type 
 
 -- ---- the peaks of a complete stream, by its judged lines
 
--- a measure of the first of some things, or 0
-abbrev pub of_first : {X : Type 0} → (X → ℕ) → List X → ℕ
-of_first measure [] = 0
-of_first measure (x ∷ xs) = measure x
-
 -- the greatest measure of some things, or 0
 abbrev pub greatest : {X : Type 0} → (X → ℕ) → List X → ℕ
 greatest measure [] = 0
@@ -50,27 +51,23 @@ held_bytes limits j = min (line_bytes j) limits.line
 
 -- the values and names of a tree, and the most containers that are open in it; or 0 where there is none
 abbrev pub size_if : Option Tree → ℕ
-size_if None = 0
-size_if (Some t) = size t
+size_if t = option_map_or size t 0
 
 abbrev pub nest_if : Option Tree → ℕ
-nest_if None = 0
-nest_if (Some t) = nest t
+nest_if t = option_map_or nest t 0
 
 -- the bytes and tokens of the first line with those of the later line that has the most, and the most open containers
 abbrev pub peaks_in : LimitPair → List JudgedLine → Peaks
 peaks_in limits js = record {
-  bytes = of_first line_bytes js + greatest (held_bytes limits) (later_of js);
-  tokens = of_first (λ j. size_if j.tree) js + greatest (λ j. size_if j.tree) (later_of js);
+  bytes = of_first line_bytes js + greatest (held_bytes limits) (drop 1 js);
+  tokens = of_first (λ j. size_if j.tree) js + greatest (λ j. size_if j.tree) (drop 1 js);
   depth = greatest (λ j. nest_if j.tree) js;
 }
 
 -- a line is blank, or spells a tree
 abbrev pub is_blank_verdict : Verdict → Bool
-is_blank_verdict (Invalid place reason) = false
 is_blank_verdict Blank = true
-is_blank_verdict LeftOut = false
-is_blank_verdict Kept = false
+is_blank_verdict verdict = false
 
 abbrev pub is_legible : JudgedLine → Bool
 is_legible j = is_blank_verdict j.verdict || is_some j.tree
@@ -81,4 +78,4 @@ pub record HasPeaks (limits : LimitPair) (js : List JudgedLine) (peaks : Peaks) 
   pub bytes : peaks.bytes ≡ (peaks_in limits js).bytes
   pub tokens : (peaks_in limits js).tokens ≤ peaks.tokens
   pub depth : (peaks_in limits js).depth ≤ peaks.depth
-  pub legible : list_all is_legible (later_of js) ≡ true → peaks ≡ peaks_in limits js
+  pub legible : list_all is_legible (drop 1 js) ≡ true → peaks ≡ peaks_in limits js

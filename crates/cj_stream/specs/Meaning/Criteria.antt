@@ -1,15 +1,15 @@
 -- What may be asked of features, and which features satisfy it.
-use Rattle.std.specs.Prelude.{ℕ, List, Bool, true, false, ◌&&◌, Option, Some, None, ℤ, pos, int_le, get_or, map, codes}
+use Rattle.std.specs.Prelude.{ℕ, List, Bool, true, false, ◌&&◌, Option, Some, None, is_some, ℤ, ◌+ℤ◌, ◌*ℤ◌, int_le, get_or, map, codes}
 use Rattle.std.specs.List.{list_any, flat_map}
+use Rattle.std.specs.Option.{option_map_or}
 use Rattle.std.specs.Str.{chars}
-use Rattle.cj_decimal.specs.Meaning.Affine.{AffineMap, image}
 use Rattle.cj_spans.specs.Meaning.Tree.{Tree}
 use Rattle.cj_spans.specs.Meaning.Parts.{member_of, has_text, items_if, members_if}
 use Rattle.cj_geometry.specs.Meaning.Lod.{lod}
 use Rattle.cj_geometry.specs.Meaning.ObjectTypes.{ObjectRow}
 use Rattle.cj_feature.specs.Meaning.Feature.{templates_of}
-use Rattle.cj_feature.specs.Meaning.Transform.{maps_of}
-use Rattle.cj_feature.specs.Meaning.CityObject.{type_row, vertex_of, number_on, object_geometries}
+use Rattle.cj_feature.specs.Meaning.Transform.{units_at}
+use Rattle.cj_feature.specs.Meaning.CityObject.{type_row, vertex_of, object_geometries}
 
 -- a box in the plane, in units of 10^-18
 pub record Box : Type 0 where
@@ -26,19 +26,13 @@ pub record Criteria : Type 0 where
   pub lods : Option (List (List ℕ))
   pub box : Option Box
 
--- no part is set
-abbrev pub everything : Criteria
-everything = record { ids = None; types = None; lods = None; box = None }
-
 -- a test of a part holds, or the part is not set
 abbrev pub if_set : {X : Type 0} → (X → Bool) → Option X → Bool
-if_set test None = true
-if_set test (Some x) = test x
+if_set test part = option_map_or test part true
 
 -- there is a value, and the test holds of it
 abbrev pub there_is : {X : Type 0} → (X → Bool) → Option X → Bool
-there_is test None = false
-there_is test (Some x) = test x
+there_is test value = option_map_or test value false
 
 -- the tree is one of these texts
 abbrev pub is_one_of : List (List ℕ) → Tree → Bool
@@ -70,20 +64,22 @@ has_lod lods header t = list_any (λ g. there_is (is_one_of lods) (lod (template
 abbrev pub vertices_of : Tree → List (List (Option ℤ))
 vertices_of t = map vertex_of (items_if (member_of (chars (codes "vertices")) t))
 
--- the map of an axis of the plane
-abbrev pub axis_map : Tree → ℕ → AffineMap
-axis_map header axis = get_or (maps_of header) axis (record { scale = pos 0; shift = pos 0 })
+-- the number v * scale + translate, if there are these three
+abbrev pub coordinate_by : Option ℤ → Option ℤ → Option ℤ → Option ℤ
+coordinate_by (Some v) (Some scale) (Some translate) = Some (v *ℤ scale +ℤ translate)
+coordinate_by v scale translate = None
 
--- the coordinate of a vertex on an axis, v * scale + translate, in units of 10^-18
-abbrev pub coordinate : Tree → ℕ → List (Option ℤ) → ℤ
-coordinate header axis v = image (axis_map header axis) (number_on axis v)
+-- the coordinate of a vertex on an axis, in units of 10^-18: 0 is x, and 1 is y
+abbrev pub coordinate : Tree → ℕ → List (Option ℤ) → Option ℤ
+coordinate header axis v = coordinate_by (get_or v axis None) (units_at (chars (codes "scale")) header axis)
+    (units_at (chars (codes "translate")) header axis)
 
 -- some vertex is at most there, or at least there, on an axis
 abbrev pub some_at_most : Tree → Tree → ℕ → ℤ → Bool
-some_at_most header t axis end = list_any (λ v. int_le (coordinate header axis v) end) (vertices_of t)
+some_at_most header t axis end = list_any (λ v. there_is (λ n. int_le n end) (coordinate header axis v)) (vertices_of t)
 
 abbrev pub some_at_least : Tree → Tree → ℕ → ℤ → Bool
-some_at_least header t axis end = list_any (λ v. int_le end (coordinate header axis v)) (vertices_of t)
+some_at_least header t axis end = list_any (λ v. there_is (λ n. int_le end n) (coordinate header axis v)) (vertices_of t)
 
 -- some vertices are at most at the greater ends of the box, and some at least at its lesser ends
 abbrev pub is_in : Box → Tree → Tree → Bool
@@ -103,4 +99,4 @@ holds criteria header t =
 
 -- whether there is a box
 abbrev pub needs_box : Criteria → Bool
-needs_box criteria = there_is (λ box. true) criteria.box
+needs_box criteria = is_some criteria.box

@@ -30,9 +30,6 @@ pub record Fate (E : Type 0) : Type 0 where
   pub end : E
   pub peaks : Peaks
 
-abbrev pub fate_of : {E : Type 0} → Rules → List ℕ → List ℕ → E → Peaks → Fate E
-fate_of rules text given end peaks = record { rules = rules; text = text; given = given; end = end; peaks = peaks }
-
 -- the first line is a valid header, which LF ended
 abbrev pub BeginsWell : List JudgedLine → Type 0
 BeginsWell [] = ⊥
@@ -41,7 +38,7 @@ BeginsWell (j ∷ js) = (j.verdict ≡ Kept) × (j.line.lf ≡ true)
 -- memory was refused: nothing was written or reported, and the first line is a valid header. After it, and only then,
 -- the engine asks for the memory of the later lines.
 pub record RefusedMemory {N : Type 0} (js : List JudgedLine) (old new : Outputs N) : Type 0 where
-  pub unwritten : Keeps old.channel.bytes new.channel.bytes
+  pub unwritten : Keeps old.bytes new.bytes
   pub unreported : new.reports ≡ old.reports
   pub header : BeginsWell js
 
@@ -53,10 +50,10 @@ pub record Headline {N : Type 0} (notes : N → Report → N → Type 0) (fate :
     Type 0 where
   pub js : List JudgedLine
   pub judged : AreJudged fate.rules (lines fate.text) js
-  pub writes : IsUnhindered fate.end → Appends old.channel.bytes new.channel.bytes (output_in fate.rules js)
+  pub writes : IsUnhindered fate.end → Appends old.bytes new.bytes (output_in fate.rules js)
   pub gives : IsUnhindered fate.end → Took notes old.reports (reported_in fate.rules js) new.reports
   pub ends : IsUnhindered fate.end → fate.end ≡ ending_in fate.rules js
-  pub cause : fate.end ≡ WriteFault → HasRisen old.channel.failures new.channel.failures
+  pub cause : fate.end ≡ WriteFault → HasRisen old.failures new.failures
   pub memory : fate.end ≡ Memory → RefusedMemory js old new
   pub held : IsBounded fate.rules.limits fate.given fate.peaks
   pub exact : fate.end ≡ Complete → HasPeaks fate.rules.limits js fate.peaks

@@ -1,13 +1,12 @@
 -- The lines of a stream with their verdicts, and what follows from these.
-use Rattle.std.specs.Prelude.{◌≡◌, ℕ, ◌+◌, List, [], ◌∷◌, Bool, true, false, not, ◌&&◌, ◌||◌, ◌==◌, Option, Some, None}
+use Rattle.std.specs.Prelude.{◌≡◌, ℕ, ◌+◌, List, [], ◌∷◌, Bool, true, false, not, ◌&&◌, ◌||◌, ◌==◌, Option, Some, None, option_and_then}
 use Rattle.std.specs.List.{filter_map, find, flat_map, take_while}
 use Rattle.cj_spans.specs.declared.reason.Reason.TheVariants.{NoHeader}
 use Rattle.cj_spans.specs.Meaning.Tree.{Tree}
 use Rattle.cj_stream.specs.declared.ending.End.{End}
 use Rattle.cj_stream.specs.declared.ending.End.TheVariants.{Complete, Refused}
 use Rattle.cj_stream.specs.declared.report_sink.Report.{Report}
-use Rattle.cj_stream.specs.Meaning.Item.{Item, raw_item}
-use Rattle.cj_stream.specs.Meaning.Lines.{Line}
+use Rattle.cj_stream.specs.Meaning.Lines.{Line, raw}
 use Rattle.cj_stream.specs.Meaning.Rules.{Rules}
 use Rattle.cj_stream.specs.Meaning.Verdict.{Verdict, Invalid, Blank, LeftOut, Kept, IsVerdict}
 
@@ -47,9 +46,7 @@ pub data AreJudged (rules : Rules) : List Line → List JudgedLine → Type 0 wh
 
 abbrev pub is_invalid : Verdict → Bool
 is_invalid (Invalid place reason) = true
-is_invalid Blank = false
-is_invalid LeftOut = false
-is_invalid Kept = false
+is_invalid verdict = false
 
 -- reading ends at an invalid line, unless it is told to go on and the line is not the first
 abbrev pub ends : Rules → JudgedLine → Bool
@@ -59,33 +56,22 @@ ends rules j = is_invalid j.verdict && (j.number == 1 || not rules.options.keep_
 abbrev pub handled : Rules → List JudgedLine → List JudgedLine
 handled rules js = take_while (λ j. not (ends rules j)) js
 
--- a kept line as what is put to a sink
-abbrev pub item_by : Line → Option Tree → Option Tree → Verdict → Option Item
-item_by line header (Some tree) Kept = Some (record { line = line; tree = tree; header = header })
-item_by line header (Some tree) (Invalid place reason) = None
-item_by line header (Some tree) Blank = None
-item_by line header (Some tree) LeftOut = None
-item_by line header None verdict = None
-
-abbrev pub item_of : JudgedLine → Option Item
-item_of j = item_by j.line j.header j.tree j.verdict
+-- what is written of a line with a verdict: the line, if it is kept
+abbrev pub written_by : Line → Verdict → List ℕ
+written_by line Kept = raw line
+written_by line verdict = []
 
 -- the report of an invalid line
 abbrev pub report_by : ℕ → Verdict → Option Report
 report_by number (Invalid place reason) = Some (record { line = number; place = place; reason = reason })
-report_by number Blank = None
-report_by number LeftOut = None
-report_by number Kept = None
+report_by number verdict = None
 
 abbrev pub report_of : JudgedLine → Option Report
 report_of j = report_by j.number j.verdict
 
--- what is kept, and what is written of it
-abbrev pub kept_in : Rules → List JudgedLine → List Item
-kept_in rules js = filter_map item_of (handled rules js)
-
+-- what is written: the kept lines
 abbrev pub output_in : Rules → List JudgedLine → List ℕ
-output_in rules js = flat_map raw_item (kept_in rules js)
+output_in rules js = flat_map (λ (j : JudgedLine). written_by j.line j.verdict) (handled rules js)
 
 -- what is reported: the invalid lines after which reading went on
 abbrev pub reported_in : Rules → List JudgedLine → List Report
@@ -96,11 +82,7 @@ abbrev pub end_of_report : Option Report → End
 end_of_report None = Complete
 end_of_report (Some r) = Refused r.line r.place r.reason
 
-abbrev pub end_at : Option JudgedLine → End
-end_at None = Complete
-end_at (Some j) = end_of_report (report_of j)
-
 -- how a stream ends: one without a line is refused, and another by the first line at which reading ends
 abbrev pub ending_in : Rules → List JudgedLine → End
 ending_in rules [] = Refused 1 0 NoHeader
-ending_in rules (j ∷ js) = end_at (find (ends rules) (j ∷ js))
+ending_in rules (j ∷ js) = end_of_report (option_and_then report_of (find (ends rules) (j ∷ js)))

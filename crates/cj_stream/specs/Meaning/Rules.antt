@@ -1,7 +1,14 @@
--- What lines are judged by.
+-- What lines are judged by: limits, a query and options.
+use Rattle.std.specs.Prelude.{Bool}
 use Rattle.cj_budget.specs.Meaning.Limits.{LimitPair}
 use Rattle.cj_stream.specs.Meaning.Criteria.{Criteria}
-use Rattle.cj_stream.specs.Meaning.Options.{OptionSet}
+
+-- whether reading goes on after an invalid line that is not the first; whether each city object has to be reached from
+-- the main one of its feature; and whether the features that satisfy the query are left out, in place of the others
+pub record OptionSet : Type 0 where
+  pub keep_going : Bool
+  pub all_reached : Bool
+  pub exclude : Bool
 
 -- the limits on a line, the query, and the options
 pub record Rules : Type 0 where

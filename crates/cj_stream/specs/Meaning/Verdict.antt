@@ -39,7 +39,7 @@ is_blank header content = is_some header && list_all is_blank_byte content
 -- one (RULES, "Features")
 abbrev pub faults : Rules → Option Tree → Tree → List Finding
 faults rules None t = header_findings (needs_box rules.criteria) t
-faults rules (Some header) t = feature_findings header t rules.options.tree
+faults rules (Some header) t = feature_findings header t rules.options.all_reached
 
 -- A header is kept. A feature is kept that satisfies the query (RULES, "Queries"), or, if such features are left out,
 -- one that does not.
@@ -52,7 +52,7 @@ is_selected rules (Some header) t =
 pub record IsRead (rules : Rules) (header : Option Tree) (content : List ℕ) : Type 0 where
   pub short : length content ≤ rules.limits.line
   pub text : is_utf8 content ≡ true
-  pub full : is_blank header content ≡ false
+  pub not_blank : is_blank header content ≡ false
 
 -- a content that is read, and spells this tree within the depth limit
 pub record Spells (rules : Rules) (header : Option Tree) (content : List ℕ) (t : Tree) : Type 0 where

@@ -1,10 +1,10 @@
 //! Whether a feature is in a box.
-ghost use Rattle.std.specs.Prelude.{◌≡◌, ◌<◌, ◌||◌, ◌∷◌, [], true, int_le, List, ℤ, Some};
+ghost use Rattle.std.specs.Prelude.{◌≡◌, ◌<◌, ◌||◌, ◌∷◌, [], true, get_or, int_le, List, map as each, ℤ, None, Some};
 ghost use Rattle.cj_decimal.specs.Meaning.Affine.{image};
 ghost use Rattle.cj_feature.specs.HeaderView.{header_tree, has_box};
 ghost use Rattle.cj_feature.specs.View.{feature_tree};
 ghost use Rattle.cj_feature.specs.Walks.{coordinates_left};
-ghost use Rattle.cj_stream.specs.Meaning.Criteria.{is_in as in_box};
+ghost use Rattle.cj_stream.specs.Meaning.Criteria.{is_in as in_box, vertices_of};
 ghost use Rattle.cj_stream.specs.Extent.{alone, widened, range_of, meets, IsSmall};
 ghost use Rattle.cj_stream.specs.Query.{box_of};
 ghost use Rattle.cj_stream.specs.Tallied.{numbers_on};
@@ -83,7 +83,9 @@ impl Range {
 /// here.
 fn meets_on(feature: &Feature, axis: usize, map: &Affine, low: Fixed18, high: Fixed18) -> bool
     requires { axis < 3 }
-    ensures { result ≡ meets map.now low high (numbers_on axis (feature_tree feature.now)) }
+    ensures met { result ≡ meets map.now low high (numbers_on axis (feature_tree feature.now)) }
+    ensures there { each Some (numbers_on axis (feature_tree feature.now))
+        ≡ each (λ v. get_or v axis None) (vertices_of (feature_tree feature.now)) }
 {
     let mut numbers = feature.coordinates(axis);
     let Some(number) = numbers.next() else {

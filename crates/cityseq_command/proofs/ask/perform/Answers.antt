@@ -1,11 +1,10 @@
 use Rattle.std.proofs.Common.{◌≡◌, ◌∙◌, List, ℕ, [], Ok, ap, refl, subst, sym}
 use Rattle.std.specs.Io.KnownBytes.{Consumes, IsAtEnd}
-use Rattle.cj_stream.specs.Meaning.Outputs.{outputs}
 use Rattle.cj_stream.specs.Output.{channel, output_failures}
 use Rattle.cj_stream.specs.Sink.{HasRisen}
 use Rattle.cj_stream.specs.Verdict.{stream_of}
 use Rattle.cj_stream.specs.declared.ending.End.TheVariants.{Memory}
-use Rattle.cityseq_command.specs.Performed.{Does, Performs, asked, rules_of_ask, run_of}
+use Rattle.cityseq_command.specs.Performed.{told_by, Does, Performs, asked, rules_of_ask, run_of}
 use Rattle.cityseq_command.specs.FaultLines.{fault_line, status_after}
 use Rattle.cityseq_command.specs.ReportWriter.{WritesReport, lent_output, report_lines}
 use Rattle.cityseq_command.specs.declared.ask.Ask.TheVariants.{Filter}
@@ -21,8 +20,8 @@ Did g c r =
     Does (WritesReport g.E.Write.contents)
     (asked c.args.ask.now r (c.match-ask.reader ≡ c.args.reader.now)
     (IsAtEnd (g.R.Read.remaining c.match-ask.reader))) c.match-ask.outcome
-    (outputs (channel g.W.Write.contents c.args.out.now) c.new-reports.result)
-    (outputs (channel g.W.Write.contents c.match-ask.out) c.match-ask.reports)
+    (told_by (channel g.W.Write.contents c.args.out.now) c.new-reports.result)
+    (told_by (channel g.W.Write.contents c.match-ask.out) c.match-ask.reports)
 
 did : (g : Over) (c : goal.After-status_after g) → (r : List ℕ)
     × Consumes (g.R.Read.remaining c.args.reader.now) (g.R.Read.remaining c.match-ask.reader) r × Did g c r

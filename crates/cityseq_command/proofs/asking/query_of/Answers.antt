@@ -2,7 +2,8 @@ use Rattle.std.proofs.Common.{◌≡◌, ◌∙◌, ℕ, List, Bool, true, false
 use Rattle.std.specs.Prelude.{if◌then◌else◌, MatchOption, MatchResult, option_map}
 use Rattle.std.specs.List.{list_all}
 use Rattle.std.proofs.lemmas.Result.{err_from_is_err_and}
-use Rattle.cj_stream.specs.Meaning.Criteria.{Criteria, Box, everything}
+use Rattle.cj_stream.specs.Meaning.Criteria.{Criteria, Box}
+use Rattle.cj_stream.specs.Usual.{everything}
 use Rattle.cj_stream.specs.BoxText.{fields, is_edge, box_between, is_empty, are_four_numbers, box_text}
 use Rattle.cj_stream.specs.Query.{criteria}
 use Rattle.cj_stream.specs.declared.query.fault.QueryFault.{QueryFault}

@@ -1,6 +1,6 @@
 use Rattle.std.proofs.Common.{[], ℕ, List, length, take, map, get_or, refl, sym, ap, arith, length-append, Err}
 use Rattle.std.proofs.lemmas.List.{length-map}
-use Rattle.cj_stream.specs.Meaning.Lines.{joined}
+use Rattle.cj_stream.specs.Lines.{joined}
 use Rattle.cj_stream.specs.Ending.{line_end}
 use Rattle.cj_stream.specs.Engine.{StandsFor, rules_of, lines_of}
 use Rattle.cj_stream.proofs.GivingLemmas.{Given-none, Given-next, Given-fed, Given-finished}

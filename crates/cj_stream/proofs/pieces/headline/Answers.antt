@@ -3,9 +3,8 @@ use Rattle.std.specs.Io.KnownBytes.{Keeps}
 use Rattle.cj_stream.specs.Engine.{rules_of, lines_of}
 use Rattle.cj_stream.specs.Judged.{judged_lines}
 use Rattle.cj_stream.specs.Meaning.Headline.{BeginsWell}
-use Rattle.cj_stream.specs.Meaning.Lines.{joined}
-use Rattle.cj_stream.specs.Meaning.Outputs.{outputs}
-use Rattle.cj_stream.specs.Output.{channel, output_writer, output_failures}
+use Rattle.cj_stream.specs.Lines.{joined}
+use Rattle.cj_stream.specs.Output.{outputs, channel, output_writer, output_failures}
 use Rattle.cj_stream.proofs.CutLemmas.{Copies-puts}
 use Rattle.cj_stream.proofs.HeadlineLemmas.{Copies-writes, Copies-ends, Headline-told, Keeps-same, NotesPieces-gives, begins-well}
 use Rattle.cj_stream.proofs.JoinedLemmas.{joined-cut}

@@ -1,5 +1,5 @@
 use Rattle.std.proofs.Common.{[], ◌+◌, map, take, refl}
-use Rattle.cj_stream.specs.Meaning.Lines.{joined}
+use Rattle.cj_stream.specs.Lines.{joined}
 use Rattle.cj_stream.specs.Engine.{rules_of, lines_of}
 use Rattle.cj_stream.proofs.CutLemmas.{unread-at}
 use Rattle.cj_stream.proofs.LinePieceLemmas.{Delivers-whole, PutsPieces-ends}

@@ -1,8 +1,18 @@
 use Rattle.cj_feature.specs.HeaderView.{header_tree, has_box}
+use Rattle.cj_feature.proofs.AxisMaps.{if-there}
 use Rattle.cj_feature.proofs.header.Header.affine.Goals as goal
 
-pub returns-in-Some : goal.returns-in-Some
+pub returns-in-Some-clause-maps : goal.returns-in-Some-clause-maps
 unfolding header_tree has_box
-returns-in-Some c =
+returns-in-Some-clause-maps c =
     let known = c.args.self.now.known c.in-Some.parts c.in-Some.is in
     rw known.for_box at known.of_tree.maps
+
+pub returns-in-Some-clause-there : goal.returns-in-Some-clause-there
+unfolding header_tree
+returns-in-Some-clause-there c =
+    if-there _ c.in-Some.parts.now (c.args.self.now.known c.in-Some.parts c.in-Some.is).of_tree
+
+pub returns-in-None-clause-there : goal.returns-in-None-clause-there
+unfolding header_tree
+returns-in-None-clause-there c = if-there _ c.read.result c.read.ensures.of_tree

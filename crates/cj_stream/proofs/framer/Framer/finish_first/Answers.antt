@@ -1,6 +1,6 @@
 use Rattle.std.proofs.Common.{List, ℕ, rules, false}
 use Rattle.cj_stream.specs.Ending.{answer_of, header_end}
-use Rattle.cj_stream.specs.Meaning.Lines.{begun}
+use Rattle.cj_stream.specs.Lines.{begun}
 use Rattle.cj_stream.specs.Reading.{is_lenient, Reads}
 use Rattle.cj_stream.proofs.FinishLemmas.{ok-answer, ok-then, finishes-with, scanned-last}
 use Rattle.cj_stream.proofs.PieceLemmas.{Settles-begun, Settles-first}

@@ -15,32 +15,32 @@ vertices t = items_if (member_of (chars (codes "vertices")) t)
 pub meets-requires : goal.meets-requires
 meets-requires c =
     let first : c.alone-first.result ≡ alone c.in-Some.number = search rules in
-    let numbers = sym c.coordinates-numbers.ensures ∙ c.in-Some.ensures.steps in
+    let numbers = sym c.coordinates-numbers.ensures.numbers ∙ c.in-Some.ensures.steps in
     rw first (first_small c.args.axis c.in-Some.number (coordinates_left c.next.new.self)
     (vertices (feature_tree c.args.feature.now)) numbers)
 
 pub meets-requires-else-meets : goal.meets-requires-else-meets
 meets-requires-else-meets c =
     let first : c.alone-first.result ≡ alone c.in-Some.number = search rules in
-    let numbers = sym c.coordinates-numbers.ensures ∙ c.in-Some.ensures.steps in
+    let numbers = sym c.coordinates-numbers.ensures.numbers ∙ c.in-Some.ensures.steps in
     let range = ap range_of numbers
     ∙ ap Some (ap (λ r. widened r (coordinates_left c.next.new.self)) (sym first) ∙ sym c.widened_by.ensures) in
     range_small c.args.axis c.widened_by.result (vertices (feature_tree c.args.feature.now)) range
 
-pub returns-then-meets : goal.returns-then-meets
-returns-then-meets c =
+pub returns-then-meets-clause-met : goal.returns-then-meets-clause-met
+returns-then-meets-clause-met c =
     let map = c.args.map.now in
     let first : c.alone-first.result ≡ alone c.in-Some.number = search rules in
     let told = c.meets.ensures (c.in-Some.number ∷ []) (ap Some (sym first)) in
     let all = first_meets map c.args.low c.args.high c.in-Some.number (coordinates_left c.next.new.self)
     (sym told ∙ c.if-meets.true) in
     c.if-meets.true ∙ sym all
-    ∙ ap (meets map c.args.low c.args.high) (sym c.in-Some.ensures.steps ∙ c.coordinates-numbers.ensures)
+    ∙ ap (meets map c.args.low c.args.high) (sym c.in-Some.ensures.steps ∙ c.coordinates-numbers.ensures.numbers)
 
-pub returns-else-meets : goal.returns-else-meets
-returns-else-meets c =
+pub returns-else-meets-clause-met : goal.returns-else-meets-clause-met
+returns-else-meets-clause-met c =
     let first : c.alone-first.result ≡ alone c.in-Some.number = search rules in
-    let numbers = sym c.coordinates-numbers.ensures ∙ c.in-Some.ensures.steps in
+    let numbers = sym c.coordinates-numbers.ensures.numbers ∙ c.in-Some.ensures.steps in
     let range = ap range_of numbers
     ∙ ap Some (ap (λ r. widened r (coordinates_left c.next.new.self)) (sym first) ∙ sym c.widened_by.ensures) in
     c.meets-else-meets.ensures _ range

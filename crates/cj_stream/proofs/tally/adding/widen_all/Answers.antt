@@ -1,6 +1,6 @@
 use Rattle.std.proofs.Common.{◌≡◌, List, None, get_or, sym, ap, map, subst}
 use Rattle.std.specs.Prelude.{ℤ}
-use Rattle.cj_feature.specs.Meaning.CityObject.{number_on}
+use Rattle.cj_feature.specs.Axes.{number_on}
 use Rattle.cj_feature.specs.View.{feature_tree}
 use Rattle.cj_feature.specs.Walks.{vertices_left}
 use Rattle.cj_stream.specs.Tallied.{numbers_on}

@@ -1,5 +1,5 @@
 use Rattle.std.proofs.Common.{rules, to_z, of_z, w64, pos, ◌≡◌, ℕ, ◌<◌, ◌∷◌, [], List, map, get_or, Some, ℤ, ap, suc, zero, arith}
-use Rattle.cj_feature.specs.Meaning.CityObject.{number_on}
+use Rattle.cj_feature.specs.Axes.{number_on}
 use Rattle.cj_feature.specs.Walks.{vertices_left}
 use Rattle.cj_stream.specs.TallySink.{Widens}
 use Rattle.cj_stream.proofs.Ranges.{Widening-start, Widening-step, Widening-end, numbers-first}

@@ -1,6 +1,6 @@
 use Rattle.std.proofs.Common.{◌≡◌, ◌∷◌, ℕ, ◌<◌, Bool, List, Option, None, ap, map, get_or, inl, inr, subst, suc, zero, arith}
 use Rattle.std.specs.Prelude.{ℤ, IsTrue, ◌⊎◌}
-use Rattle.cj_feature.specs.Meaning.CityObject.{number_on}
+use Rattle.cj_feature.specs.Axes.{number_on}
 use Rattle.cj_feature.specs.Walks.{vertices_left}
 use Rattle.cj_stream.specs.Parts.{WidensFront}
 use Rattle.cj_stream.specs.TallySink.{TakesNumber, TakesSome}

@@ -1,5 +1,5 @@
 use Rattle.std.proofs.Common.{◌+◌, cond, length, map}
-use Rattle.cj_feature.specs.Meaning.CityObject.{number_on}
+use Rattle.cj_feature.specs.Axes.{number_on}
 use Rattle.cj_feature.specs.Walks.{vertices_left}
 use Rattle.cj_stream.proofs.Ranges.{OnWay}
 use Rattle.cj_stream.proofs.tally.adding.widen_front.Given as goal

@@ -1,6 +1,6 @@
 use Rattle.std.proofs.Common.{◌≡◌, ◌∷◌, ◌∙◌, List, Option, inr, ap, drop, map, refl, subst, sym}
 use Rattle.std.specs.Prelude.{ℤ}
-use Rattle.cj_feature.specs.Meaning.CityObject.{number_on}
+use Rattle.cj_feature.specs.Axes.{number_on}
 use Rattle.cj_feature.specs.Walks.{vertices_left}
 use Rattle.cj_stream.specs.TallySink.{TakesNumber, TakesSome}
 use Rattle.cj_stream.proofs.Ranges.{words-kept, words-tried}

@@ -1,5 +1,5 @@
 use Rattle.std.proofs.Common.{rules, to_z, of_z, w64, pos, ◌≡◌, ℕ, ◌<◌, ◌∷◌, [], List, map, get_or, None, Some, Option, ℤ, ap, suc, zero, arith, subst, sym}
-use Rattle.cj_feature.specs.Meaning.CityObject.{number_on}
+use Rattle.cj_feature.specs.Axes.{number_on}
 use Rattle.cj_feature.specs.Walks.{vertices_left}
 use Rattle.cj_stream.specs.TallySink.{Widens}
 use Rattle.cj_stream.proofs.Ranges.{Widens-no, Widens-two, numbers-first}

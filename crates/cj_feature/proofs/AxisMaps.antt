@@ -1,0 +1,75 @@
+-- The maps that a header shows are of numbers that it has, and so are the numbers of a feature's vertices.
+use Rattle.std.proofs.Common.{◌≡◌, ℕ, zero, suc, ◌<◌, List, [], ◌∷◌, ◌&&◌, length, map, get_or, drop, Bool, true, false, Option, Some, None, codes, option_map, arith, refl, sym, ap, subst, ◌∙◌}
+use Rattle.std.specs.Prelude.{ℤ, IfSome}
+use Rattle.std.specs.List.{list_all}
+use Rattle.std.specs.Str.{chars}
+use Rattle.cj_spans.specs.Meaning.Tree.{Tree}
+use Rattle.cj_decimal.specs.Meaning.Affine.{AffineMap}
+use Rattle.cj_decimal.specs.Meaning.Number.{Number, units_of}
+use Rattle.cj_feature.specs.declared.header.reading.HeaderParts.{HeaderParts}
+use Rattle.cj_feature.specs.Axes.{AreThere, first_maps, maps_of, number_on}
+use Rattle.cj_feature.specs.Meaning.CityObject.{vertex_of}
+use Rattle.cj_feature.specs.Meaning.Transform.{transform_values}
+use Rattle.cj_feature.specs.Shown.{ArePartsOf, maps_if}
+use Rattle.cj_feature.specs.inner.Typed.{begins_whole, is_vertex}
+use Rattle.cj_feature.proofs.Typed.{three-begin}
+
+-- ---- maps
+
+first-there : (ns ms : List Number) (axis : ℕ) (d : AffineMap) → axis < length (first_maps (map Some ns) (map Some ms))
+    → (option_map units_of (get_or (map Some ns) axis None)
+    ≡ Some (get_or (first_maps (map Some ns) (map Some ms)) axis d).scale)
+    × (option_map units_of (get_or (map Some ms) axis None)
+    ≡ Some (get_or (first_maps (map Some ns) (map Some ms)) axis d).shift)
+first-there [] ms axis d h = absurd (omega arith)
+first-there (a ∷ []) ms axis d h = absurd (omega arith)
+first-there (a ∷ b ∷ ns) [] axis d h = absurd (omega arith)
+first-there (a ∷ b ∷ ns) (c ∷ []) axis d h = absurd (omega arith)
+first-there (a ∷ b ∷ ns) (c ∷ e ∷ ms) zero d h = (refl, refl)
+first-there (a ∷ b ∷ ns) (c ∷ e ∷ ms) (suc zero) d h = (refl, refl)
+first-there (a ∷ b ∷ ns) (c ∷ e ∷ ms) (suc (suc axis)) d h = absurd (omega arith)
+
+of-lists : (t : Tree) (ns ms : List Number) → transform_values (chars (codes "scale")) t ≡ map Some ns
+    → transform_values (chars (codes "translate")) t ≡ map Some ms → AreThere t (maps_of t)
+of-lists t ns ms e f = record {
+  scale = λ axis d h. rw (e, f) ((first-there ns ms axis d (rw (e, f) at h)).0);
+  shift = λ axis d h. rw (e, f) ((first-there ns ms axis d (rw (e, f) at h)).1);
+}
+
+shown : (b : Bool) (t : Tree) (maps : List AffineMap) → maps_if b t ≡ Some maps → maps_of t ≡ maps
+shown true t maps h = cc
+shown false t maps h = absurd (cc h)
+
+-- the maps of a header's parts, if it was judged for a box
+pub if-there : (t : Tree) (parts : HeaderParts) → ArePartsOf t parts → IfSome parts.maps (λ maps. AreThere t maps)
+if-there t parts are = go parts.maps refl
+  where
+    go : (o : Option (List AffineMap)) → parts.maps ≡ o → IfSome o (λ maps. AreThere t maps)
+    go None e = tt
+    go (Some maps) e =
+        let same = shown parts.with_box t maps (sym are.maps ∙ e) in
+        subst (λ ms. AreThere t ms) same (of-lists t parts.scale parts.translate are.scale are.translate)
+
+-- ---- numbers of vertices
+
+number-there : (axis : ℕ) (ws : List (Option ℤ)) → begins_whole (drop axis ws) ≡ true
+    → Some (number_on axis ws) ≡ get_or ws axis None
+number-there zero [] h = absurd (cc h)
+number-there zero (None ∷ ws) h = absurd (cc h)
+number-there zero (Some x ∷ ws) h = refl
+number-there (suc axis) [] h = absurd (cc h)
+number-there (suc axis) (w ∷ ws) h = number-there axis ws h
+
+both : (a b : Bool) → a && b ≡ true → (a ≡ true) × (b ≡ true)
+both true b h = (refl, h)
+both false b h = absurd (cc h)
+
+-- each vertex has a number on each axis
+pub numbers-there : (axis : ℕ) → axis < 3 → (ts : List Tree) → list_all is_vertex ts ≡ true
+    → map Some (map (number_on axis) (map vertex_of ts)) ≡ map (λ v. get_or v axis None) (map vertex_of ts)
+numbers-there axis within [] h = refl
+numbers-there axis within (t ∷ ts) h =
+    let all = both (is_vertex t) (list_all is_vertex ts) h in
+    let first = number-there axis (vertex_of t) (three-begin axis (vertex_of t) all.0 within) in
+    ap (λ o. o ∷ map Some (map (number_on axis) (map vertex_of ts))) first
+    ∙ ap (λ os. get_or (vertex_of t) axis None ∷ os) (numbers-there axis within ts all.1)

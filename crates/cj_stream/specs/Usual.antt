@@ -1,0 +1,12 @@
+-- What holds where nothing is told: all features are asked for, and no option is set.
+use Rattle.std.specs.Prelude.{false, None}
+use Rattle.cj_stream.specs.Meaning.Criteria.{Criteria}
+use Rattle.cj_stream.specs.Meaning.Rules.{OptionSet}
+
+-- no part of a query is set
+abbrev pub everything : Criteria
+everything = record { ids = None; types = None; lods = None; box = None }
+
+-- the first invalid line is the end, and what satisfies the query is kept
+abbrev pub usual_options : OptionSet
+usual_options = record { keep_going = false; all_reached = false; exclude = false }
