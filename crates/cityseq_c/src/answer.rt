@@ -108,11 +108,7 @@ impl Answer {
 
     /// Returns the answer of a call with this request, from its outcome or from why nothing was
     /// judged.
-    pub fn of(
-        request: &Request<'_>,
-        judged: Result<Outcome, NotJudged>,
-        written: usize,
-    ) -> Answer
+    pub fn of(request: &Request<'_>, judged: Result<Outcome, NotJudged>, written: usize) -> Answer
         ensures { result ≡ answer_to request.now judged written }
     {
         match judged {
@@ -170,8 +166,12 @@ impl Answer {
     pub fn then(&self, next: &Answer, header_length: usize) -> Answer
         ensures ended { self.now.status ≢ 0 → result ≡ self.now }
         ensures unjudged { self.now.status ≡ 0 → IsUnjudged next.now
-            → result ≡ record self.now { status = next.now.status; code = next.now.code; list = next.now.list;
-            item = next.now.item } }
+            → result ≡ record self.now {
+              status = next.now.status;
+              code = next.now.code;
+              list = next.now.list;
+              item = next.now.item;
+            } }
         ensures judged { (ended : End) → self.now.status ≡ 0 → ended_by next.now ≡ Some ended
             → result ≡ both_answers self.now next.now ended header_length }
         ensures account { (rules : Rules) (h a b : List ℕ) → IsCut h a → self.now.lines + next.now.lines < 2 ^ 64

@@ -14,8 +14,11 @@ use cj_stream::{ObjectType, QueryFault};
 
 /// The numbers of the lists of a request, each a `cityseq_list`. 0 stands for none.
 const IDS: u64 = 1;
+
 const TYPES: u64 = 2;
+
 const LODS: u64 = 3;
+
 const BOX: u64 = 4;
 
 /// The numbers of a box.

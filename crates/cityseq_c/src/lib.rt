@@ -181,8 +181,12 @@ pub extern "C" fn cityseq_features(
 pub extern "C" fn cityseq_answer_then(first: &Answer, next: &Answer, header_length: usize) -> Answer
     ensures ended { first.now.status ≢ 0 → result ≡ first.now }
     ensures unjudged { first.now.status ≡ 0 → IsUnjudged next.now
-        → result ≡ record first.now { status = next.now.status; code = next.now.code; list = next.now.list;
-        item = next.now.item } }
+        → result ≡ record first.now {
+          status = next.now.status;
+          code = next.now.code;
+          list = next.now.list;
+          item = next.now.item;
+        } }
     ensures judged { (ended : End) → first.now.status ≡ 0 → ended_by next.now ≡ Some ended
         → result ≡ both_answers first.now next.now ended header_length }
     ensures account { (rules : Rules) (h a b : List ℕ) → IsCut h a → first.now.lines + next.now.lines < 2 ^ 64
