@@ -239,6 +239,7 @@ class Documents(Served):
                 "/api",
                 "/collections",
                 "/collections/{collectionId}",
+                "/collections/{collectionId}/queryables",
                 "/check",
                 "/filter",
                 "/collections/{collectionId}/items",

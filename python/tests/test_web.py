@@ -333,9 +333,8 @@ class Client(Served):
             self.assertIn("no URL of http", str(caught.exception))
 
     def test_no_urllib3(self):
-        without = {"urllib3": None, "cityseq.sources.web": None, "cityseq.sources.web": None}
-        with mock.patch.dict(sys.modules, without):
-            del sys.modules["cityseq.sources.web"], sys.modules["cityseq.sources.web"]
+        with mock.patch.dict(sys.modules, {"urllib3": None, "cityseq.sources.web": None}):
+            del sys.modules["cityseq.sources.web"]
             with self.assertRaises(cityseq.CityseqError) as caught:
                 cityseq.Index(self.index, base="http://example.org")
         self.assertIn("python3-urllib3", str(caught.exception))

@@ -279,8 +279,8 @@ def _are_usual(spelled: list[bytes]) -> bool:
     return not any(sign in text for sign in (b"e", b"E", b"0.0000", b"-0.0"))
 
 
-def _fraction(spelled: bytes) -> float | Spelled:
-    return fraction(spelled.decode("ascii"))
+def _real(spelled: bytes, is_usual: bool) -> float | Spelled:
+    return float(spelled) if is_usual else fraction(spelled.decode("ascii"))
 
 
 def _numbers(values: list[Any]) -> list[Any]:
@@ -288,8 +288,7 @@ def _numbers(values: list[Any]) -> list[Any]:
     types = set(map(type, values))
     if bytes in types:
         usual = _are_usual([value for value in values if type(value) is bytes])
-        read: Callable[[bytes], Any] = float if usual else _fraction
-        values = [read(value) if type(value) is bytes else value for value in values]
+        values = [_real(value, usual) if type(value) is bytes else value for value in values]
     whole_numbers = [value for value in values if type(value) is int] if int in types else [0]
     if max(whole_numbers) >= 1 << 63 or min(whole_numbers) < -(1 << 63):
         values = [_in_bits(value) if type(value) is int else value for value in values]

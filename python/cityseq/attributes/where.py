@@ -188,8 +188,8 @@ class Translation:
             return f"({f' {word} '.join(parts)})"
         self._count(1)
         match filter:
-            case Constant(value):
-                return "1" if value is is_so else "0"
+            case Constant(is_true):
+                return "1" if is_true is is_so else "0"
             case Null(name):
                 return f"{_sql_name(self._column(name))} {'IS' if is_so else 'NOT'} NULL"
             case Like(name, pattern):
