@@ -1,5 +1,6 @@
 """Cuts of streams that lie on a web server, also on one that answers as it should not."""
 import io
+import json
 import os
 import re
 import shutil
@@ -10,6 +11,7 @@ import time
 import unittest
 from contextlib import contextmanager
 from http.server import BaseHTTPRequestHandler, ThreadingHTTPServer
+from importlib.util import find_spec
 from unittest import mock
 from urllib.parse import unquote, urlsplit
 
@@ -256,6 +258,82 @@ class Web(Served):
             with self.assertRaises(cityseq.RequestError) as caught:
                 self.cut(base)
         self.assertIn("serve it unpacked", str(caught.exception))
+
+
+@unittest.skipUnless(find_spec("lark"), "lark is not there")
+class Where(Served):
+    """Cuts by attributes of a stream that lies on a server."""
+
+    YEARS = {2: 1989, 3: 1990, 4: 1991, 2_998: 2020, 2_999: None}  # of some features
+    NEW = "year > 1990"
+
+    def setUp(self):
+        super().setUp()
+        lines = self.text.splitlines(keepends=True)
+        for number, year in self.YEARS.items():
+            told = b'"attributes":{"year":%s},' % json.dumps(year).encode()
+            lines[number + 1] = lines[number + 1].replace(b'"geometry"', told + b'"geometry"')
+        self.text, self.lines = b"".join(lines), lines
+        self.path.write_bytes(self.text)
+        cityseq.index(self.path, self.index, attributes=["year"])
+
+    def of(self, *numbers):
+        """The header, and the features of these numbers."""
+        return HEADER + b"".join(self.lines[number + 1] for number in numbers)
+
+    def test_it_reads_the_ranges_that_it_needs(self):
+        with self.served() as (server, base):
+            self.assertEqual(self.cut(base, where=self.NEW), self.of(4, 2_998))
+        first, *others = server.ranges
+        self.assertEqual((first, len(others)), ((0, 1 << 16), 1))
+        self.assertLess(sum(end - begin for begin, end in others), len(self.text) // 10)
+
+    def test_the_same_as_of_files(self):
+        with self.served() as (_, base):
+            for query, numbers in (
+                ({"where": "year <= 1990"}, (2, 3)),
+                ({"where": "year IN (1989, 2020)"}, (2, 2_998)),
+                ({"where": self.NEW, "ids": ["b4", "b5"]}, (4,)),
+                ({"where": self.NEW, "types": "Road"}, ()),
+                ({"where": f"{self.NEW} OR year = 1989", "types": "Building"}, (2, 4, 2_998)),
+                ({"where": self.NEW, "box": "500,0,600,1"}, ()),
+                ({"where": "year = 1992"}, ()),
+            ):
+                with self.subTest(query):
+                    self.assertEqual(self.cut(base, **query), self.of(*numbers))
+                    self.assertEqual(self.cut(None, **query), self.of(*numbers))
+            with cityseq.Index(self.index, base=base) as index:
+                with index.select(where="year IS NOT NULL") as features:
+                    self.assertEqual([each.line for each in features], [4, 5, 6, 3_000])
+
+    def test_the_command(self):
+        words = ["filter", "--index", str(self.index), "--where", self.NEW]
+        output = self.folder / "new.city.jsonl"
+        with self.served() as (server, base):
+            self.assertEqual(command(*words, "--base", base), (self.of(4, 2_998), "", 0))
+            told = command(*words, "--base", base, "--output", str(output), "--limit", "1")
+            self.assertEqual((told, output.read_bytes()), ((b"", "", 0), self.of(4)))
+            asked = len(server.ranges)
+            wrong = [*words[:-1], "month = 1", "--base", base]
+            _, said, status = command(*wrong)
+            self.assertEqual((status, len(server.ranges)), (2, asked))
+            self.assertIn('"month"', said)
+        told, status = command(*words, "--base", base)[1:]  # there is no server any more
+        self.assertEqual((status, "Connection refused" in told), (3, True))
+
+    def test_a_stream_that_changed(self):
+        for text in (self.text + b"\n", self.text.replace(b'"year":1991', b'"year":199,')):
+            self.path.write_bytes(text)
+            with self.served() as (_, base), self.assertRaises(cityseq.OutOfDate):
+                self.cut(base, where=self.NEW)
+
+    def test_a_change_that_goes_unnoticed(self):
+        """The guide says so: a server tells the length of a stream, and no index has its text."""
+        before, after = self.lines[5], self.lines[5].replace(b"1991", b"1989")
+        self.path.write_bytes(self.text.replace(before, after))
+        with self.served() as (_, base):
+            found = self.cut(base, where=self.NEW)
+        self.assertEqual(found, self.of(4, 2_998).replace(before, after))
 
 
 class Client(Served):
