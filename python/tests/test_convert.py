@@ -2,6 +2,7 @@
 import gzip
 import io
 import json
+import os
 import random
 import threading
 import tracemalloc
@@ -536,6 +537,44 @@ class Command(InFolder):
         self.assertIn("make a stream of it, as by cityseq-run split", told[1])
         self.assertEqual(command("split", self.path, broken)[2], 2)
         self.assertEqual(command("split", self.path, "-o", self.path)[2], 2)
+
+    def test_standard_output_is_whole_or_absent(self):
+        stream = split(self.text)
+        good = str(self.file(stream, "good.city.jsonl"))
+        pipe = str(self.folder / "pipe")
+        os.mkfifo(pipe)
+        reader = os.open(pipe, os.O_RDONLY | os.O_NONBLOCK)
+        self.addCleanup(os.close, reader)
+        for more, wanted in (
+            (str(self.folder / "none.city.jsonl"), 3),
+            (str(self.file(stream + b"[]\n", "broken.city.jsonl")), 1),
+            (str(self.file(stream.replace(b'"Road"', b'"Railway"'), "other.city.jsonl")), 1),
+        ):
+            output, said, status = command("collect", good, more)
+            self.assertEqual((output, status), (b"", wanted))
+            self.assertIn(more, said)
+            self.assertEqual(command("collect", good, more, "-o", pipe)[2], wanted)
+            self.assertEqual(os.read(reader, 9), b"")
+            kept = io.BytesIO()
+            with self.assertRaises(cityseq.CityseqError):
+                cityseq.collect([good, more], kept)
+            self.assertEqual(kept.getvalue(), b"")
+
+    def test_what_is_held_may_be_long(self):
+        output = str(self.folder / "there.city.json")
+        for most in (0, 50, 1 << 20):
+            with mock.patch("cityseq.sources.outputs.HELD", most):
+                held = io.BytesIO()
+                cityseq.collect(split(self.text), held)
+            cityseq.collect(split(self.text), output)
+            with open(output, "rb") as file:
+                self.assertEqual(held.getvalue(), file.read())
+        fault = OSError(28, "No space left on device")
+        with mock.patch("tempfile.TemporaryFile", side_effect=fault):
+            with mock.patch("cityseq.sources.outputs.HELD", 50):
+                with self.assertRaises(cityseq.WriteFault) as caught:
+                    cityseq.collect(split(self.text), held)
+        self.assertIn("a temporary file: write fault: No space left", str(caught.exception))
 
     def test_names_cannot_write_to_a_terminal(self):
         text = whole('"\\u001b[31m":{"type":"Road","n":NaN}')

@@ -19,7 +19,7 @@ from ..engine.world import transform_of, units_of
 from ..run.features import fault_of
 from ..sources import Source, bytes_of, name_of
 from ..sources.chunks import Chunks
-from ..sources.outputs import Target, Writer, refuse_same
+from ..sources.outputs import Target, Whole, Writer, refuse_same
 from .spans import (
     DECODER,
     LIMIT,
@@ -341,7 +341,8 @@ def collect(
     Args:
         sources: The streams, or the only one, each as `check` takes it.
         output: A path, `-` for standard output, or a binary file. A path is renamed when it is
-            whole. It is packed if its name ends in .gz or .zst.
+            whole, and any other output gets nothing before. A path is packed if its name ends in
+            .gz or .zst.
         line_limit: The most bytes in a line.
         depth: The most arrays and objects that are open at once.
 
@@ -361,13 +362,13 @@ def collect(
         raise RequestError("no stream is given")
     refuse_same(listed, [output])
     work = work_of("filter", Options(Limits(line_limit, depth)))
-    writer = Writer(output)
+    writer = Whole(Writer(output))
     try:
         made = Collection(lambda text: writer.write(text.encode("latin-1")))
         for source in listed:
             _collect_one(made, source, work)
         collected = made.end()
-        writer.close(True)
+        writer.close()
         return collected
     finally:
         writer.discard()

@@ -26,6 +26,8 @@ LONGEST = 255  # bytes of a file's name
 NEW = os.O_RDWR | os.O_CREAT | os.O_EXCL | getattr(os, "O_CLOEXEC", 0)
 USUAL_MODE = 0o666  # of a new file, before the system's mask
 OWN_MODE = 0o600  # what its owner may do while the file is written
+HELD = 16 << 20  # bytes of an output that are held in memory
+PIECE = 1 << 20  # bytes of such an output that are written at once
 Identity = tuple[int, int]
 
 
@@ -322,6 +324,11 @@ class Writer:
                 raise write_fault(fault, self.name) from fault
 
     @property
+    def is_renamed(self) -> bool:
+        """Whether it is a file, which has its name only when it is whole."""
+        return self._path is not None and target_of(self._path) is not None
+
+    @property
     def packing(self) -> Packing | None:
         """How the output is packed, or None."""
         return None if self._path is None else packing_by_name(self._path)
@@ -424,6 +431,56 @@ class Writer:
             return open(path, "wb")
         self._part = Part(target)
         return os.fdopen(self._part.make(), "wb")
+
+
+class Whole:
+    """Writes to a writer only what is whole. A file has its name only then, so it is written at
+    once. What any other target gets is held until then: in memory, or in a temporary file if it is
+    long."""
+
+    def __init__(self, writer: Writer) -> None:
+        from tempfile import SpooledTemporaryFile  # few runs need it
+
+        self._writer = writer
+        self._held = None if writer.is_renamed else SpooledTemporaryFile(HELD)
+
+    def write(self, text: bytes) -> None:
+        """Writes all of these bytes, or holds them.
+
+        Raises:
+            WriteFault: The output, or a temporary file, cannot be written.
+        """
+        if self._held is None:
+            self._writer.write(text)
+            return
+        try:
+            self._held.write(text)
+        except (OSError, ValueError) as fault:
+            raise write_fault(fault, "a temporary file") from fault
+
+    def close(self) -> None:
+        """Ends an output that is whole."""
+        for piece in self._pieces():
+            self._writer.write(piece)
+        self._writer.close(True)
+
+    def _pieces(self) -> Iterator[bytes]:
+        """Yields what is held."""
+        if self._held is None:
+            return
+        try:
+            self._held.seek(0)
+            while piece := self._held.read(PIECE):
+                yield piece
+        except OSError as fault:
+            raise write_fault(fault, "a temporary file") from fault
+
+    def discard(self) -> None:
+        """Removes what is not whole."""
+        if self._held is not None:
+            with suppress(OSError):
+                self._held.close()
+        self._writer.discard()
 
 
 def _state(thing: Any, standard: int) -> os.stat_result:
