@@ -535,7 +535,8 @@ class Command(InFolder):
         told = command("index", "-o", index, self.path)
         self.assertEqual(told[2], 2)
         self.assertIn("make a stream of it, as by cityseq-run split", told[1])
-        self.assertEqual(command("split", self.path, broken)[2], 2)
+        _, said, status = command("split", self.path, broken)
+        self.assertEqual((status, said.count("\n"), "--output" in said), (2, 1, True))
         self.assertEqual(command("split", self.path, "-o", self.path)[2], 2)
 
     def test_standard_output_is_whole_or_absent(self):

@@ -13,7 +13,7 @@ from .stream_commands import files_of
 def run_split(request: SplitFile) -> int:
     """Makes a stream of a whole file, and returns the status."""
     if len(request.files) > 1:
-        raise RequestError("split takes one FILE: run it for each")
+        raise RequestError("split takes one FILE: name the output by --output")
     file = request.files[0] if request.files else "-"
     refuse_read([file], [request.output])
     made = split(file, request.output, line_limit=request.line_limit)
