@@ -13,6 +13,8 @@ from ..engine import USUAL_DEPTH, USUAL_LINE
 
 NAME = re.compile(r'\s*(?:"((?:[^"]|"")*)"\s*|([^",][^,]*))(,|\Z)')
 UNITS = {"K": 10, "M": 20, "G": 30}  # each is a power of two
+SPELLED = re.compile(r"(\d{1,10})\s*([KMG])(?:i?B)?", re.IGNORECASE | re.ASCII)
+NUMBER = re.compile(r"\+?[0-9]+")
 MOST_DIGITS = 20
 RULES = ("line_limit", "depth", "tree", "keep_going")
 SELECTION = ("exclude", "id", "ids_from", "type", "lod", "bbox", "limit")
@@ -23,7 +25,7 @@ def whole_number(least: int, greatest: int) -> Callable[[str], int]:
 
     def read(text: str) -> int:
         digits = text[1:] if text[:1] == "+" else text
-        if not (digits.isascii() and digits.isdigit()):
+        if not NUMBER.fullmatch(text):
             raise ValueError(f"{text!r} is not a whole number")
         if len(digits.lstrip("0")) > MOST_DIGITS or not least <= int(digits) <= greatest:
             raise ValueError(f"{digits} is not from {least} to {greatest}")
@@ -39,12 +41,26 @@ def size(least: int, greatest: int) -> Callable[[str], int]:
 
     def read(text: str) -> int:
         bits = UNITS.get(text[-1:].upper(), 0)
-        number = read_number(text[:-1] if bits else text) << bits
+        digits = text[:-1] if bits else text
+        if not NUMBER.fullmatch(digits):
+            raise ValueError(f"{text!r} is no number of bytes{_advice(text, least, greatest)}")
+        number = read_number(digits) << bits
         if not least <= number <= greatest:
             raise ValueError(f"{text} is not from {least} to {greatest}")
         return number
 
     return read
+
+
+def _advice(text: str, least: int, greatest: int) -> str:
+    """Returns the end of a sentence: how to write the number of bytes that is meant. If that cannot
+    be read, or is not between two, it is another number."""
+    found = SPELLED.fullmatch(text)
+    if found:
+        count, unit = int(found[1]), found[2].upper()
+        if least <= count << UNITS[unit] <= greatest:
+            return f": write it as {count}{unit} or {count << UNITS[unit]}"
+    return f", such as 8M or {8 << UNITS['M']}"
 
 
 def one_of(*words: str) -> Callable[[str], str]:
