@@ -163,8 +163,9 @@ def of_package():
             )
             for each in command.options
         ]
-        takes_files = "[" in command.operands
-        words = codes() if command.operands == "<CODE>" else ""
+        takes_codes = command.operands == "[CODE]"
+        takes_files = "[" in command.operands and not takes_codes
+        words = codes() if takes_codes else ""
         helps[command.name] = Help({}, [*options, help_option], takes_files, words)
     abouts = {command.name: sentences(command.about) for command in COMMANDS.values()}
     abouts["help"] = "Print this help, or the help on a command."

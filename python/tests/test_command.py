@@ -186,6 +186,24 @@ class Commands(InFolder):
             )
         self.assertEqual(command("explain", "7"), (b"", "no reason has the code 7\n", 2))
 
+    def test_explain_lists_the_codes(self):
+        with open(os.path.join(support.ROOT, "docs", "RULES.md"), encoding="utf-8") as file:
+            rows = re.findall(r"^\| \[(\d+)\]\(#.*?\) \| (.*?) \|", file.read(), re.M)
+        self.assertEqual(len(rows), 27)
+        wanted = "".join(f"{code} {text}\n" for code, text in rows)
+        for words in (("explain",), ("--explain",)):
+            self.assertEqual(command(*words), (wanted.encode(), "", 0))
+
+    def test_explain_lists_the_types(self):
+        with open(os.path.join(support.ROOT, "docs", "RULES.md"), encoding="utf-8") as file:
+            rows = re.findall(r"^\| (?:first|second) \| \d+ to \d+ \| (.*) \|$", file.read(), re.M)
+        types = ", ".join(rows)
+        self.assertEqual(types.count(", "), 32)
+        output, said, status = command("explain", "19")
+        self.assertEqual((said, status), ("", 0))
+        self.assertEqual(output.decode().splitlines()[-1], f"Types: {types}")
+        self.assertNotIn(b"\nTypes: ", command("explain", "20")[0])
+
     def test_hints(self):
         self.assertIn("\nIt is packed by xz: ", command("check", "-", given=lzma.compress(GOOD))[1])
         self.assertIn("\nIt is empty: ", command("check", "-")[1])
@@ -251,8 +269,8 @@ class Commands(InFolder):
             (("filter", "--bbox=3,0,1,1", "-"), "empty box\n  tip: a box is "),
             (("filter", "--bbox=1e18,0,2e18,0", "-"), "box number out of range\n  tip: a box is "),
             (("filter", "--bbox", "1,2,3"), "bad box\n"),
-            (("explain",), "explain takes a code"),
             (("explain", "x"), "explain takes a code"),
+            (("explain", "25", "26"), "explain takes a code"),
             (("help", "chekc"), "tip: is check meant?\n"),
             (("check", "--resume", "x"), "--resume is for a --record"),
             (("check", "--record", "/dev/null", "-"), "standard input has no name"),

@@ -128,7 +128,7 @@ The command serves the streams of each INDEX as OGC API - Features, and a page t
 It judges a body as it comes, and stores nothing. Without INDEX there is only the page. Standard
 output has a line for each request. Ctrl-C or a signal stops the server, with status 0. It needs
 aiohttp and Jinja2 for Python.""",
-    "explain": "Example:\n  {0} explain 25",
+    "explain": "Examples:\n  {0} explain\n  {0} explain 25\n\nWithout CODE it lists all codes.",
 }
 
 

@@ -408,6 +408,6 @@ COMMANDS = {
             SERVES,
             "[INDEX]...",
         ),
-        Command("Explain the code of a reason, and how to fix the line", Explain, (), "<CODE>"),
+        Command("Explain the code of a reason, and how to fix the line", Explain, (), "[CODE]"),
     )
 }

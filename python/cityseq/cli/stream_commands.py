@@ -11,7 +11,7 @@ from functools import cached_property, partial
 from typing import TYPE_CHECKING, Any, Protocol
 
 from .. import __version__
-from ..engine import keep_room
+from ..engine import keep_room, library
 from ..engine.faults import RequestError
 from ..engine.judge import Work, asked
 from ..run import Result
@@ -29,6 +29,7 @@ if TYPE_CHECKING:
 
 MARK = b"\xef\xbb\xbf"  # a byte order mark
 HASHES = 2  # files that are hashed at once
+UNKNOWN_OBJECT_TYPE = 19  # the code of this reason
 Request = Check | Filter | Info
 
 
@@ -421,9 +422,13 @@ def run(request: Request) -> int:
 
 
 def explain_code(request: Explain) -> int:
-    """Prints what a code means, and returns the status."""
-    from ..engine.reports import explain  # no run needs it
+    """Prints what a code means, or all codes, and returns the status."""
+    from ..engine.reports import explain, explanations  # no run needs it
 
+    if not request.files:
+        for reason in explanations():
+            put(f"{reason.code} {reason.text}")
+        return 0
     try:
         (code,) = map(int, request.files)
         reason = explain(code)
@@ -432,4 +437,6 @@ def explain_code(request: Explain) -> int:
     except KeyError:
         raise RequestError(f"no reason has the code {request.files[0]}") from None
     put(f"{code} {reason.text}\n\n{reason.meaning}\n\nFix: {reason.fix}")
+    if code == UNKNOWN_OBJECT_TYPE:
+        put(f"\nTypes: {', '.join(library().type_names())}")
     return 0

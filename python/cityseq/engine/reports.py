@@ -50,6 +50,11 @@ def explain(code: int) -> Explanation:
     return _explanations()[code]
 
 
+def explanations() -> list[Explanation]:
+    """Returns what all codes mean, in the order of their numbers."""
+    return list(_explanations().values())
+
+
 def _text_of(code: int) -> str:
     known = _explanations().get(code)
     return known.text if known else "unknown reason"
