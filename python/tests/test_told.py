@@ -164,6 +164,29 @@ class Hints(unittest.TestCase):
             self.assertEqual(len(hints), 1, text)
             self.assertIn(wanted, hints[0])
 
+    def test_a_file_that_is_no_stream_has_one_advice(self):
+        """The hint says what to do with the file. The fix of the code is for a stream."""
+        whole = HEADER.replace(b'"CityObjects":{}', b'"CityObjects":{"b":{"type":"Building"}}')
+        for text, wanted in (
+            (whole, "cityseq-run split"),
+            (whole.replace(b",", b",\n"), "cityseq-run split"),
+            (b"\xef\xbb\xbf" + HEADER, "tail -c +4"),
+        ):
+            said = support.command("check", "-", given=text)[1]
+            self.assertIn(wanted, said.splitlines()[-1])
+            self.assertNotIn("Fix: ", said)
+            self.assertNotIn("empty", said.split("\n", 1)[1])
+
+    def test_a_header_with_city_objects(self):
+        """A stream whose header is not empty is no whole file. Both are told of `split`."""
+        head = HEADER.replace(b'"CityObjects":{}', b'"CityObjects":{"b":{"type":"Building"}}')
+        said = support.command("check", "-", given=head + PLAIN)[1].splitlines()
+        self.assertEqual(cityseq.check(head + PLAIN).hints, [])
+        self.assertRegex(said[-1], "^    Fix: Move .* into features")
+        for text in (head, head + PLAIN):
+            fix = cityseq.check(text).end.explanation.fix
+            self.assertIn("cityseq-run split", fix.split(". ")[0])
+
     def test_none(self):
         for text in (
             HEADER,
@@ -220,7 +243,21 @@ class Met(unittest.TestCase):
                 b'"type":"Building"',
                 b'"type":"Bulding"',
                 19,
-                'the type is "Bulding": is Building meant?',
+                'the type is "Bulding": Building may be meant',
+            ),
+            (
+                2,
+                b'"type":"Building"',
+                b'"type":"BUILDING"',
+                19,
+                'the type is "BUILDING": Building may be meant',
+            ),
+            (
+                2,
+                b'"type":"Building"',
+                b'"type":"Water"',
+                19,
+                'the type is "Water": Waterway or WaterBody may be meant',
             ),
             (2, b'"type":"Building"', b'"type":"+\xe2\x80\xae"', 19, 'the type is "+\\u202e"'),
             (2, b'"id":"house-1"', b'"id":"house-9"', 20, 'the id is "house-9"'),
@@ -263,6 +300,11 @@ class Met(unittest.TestCase):
     def test_the_command_says_that_it_is_a_hint(self):
         said = support.command("check", "-", given=town_with(2, b'"lod":"2.2",', b""))[1]
         self.assertIn('    Hint: the geometry has no "lod".\n', said)
+
+    def test_the_command_names_types(self):
+        said = support.command("check", "-", given=town_with(2, b'"Building"', b'"Bulding"'))[1]
+        self.assertIn('    Hint: the type is "Bulding": Building may be meant.\n', said)
+        self.assertRegex(said, "\n    Fix: .*`cityseq-run explain 19`.*\\.\n")
 
 
 class Shown(support.InFolder):

@@ -257,6 +257,7 @@ class Printer:
         self._request, self._bar = request, bar
         self._codes: Counter[int] = Counter()
         self._count = 0  # reports of the current file
+        self._has_hints = False
         self._most = request.max_reports
         if self._most is None and self._is_cut_on(sys.stderr):
             self._most = ON_A_TERMINAL
@@ -282,6 +283,7 @@ class Printer:
     def result(self, result: Result, extra: Callable[[], Object]) -> None:
         """Prints the result of a file. `extra` makes its object."""
         if result.end is not None and result.fault is None:
+            self._has_hints = bool(result.hints)
             self._take(result.end)
         if self._most is not None and self._count > self._most and self._are_printed():
             self.print_more(result.file, self._count - self._most)
@@ -365,7 +367,8 @@ class TextPrinter(Printer):
             yield f"    {' ' * report.column}{self._painted(GREEN, '^')}"
         if report.met is not None:
             yield f"    Hint: {report.met}."
-        yield f"    Fix: {report.explanation.fix.split('. ')[0].rstrip('.')}."
+        if not self._has_hints or report.line > 1:  # the hints say what to do with the file
+            yield f"    Fix: {report.explanation.fix.split('. ')[0].rstrip('.')}."
 
     def print_more(self, file: str, count: int) -> None:
         lines = "line is" if count == 1 else "lines are"

@@ -28,6 +28,7 @@ Needs = tuple[
     str, dict[str, Any], tuple[str, ...]
 ]  # what an object is, the object, and the members that it needs
 HEAD = 65_536  # bytes that are read for a hint
+TYPING_ERROR = 0.9  # how similar a text is to a type that is misspelled
 NO_HEADER, NOT_EMPTY, SYNTAX = 1, 16, 4
 TAR = 257, b"ustar"  # where an archive of tar has its mark
 CITYJSON = rb'"type"\s*:\s*"CityJSON"'
@@ -197,16 +198,24 @@ def _owner(words: str) -> Callable[[bytes, int, bool], str | None]:
     return told
 
 
-def _object_type(line: bytes, place: int, _: bool) -> str | None:
-    text = _string_at(line, place)
-    if text is None:
-        return None
+def types_like(text: str) -> list[str]:
+    """Returns the types of city objects that a text may mean, the nearest first. That is one if it
+    differs little from the text."""
     from difflib import get_close_matches  # only this function needs it
 
     from . import library
 
-    near = get_close_matches(text, library().type_names(), 1)
-    return f"the type is {quoted(text)}" + (f": is {near[0]} meant?" if near else "")
+    names = {name.lower(): name for name in library().type_names()}
+    near = get_close_matches(text.lower(), names, 1, TYPING_ERROR)
+    return [names[each] for each in near or get_close_matches(text.lower(), names)]
+
+
+def _object_type(line: bytes, place: int, _: bool) -> str | None:
+    text = _string_at(line, place)
+    if text is None:
+        return None
+    near = " or ".join(", ".join(types_like(text)).rsplit(", ", 1))
+    return f"the type is {quoted(text)}" + (f": {near} may be meant" if near else "")
 
 
 READERS: dict[int, Callable[[bytes, int, bool], str | None]] = {
@@ -274,7 +283,8 @@ def _hint_on_json(end: Report, first: bytes, rest: bytes) -> str | None:
         return OLD_LINES
     if re.search(FEATURE, first) and end.code != SYNTAX:
         return FEATURE_FIRST
-    return ONE_LINE if end.code == NOT_EMPTY and re.search(CITYJSON, first) else None
+    is_whole = end.code == NOT_EMPTY and re.search(CITYJSON, first)
+    return ONE_LINE if is_whole and not re.search(FEATURE, rest) else None
 
 
 def hints_for(end: Report, head: bytes) -> list[str]:

@@ -264,11 +264,9 @@ class UnknownType(RequestError):
 
     def alike(self) -> str | None:
         """Returns the type that the user may mean."""
-        from difflib import get_close_matches  # only mistakes need it
+        from .hints import types_like  # only mistakes need it
 
-        names = {name.lower(): name for name in library().type_names()}
-        near = get_close_matches(self.name.lower(), names, 1)
-        return names[near[0]] if near else None
+        return next(iter(types_like(self.name)), None)
 
 
 @dataclass
