@@ -204,6 +204,27 @@ class Commands(InFolder):
         self.assertEqual(output.decode().splitlines()[-1], f"Types: {types}")
         self.assertNotIn(b"\nTypes: ", command("explain", "20")[0])
 
+    def test_more_may_be_invalid(self):
+        """It is said once, after all reports, and where `--keep-going` would tell more."""
+        more = "more lines may be invalid: use --keep-going"
+        broken = self.file(BROKEN, "broken.jsonl")
+        for words in ((broken,), (broken, broken), ("--summary", broken), ("-",)):
+            said = command("check", *words, given=BROKEN)[1].splitlines()
+            self.assertEqual((said.count(more), said[-1]), (1, more), words)
+        for words in (
+            ("--quiet", broken),
+            ("--json", broken),
+            ("--keep-going", broken),
+            ("--format", "sarif", broken),
+            (),
+            ("--tree", self.file(GOOD, "good.jsonl")),
+            (self.file(HEADER.replace(b"2.0", b"1.1"), "header.jsonl"),),
+            (self.folder / "none",),
+        ):
+            self.assertNotIn(more, command("check", *words, given=BROKEN)[1], words)
+        for words in (("info",), ("filter",), ("index", "--output", self.folder / "it.gpkg")):
+            self.assertNotIn(more, command(*words, broken)[1], words)
+
     def test_hints(self):
         self.assertIn("\nIt is packed by xz: ", command("check", "-", given=lzma.compress(GOOD))[1])
         self.assertIn("\nIt is empty: ", command("check", "-")[1])

@@ -28,6 +28,7 @@ if TYPE_CHECKING:
 Object = dict[str, Any]
 PrintRequest = Check | Filter | InfoRequest | WriteIndex
 ON_A_TERMINAL = 1_000  # reports of one file that are printed there
+MORE = "more lines may be invalid: use --keep-going"
 BOLD, RED, GREEN, PLAIN = "\x1b[1m", "\x1b[31m", "\x1b[32m", "\x1b[0m"
 
 
@@ -257,7 +258,7 @@ class Printer:
         self._request, self._bar = request, bar
         self._codes: Counter[int] = Counter()
         self._count = 0  # reports of the current file
-        self._has_hints = False
+        self._has_hints = self._has_rest = False
         self._most = request.max_reports
         if self._most is None and self._is_cut_on(sys.stderr):
             self._most = ON_A_TERMINAL
@@ -284,6 +285,7 @@ class Printer:
         """Prints the result of a file. `extra` makes its object."""
         if result.end is not None and result.fault is None:
             self._has_hints = bool(result.hints)
+            self._has_rest = self._has_rest or result.end.line > 1
             self._take(result.end)
         if self._most is not None and self._count > self._most and self._are_printed():
             self.print_more(result.file, self._count - self._most)
@@ -407,6 +409,13 @@ class TextPrinter(Printer):
 
         for code in sorted(codes):
             self._say(f"{codes[code]:7} {code} {explain(code).text}")
+
+    def close(self) -> None:
+        super().close()
+        request = self._request
+        is_wanted = isinstance(request, Check) and not (request.quiet or request.is_plain)
+        if is_wanted and self._has_rest and not request.keep_going:
+            self._say(MORE)
 
 
 class JsonPrinter(Printer):
