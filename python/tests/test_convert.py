@@ -570,12 +570,19 @@ class Command(InFolder):
             cityseq.collect(split(self.text), output)
             with open(output, "rb") as file:
                 self.assertEqual(held.getvalue(), file.read())
-        fault = OSError(28, "No space left on device")
-        with mock.patch("tempfile.TemporaryFile", side_effect=fault):
-            with mock.patch("cityseq.sources.outputs.HELD", 50):
+
+    @mock.patch("cityseq.sources.outputs.HELD", 50)
+    @mock.patch("tempfile.TemporaryFile", side_effect=OSError(28, "No space left on device"))
+    def test_a_temporary_file_that_cannot_be_written(self, _):
+        held = io.BytesIO()
+        for folder, wanted in (("/there", "/there"), (None, "temporary files")):
+            with mock.patch("tempfile.tempdir", folder):
                 with self.assertRaises(cityseq.WriteFault) as caught:
                     cityseq.collect(split(self.text), held)
-        self.assertIn("a temporary file: write fault: No space left", str(caught.exception))
+            self.assertEqual(
+                (str(caught.exception), held.getvalue()),
+                (f"{wanted}: write fault: No space left on device", b""),
+            )
 
     def test_names_cannot_write_to_a_terminal(self):
         text = whole('"\\u001b[31m":{"type":"Road","n":NaN}')

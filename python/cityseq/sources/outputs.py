@@ -14,7 +14,7 @@ from contextlib import suppress
 from functools import partial
 from typing import IO, Any, Union
 
-from ..engine.faults import RequestError, write_fault
+from ..engine.faults import RequestError, WriteFault, write_fault
 from . import is_path, name_of
 from .packed import LEVEL, Packer, Packing, Text, pack, packing_by_name, require
 
@@ -455,8 +455,8 @@ class Whole:
             return
         try:
             self._held.write(text)
-        except (OSError, ValueError) as fault:
-            raise write_fault(fault, "a temporary file") from fault
+        except OSError as fault:
+            raise self._fault(fault) from fault
 
     def close(self) -> None:
         """Ends an output that is whole."""
@@ -473,7 +473,14 @@ class Whole:
             while piece := self._held.read(PIECE):
                 yield piece
         except OSError as fault:
-            raise write_fault(fault, "a temporary file") from fault
+            raise self._fault(fault) from fault
+
+    @staticmethod
+    def _fault(fault: OSError) -> WriteFault:
+        """Returns the fault of the temporary file, with its folder if there is one."""
+        import tempfile  # few runs need it
+
+        return write_fault(fault, tempfile.tempdir or "temporary files")
 
     def discard(self) -> None:
         """Removes what is not whole."""
