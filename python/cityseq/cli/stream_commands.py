@@ -426,8 +426,7 @@ def explain_code(request: Explain) -> int:
     from ..engine.reports import explain, explanations  # no run needs it
 
     if not request.files:
-        for reason in explanations():
-            put(f"{reason.code} {reason.text}")
+        put("\n".join(f"{reason.code} {reason.text}" for reason in explanations()))
         return 0
     try:
         (code,) = map(int, request.files)
@@ -436,7 +435,8 @@ def explain_code(request: Explain) -> int:
         raise RequestError("explain takes a code, as explain 25") from None
     except KeyError:
         raise RequestError(f"no reason has the code {request.files[0]}") from None
-    put(f"{code} {reason.text}\n\n{reason.meaning}\n\nFix: {reason.fix}")
+    parts = [f"{code} {reason.text}", reason.meaning, f"Fix: {reason.fix}"]
     if code == UNKNOWN_OBJECT_TYPE:
-        put(f"\nTypes: {', '.join(library().type_names())}")
+        parts.append(f"Types: {', '.join(library().type_names())}")
+    put("\n\n".join(parts))
     return 0
