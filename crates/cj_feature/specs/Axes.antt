@@ -1,5 +1,5 @@
--- Axes in code: maps and numbers, where 0 stands for a number that is not there. The laws of their calls say that all are
--- there.
+-- Axes in code: maps and numbers, where 0 stands for a number that is not there. The laws of their calls say that all
+-- are there.
 use Rattle.std.specs.Prelude.{◌≡◌, ℕ, ◌<◌, List, [], ◌∷◌, length, get_or, unwrap_or, ℤ, pos, Option, Some, None, codes}
 use Rattle.std.specs.Option.{option_map_or}
 use Rattle.std.specs.Str.{chars}

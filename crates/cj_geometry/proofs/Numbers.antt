@@ -156,8 +156,8 @@ whole-small t = by_kind (is_number (kind_of t))
     by_value (Err e) = omega arith
 
     by_kind : (b : Bool)
-        → unsigned_abs (unwrap_or (option_and_then as_whole (cond b (result_ok (decimal_of (spelling t))) None)) (pos 0))
-        < 10 ^ 18
+        → unsigned_abs (unwrap_or (option_and_then as_whole
+        (cond b (result_ok (decimal_of (spelling t))) None)) (pos 0)) < 10 ^ 18
     by_kind true = by_value (decimal_of (spelling t))
     by_kind false = omega arith
 

@@ -33,7 +33,8 @@ is_blank_line number content = nat_lt 1 number && list_all is_blank_byte content
 -- of which each city object has to be reached where that is told
 abbrev pub findings : Rules → ℕ → Tree → Tree → List Finding
 findings rules number header t =
-    if number == 1 then header_findings (needs_box rules.criteria) t else feature_findings header t rules.options.all_reached
+    if number == 1 then header_findings (needs_box rules.criteria) t
+    else feature_findings header t rules.options.all_reached
 
 -- a feature is asked for that satisfies what is asked, or, where such are left out, one that does not
 abbrev pub is_asked : Rules → Tree → Tree → Bool

@@ -6,13 +6,15 @@ returns-clause-checks c =
     let j = c.judge-judged.ensures in
     record {
       went = c.judge-judged.result;
-      goes = goes _ c.args.request.now c.args.header.now c.args.part.now _ _ c.args.reports.now c.judge-judged.new.reports
-          (λ rules o. Unit {0}) (λ rules o judged. tt) c.judge-judged.result j.ok j.declined j.unread;
+      goes = goes _ c.args.request.now c.args.header.now c.args.part.now _ _ c.args.reports.now
+          c.judge-judged.new.reports (λ rules o. Unit {0}) (λ rules o judged. tt) c.judge-judged.result
+          j.ok j.declined j.unread;
       told = c.of.ensures;
     }
 
 pub returns-clause-fits : goal.returns-clause-fits
-returns-clause-fits c = never-full c.args.request.now c.judge-judged.result c.of.result 0 c.of.ensures c.judge-judged.ensures.cause
+returns-clause-fits c =
+    never-full c.args.request.now c.judge-judged.result c.of.result 0 c.of.ensures c.judge-judged.ensures.cause
 
 pub returns-clause-unjudged : goal.returns-clause-unjudged
 returns-clause-unjudged c which =

@@ -30,7 +30,8 @@ returns-clause-lists c =
     }
 
 pub returns-clause-fits : goal.returns-clause-fits
-returns-clause-fits c = never-full c.args.request.now c.judge-judged.result c.of.result 0 c.of.ensures c.judge-judged.ensures.cause
+returns-clause-fits c =
+    never-full c.args.request.now c.judge-judged.result c.of.result 0 c.of.ensures c.judge-judged.ensures.cause
 
 pub returns-clause-unjudged : goal.returns-clause-unjudged
 returns-clause-unjudged c which =
@@ -38,7 +39,8 @@ returns-clause-unjudged c which =
     let s = c.new-listed.result in
     let t = c.judge-judged.new.sink in
     let same = unjudged (never_fails ListsItem) c.args.request.now c.args.header.now c.args.part.now s t
-    c.args.reports.now c.judge-judged.new.reports c.judge-judged.result c.of.result 0 c.of.ensures j.ok j.unread which in (
+    c.args.reports.now c.judge-judged.new.reports c.judge-judged.result c.of.result 0 c.of.ensures j.ok j.unread
+    which in (
       same.0,
       same.1,
       c.records-1.given.1.1 (sym c.new-listed.ensures.loan ∙ sym (ap listed_loan same.2))

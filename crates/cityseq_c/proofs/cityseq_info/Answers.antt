@@ -39,4 +39,5 @@ returns-clause-tallies c =
     }
 
 pub returns-clause-fits : goal.returns-clause-fits
-returns-clause-fits c = never-full c.args.request.now c.judge-judged.result c.of-2.result 0 c.of-2.ensures c.judge-judged.ensures.cause
+returns-clause-fits c =
+    never-full c.args.request.now c.judge-judged.result c.of-2.result 0 c.of-2.ensures c.judge-judged.ensures.cause

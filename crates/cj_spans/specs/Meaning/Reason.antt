@@ -1,4 +1,4 @@
--- The codes of reasons: docs/REASONS.md. Of two findings at one byte the one with the lower code comes first.
+-- The codes of reasons: docs/RULES.md. Of two findings at one byte the one with the lower code comes first.
 use Rattle.std.specs.Prelude.{ℕ}
 use Rattle.cj_spans.specs.declared.reason.Reason.{Reason}
 use Rattle.cj_spans.specs.declared.reason.Reason.TheVariants.{NoHeader, LineTooLong, NotUtf8, Syntax, TooDeep}

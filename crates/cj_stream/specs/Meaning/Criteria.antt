@@ -79,7 +79,8 @@ abbrev pub some_at_most : Tree → Tree → ℕ → ℤ → Bool
 some_at_most header t axis end = list_any (λ v. there_is (λ n. int_le n end) (coordinate header axis v)) (vertices_of t)
 
 abbrev pub some_at_least : Tree → Tree → ℕ → ℤ → Bool
-some_at_least header t axis end = list_any (λ v. there_is (λ n. int_le end n) (coordinate header axis v)) (vertices_of t)
+some_at_least header t axis end =
+    list_any (λ v. there_is (λ n. int_le end n) (coordinate header axis v)) (vertices_of t)
 
 -- some vertices are at most at the greater ends of the box, and some at least at its lesser ends
 abbrev pub is_in : Box → Tree → Tree → Bool
