@@ -4,9 +4,12 @@ import io
 import os
 import subprocess
 import sys
+import threading
 import unittest
 
 import cityseq
+from cityseq.engine.judge import work_of
+from cityseq.sources.chunks import Chunks
 
 from . import support
 from .support import HEADER, PLAIN, InFolder, feature, numbered
@@ -51,6 +54,22 @@ class Sources(InFolder):
                 [results[0].file, results[2].file, results[4].file],
                 [str(path), str(packed), "<bytes>"],
             )
+
+    def test_a_line_that_is_too_long_ends_an_open_input(self):
+        """No read follows it, which would wait, however long its judgement takes."""
+        work = work_of("check", cityseq.Options(cityseq.Limits(line=1000)))
+        chunks = []
+        read, write = os.pipe()
+        with open(read, "rb", buffering=0) as source, open(write, "wb", buffering=0) as stays_open:
+            stays_open.write(HEADER + b"[" * 1001)
+            thread = threading.Thread(target=lambda: chunks.extend(Chunks(source, work)))
+            thread.start()
+            thread.join(30)
+            has_ended = not thread.is_alive()
+            stays_open.close()  # so a read ends
+            thread.join()
+        self.assertTrue(has_ended)
+        self.assertEqual((bytes(chunks[-1].text), chunks[-1].is_last), (b"[" * 1001, True))
 
     def test_outputs(self):
         path, packed, memory = self.folder / "out.jsonl", self.folder / "out.jsonl.gz", io.BytesIO()

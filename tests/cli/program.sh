@@ -468,7 +468,7 @@ row_a_report_comes_at_once() {
   "$program" filter --keep-going < "$scratch/in" > "$scratch/written" 2> "$scratch/err" &
   exec 3> "$scratch/in" 4< "$scratch/err"
   lines "$header" '[]' >&3
-  IFS= read -r -t 20 report <&4
+  IFS= read -r -t 60 report <&4
   lines "$feature" >&3
   exec 3>&-
   cat <&4 > "$scratch/rest"
@@ -487,8 +487,8 @@ row_kept_lines_come_before_the_input_ends() {
   timeout 60 "$program" filter < "$scratch/in" > "$scratch/out" 2> "$scratch/said" &
   exec 3> "$scratch/in" 4< "$scratch/out"
   { lines "$header"; yes "$feature" | head -n 300; } >&3 2> "$scratch/noise"
-  IFS= read -r -t 20 first <&4
-  IFS= read -r -t 20 second <&4
+  IFS= read -r -t 60 first <&4
+  IFS= read -r -t 60 second <&4
   exec 3>&-
   { lines "$first" "$second"; cat <&4; } > "$scratch/written"
   wait $!
@@ -506,7 +506,7 @@ row_kept_lines_come_before_the_input_ends() {
 run_on_open_input() {
   local process
   mkfifo "$scratch/in"
-  timeout 20 "$program" "$@" < "$scratch/in" > "$scratch/written" 2> "$scratch/said" &
+  timeout 60 "$program" "$@" < "$scratch/in" > "$scratch/written" 2> "$scratch/said" &
   process=$!
   exec 3> "$scratch/in"
   cat >&3 2> "$scratch/noise"
@@ -544,7 +544,7 @@ row_a_long_line_is_the_end_of_an_open_input() {
 # fails.
 row_a_full_device_is_the_end_of_an_open_input() {
   mkfifo "$scratch/in"
-  timeout 20 "$program" filter < "$scratch/in" > /dev/full 2> "$scratch/said" &
+  timeout 60 "$program" filter < "$scratch/in" > /dev/full 2> "$scratch/said" &
   exec 3> "$scratch/in"
   { lines "$header"; yes "$feature" | head -n 5000; } 2> "$scratch/noise" | cat >&3 2>> "$scratch/noise"
   wait $!

@@ -76,7 +76,7 @@ row_little_memory_and_many_threads() {
   (ulimit -v 250000 && cityseq check --jobs 8 --part-size 100000 "$scratch/stream" > "$scratch/out" 2> "$scratch/said")
   ended_well $? || return
   for n in {1..8}; do
-    (ulimit -v 300000 && timeout 20 "$python" -m cityseq check --jobs 64 --part-size 20000 "$scratch/stream" \
+    (ulimit -v 300000 && timeout 60 "$python" -m cityseq check --jobs 64 --part-size 20000 "$scratch/stream" \
       > "$scratch/out" 2> "$scratch/said")
     ended_well $? || return
   done
@@ -128,7 +128,7 @@ row_memory_that_is_not_enough_to_begin() {
   stream 100 > "$scratch/stream"
   compiled
   for size in 20000 22000 24000 26000 28000 30000; do
-    (ulimit -v $size && timeout 20 "$python" -m cityseq check "$scratch/stream" > "$scratch/out" 2> "$scratch/said")
+    (ulimit -v $size && timeout 60 "$python" -m cityseq check "$scratch/stream" > "$scratch/out" 2> "$scratch/said")
     is_out_of_memory $? || return
   done
 }
@@ -138,7 +138,7 @@ row_an_index_and_memory_that_is_not_enough_to_begin() {
   stream 100 > "$scratch/stream"
   compiled
   for size in 22000 24000 26000 28000 30000 32000 34000 36000; do
-    (ulimit -v $size && timeout 20 "$python" -m cityseq index --output "$scratch/it.gpkg" "$scratch/stream" \
+    (ulimit -v $size && timeout 60 "$python" -m cityseq index --output "$scratch/it.gpkg" "$scratch/stream" \
       > "$scratch/out" 2> "$scratch/said")
     is_out_of_memory $? || return
   done

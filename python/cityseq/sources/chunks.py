@@ -438,6 +438,8 @@ class Chunks:
         while cutter.is_open:
             if reader.is_idle():
                 yield from cutter.pause()
+                if not cutter.is_open:  # a line that is too long: a read might wait for ever
+                    break
             piece = reader.read(PIECE)
             if not piece:
                 break
