@@ -663,6 +663,7 @@ class Trees(unittest.TestCase):
             self.assertTrue(
                 nearest in (low, high) and (low == high) == (Fraction(nearest) == exact)
             )
+        self.assertEqual([str(end(0, 1_000)) for end in (floor_of, ceiling_of)], ["0.0", "0.0"])
 
     def test_intervals_are_rounded_outward(self):
         from cityseq.engine.world import Axis, ceiling_of, floor_of

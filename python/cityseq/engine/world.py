@@ -34,7 +34,7 @@ def floor_of(count: int, unit: int) -> float:
 
 def ceiling_of(count: int, unit: int) -> float:
     """Returns the least float that is at least `count / unit`."""
-    return -floor_of(-count, unit)
+    return 0.0 - floor_of(-count, unit)  # and not -0.0
 
 
 def _shift(counts: Sequence[int], unit: int) -> int | None:
