@@ -20,7 +20,7 @@
  * - malloc, realloc and free belong to one allocator, and align a block as the C standard says. A call frees what it took before
  *   it returns. By measurement, it has at most as many bytes at one time as cityseq_memory says.
  * - A thread has as much of the stack as cityseq_stack says. With glibc it has more by default. By measurement, a call takes at
- *   most 64 KB if no feature has more than 256 city objects, 128 KB under a line limit of 65,536, and else 2 MB.
+ *   most 2 MB, or 128 KB under a line limit of 65,536. If no feature has more than 256 city objects, it takes at most 64 KB.
  * - The processor has x86-64-v2: SSE 4.2, SSSE3 and POPCNT.
  */
 #ifndef CITYSEQ_H
@@ -43,12 +43,13 @@ extern "C" {
 
 /* The interface that this file declares. cityseq_interface returns that of the library.
  *
- * 3: A feature has `attributes_begin` and `attributes_length`, and an answer has `list` and `item`.
- * 2: cityseq_tally is now cityseq_info, so that in C++ the struct needs no keyword. New are cityseq_features, the joins,
+ * 3. A feature has `attributes_begin` and `attributes_length`, and an answer has `list` and `item`. A request has `extensions`, and
+ *    a tally has a last count of types, for those of extensions.
+ * 2. cityseq_tally is now cityseq_info, so that in C++ the struct needs no keyword. New are cityseq_features, the joins,
  *    cityseq_part_end, cityseq_line_begin, cityseq_stack, cityseq_memory and cityseq_version. A report has `begin`, and a tally
  *    has the transform. There are constants for the reasons and for the sizes of a tally. NULL is allowed if there are no bytes.
  *    After CITYSEQ_NO_MEMORY all counts are 0. After it and CITYSEQ_BAD_REQUEST a tally is as it was.
- * 1: the first one. */
+ * 1. The first one. */
 #define CITYSEQ_INTERFACE 3
 
 /* The version of cityseq that this file belongs to. */
@@ -59,8 +60,8 @@ extern "C" {
 enum cityseq_status {
     CITYSEQ_COMPLETE = 0,    /* All lines were read, and none was the end. */
     CITYSEQ_REFUSED = 1,     /* A line is invalid: line, place and code say which, where and why. */
-    CITYSEQ_BAD_REQUEST = 2, /* The request is wrong. code is a cityseq_fault, and list and item say where it is. */
-    CITYSEQ_NO_ROOM = 4,     /* cityseq_filter alone: the next kept line does not fit in the output. */
+    CITYSEQ_BAD_REQUEST = 2, /* The request is wrong. `code` is a cityseq_fault, and list and item say where it is. */
+    CITYSEQ_NO_ROOM = 4,     /* Of cityseq_filter alone: the next kept line does not fit in the output. */
     CITYSEQ_NO_MEMORY = 5    /* No memory was granted. */
 };
 
@@ -124,6 +125,7 @@ struct cityseq_request {
     bool keep_going;      /* After an invalid line that is not the header, report it and go on. */
     bool tree;            /* Each city object must be reached from the feature's main one. */
     bool exclude;         /* Leave out the features that satisfy the query, and keep all others. */
+    bool extensions;      /* Accept types of city objects that begin with `+`, the types of extensions. */
     bool asks_ids;        /* The id must be one of these. */
     bool asks_types;      /* Some city object must have one of these types. */
     bool asks_lods;       /* Some geometry must have one of these LoDs, spelled the same. */
@@ -140,7 +142,7 @@ struct cityseq_request {
 
 /* A request for all features, at the usual limits. */
 #define CITYSEQ_USUAL \
-    { 8388608, 64, false, false, false, false, false, false, false, "", 0, "", 0, "", 0, "", 0 }
+    { 8388608, 64, false, false, false, false, false, false, false, false, "", 0, "", 0, "", 0, "", 0 }
 
 /* An invalid line after which reading went on. */
 struct cityseq_report {
@@ -174,7 +176,7 @@ struct cityseq_range {
     int64_t greatest;
 };
 
-#define CITYSEQ_TYPES 33 /* The number of city object types. */
+#define CITYSEQ_TYPES 34 /* The number of city object types, and the last count: all types of extensions. */
 #define CITYSEQ_LODS 6   /* The number of LoD classes. */
 
 /* The number (high * 2^64 + low) * 10^power, exactly. It has at most 36 digits, and no zero at its end. */

@@ -121,6 +121,8 @@ class request {
     request &tree(bool on = true) { return tree_ = on, *this; }
     // Sets whether the features that satisfy the query are left out, and all others kept.
     request &exclude(bool on = true) { return exclude_ = on, *this; }
+    // Sets whether types that begin with `+`, the types of extensions, are accepted.
+    request &extensions(bool on = true) { return extensions_ = on, *this; }
     // The id must be one of these. Some city object must have one of these types. Some geometry
     // must have one of these LoDs, spelled the same. Each throws std::invalid_argument if a text
     // has an LF.
@@ -146,6 +148,7 @@ class request {
         raw.keep_going = keep_going_;
         raw.tree = tree_;
         raw.exclude = exclude_;
+        raw.extensions = extensions_;
         raw.asks_ids = ids_.asked;
         raw.asks_types = types_.asked;
         raw.asks_lods = lods_.asked;
@@ -199,7 +202,7 @@ class request {
 
     static constexpr ::cityseq_request usual_ = CITYSEQ_USUAL;
     std::uint64_t line_limit_ = usual_.line_limit, depth_limit_ = usual_.depth_limit;
-    bool keep_going_ = false, tree_ = false, exclude_ = false;
+    bool keep_going_ = false, tree_ = false, exclude_ = false, extensions_ = false;
     part ids_, types_, lods_, box_;
 };
 

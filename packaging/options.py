@@ -147,8 +147,9 @@ def read(name, words):
 def of_package():
     """The command of the package, by its table of options."""
     sys.path.insert(0, str(ROOT / "python"))
-    from cityseq.cli.help import TOP, about
-    from cityseq.cli.options import COMMANDS
+    from cityseq.cli.help import TOP, told
+    from cityseq.cli.options import options_of
+    from cityseq.cli.requests import COMMANDS
 
     help_option = Option("-h", "--help", None, "Print help.")
     top = [Option(*names.split(", "), None, sentences(text)) for names, text in TOP]
@@ -156,18 +157,18 @@ def of_package():
     for command in COMMANDS.values():
         options = [
             Option(
-                each.short and f"-{each.short}",
+                f"-{each.short}" if each.short else None,
                 f"--{each.name}",
                 each.value,
-                sentences(about(each, command)),
+                sentences(each.about),
             )
-            for each in command.options
+            for each in options_of(command)
         ]
         takes_codes = command.operands == "[CODE]"
         takes_files = "[" in command.operands and not takes_codes
         words = codes() if takes_codes else ""
-        helps[command.name] = Help({}, [*options, help_option], takes_files, words)
-    abouts = {command.name: sentences(command.about) for command in COMMANDS.values()}
+        helps[command.command] = Help({}, [*options, help_option], takes_files, words)
+    abouts = {name: sentences(told(command)[0]) for name, command in COMMANDS.items()}
     abouts["help"] = "Print this help, or the help on a command."
     return Command("cityseq-run", Help(abouts, top, False), helps)
 

@@ -259,7 +259,7 @@ def write_tests():
 
 
 TESTS_HEAD = """\
-//! The vectors of the folder `vectors/`, by section, without its two families. Written by
+//! The vectors of the folder `vectors/`, by section, without its three families. Written by
 //! vectors/make.py: change vectors/rows.py and run it again.
 //!
 //! A row has cells with bars between them:
@@ -282,7 +282,7 @@ use std::test::Fail;
 
 
 def main():
-    for folder in ("cut", "not-utf8"):
+    for folder in ("cut", "extensions", "not-utf8"):
         shutil.rmtree(os.path.join(HERE, folder), ignore_errors=True)
         os.mkdir(os.path.join(HERE, folder))
     for name in os.listdir(HERE):

@@ -195,6 +195,158 @@ row("type-in-another-case", [H, feature('"b":{"type":^"building"}')], 19)
 row("type-with-a-space", [H, feature('"b":{"type":^"Building "}')], 19)
 row("type-that-is-empty", [H, feature('"b":{"type":^""}')], 19)
 
+section("19: types of extensions")
+EXTENDED = ["--extensions"]
+
+
+def of_type(spelled, more=""):
+    """A feature of one city object of this type, with these members."""
+    return feature(f'"b":{{"type":{spelled}{more}}}')
+
+
+for name, spelled in (
+    ("of-an-extension", '"+Shed"'),
+    ("of-a-sign-alone", '"+"'),
+    ("of-two-signs", '"++"'),
+    ("of-a-sign-by-an-escape", '"\\u002bShed"'),
+    ("of-a-sign-by-an-escape-in-capitals", '"\\u002BShed"'),
+    ("of-a-sign-before-a-type", '"+Building"'),
+    ("of-a-sign-before-a-part", '"+BuildingPart"'),
+    ("of-a-sign-before-a-space", '"+ "'),
+    ("of-a-sign-before-a-quote", '"+\\""'),
+    ("of-a-sign-before-a-letter-of-two-bytes", '"+é"'),
+    ("of-a-sign-before-half-a-pair", '"+\\ud800"'),
+    ("of-a-sign-before-a-group", '"+CityObjectGroup"'),
+):
+    row("known-" + name, [H, of_type(spelled)], words=EXTENDED)
+    row("unknown-" + name, [H, of_type("^" + spelled)], 19)
+for name, spelled in (
+    ("of-no-sign", '"Shed"'),
+    ("of-no-letters", '""'),
+    ("of-a-space-before-the-sign", '" +Shed"'),
+    ("of-a-sign-at-the-end", '"Shed+"'),
+    ("of-a-spelled-escape", '"\\\\u002bShed"'),
+    ("of-a-minus", '"-Shed"'),
+    ("of-a-wide-sign", '"＋Shed"'),
+    ("of-a-small-letter", '"building"'),
+    ("of-a-sign-behind-no-break-space", '"\\u00a0+Shed"'),
+):
+    row("extended-" + name, [H, of_type("^" + spelled)], 19, words=EXTENDED)
+for name, spelled in (("number", "3"), ("null", "null"), ("array", '["+Shed"]'), ("truth", "true")):
+    row("extended-type-that-is-a-" + name, [H, of_type("^" + spelled)], 12, words=EXTENDED)
+row("extended-of-no-type", [H, feature('"b":^{}')], 10, words=EXTENDED)
+row("extended-of-two-types", [H, of_type('"+Shed",^"type":"+Shed"')], 11, words=EXTENDED)
+row("extension-of-no-parents", [H, of_type('"+Shed"', ',"parents":[]')], words=EXTENDED)
+row("extension-of-a-parent-elsewhere", [H, of_type('"+Shed"', ',"parents":["q"]')], words=EXTENDED)
+row(
+    "extension-of-null-for-parents", [H, of_type('"+Shed"', ',"parents":^null')], 12, words=EXTENDED
+)
+row("extension-of-a-lost-child", [H, of_type('"+Shed"', ',"children":[^"q"]')], 21, words=EXTENDED)
+row(
+    "extension-of-itself-as-child",
+    [H, of_type('"+Shed"', ',"children":[^"b"]')],
+    22,
+    words=EXTENDED,
+)
+row(
+    "extension-of-itself-as-parent",
+    [H, of_type('"+Shed"', ',"parents":[^"b"]')],
+    22,
+    words=EXTENDED,
+)
+row(
+    "extension-named-as-a-group-of-a-lost-child",
+    [H, of_type('"+CityObjectGroup"', ',"children":[^"q"]')],
+    21,
+    words=EXTENDED,
+)
+for name, part, at in (
+    ("a-part", '{"type":"BuildingPart","parents":["b"]}', None),
+    ("a-part-of-another", '{"type":"BuildingPart","parents":["q"]}', 22),
+    ("one-of-an-extension", '{"type":"+Part","parents":["b"]}', None),
+    ("one-that-does-not-list-it", '{"type":"+Part"}', 22),
+    ("a-road-that-lists-it", '{"type":"Road","parents":["b"]}', None),
+):
+    mark = "^" if at else ""
+    row(
+        "extension-over-" + name,
+        [H, feature(f'"b":{{"type":"+Shed","children":[{mark}"p"]}},"p":{part}')],
+        at,
+        words=EXTENDED,
+    )
+row(
+    "part-of-an-extension-elsewhere",
+    [H, feature('"b":^{"type":"BuildingPart","parents":["q"]},"c":{"type":"+Shed"}')],
+    23,
+    words=EXTENDED,
+)
+row(
+    "extension-in-a-building",
+    [H, feature('"b":{"type":"Building","children":["p"]},"p":{"type":"+Part","parents":["b"]}')],
+    words=EXTENDED,
+)
+row(
+    "extension-apart",
+    [H, feature(B + ',"c":^{"type":"+Shed"}')],
+    31,
+    words=["--extensions", "--tree"],
+)
+row("extension-apart-and-no-tree-asked", [H, feature(B + ',"c":{"type":"+Shed"}')], words=EXTENDED)
+row("extension-apart-and-unknown", [H, feature(B + ',"c":^{"type":"+Shed"}')], 31, words=["--tree"])
+row(
+    "extension-of-an-index-too-great",
+    [H, of_type('"+Shed"', ',"geometry":[{"type":"MultiPoint","lod":"1","boundaries":[^0]}]')],
+    25,
+    words=EXTENDED,
+)
+row(
+    "extension-of-a-cone",
+    [H, of_type('"+Shed"', ',"geometry":[{"type":^"+Cone"}]')],
+    24,
+    words=EXTENDED,
+)
+row("semantics-of-an-extension", [H, solid("null", surfaces='[{"type":"+Roof"}]')], words=EXTENDED)
+shed = one('"type":"Building"', '"type":"+Shed"')
+row("extension-among-others", [H, F, shed, F], words=EXTENDED)
+row(
+    "extension-among-others-and-unknown", [H, F, one('"type":"Building"', '"type":^"+Shed"'), F], 19
+)
+row("extension-asked-for-by-its-id", [H, F, shed], words=["--extensions", "--id", "b1"])
+row("extension-asked-for-by-its-lod", [H, shed], words=["--extensions", "--lod", "2.2"])
+row("extension-asked-for-by-another-lod", [H, shed], words=["--extensions", "--lod", "1"], kept=[1])
+row(
+    "extension-beside-what-is-asked-for",
+    [H, F, shed],
+    words=["--extensions", "--type", "Building"],
+    kept=[1, 2],
+)
+row("extension-in-a-box", [H, shed], words=["--extensions", "--bbox=1001,2001,1005,2005"])
+row(
+    "extension-that-is-left-out",
+    [H, F, shed],
+    words=["--extensions", "--exclude", "--type", "Building"],
+    kept=[1, 3],
+)
+row("extensions-and-an-empty-stream", [], 1, 0, words=EXTENDED)
+row("extensions-and-no-feature", [H], words=EXTENDED)
+row(
+    "extensions-and-members-of-the-header",
+    [header('"vertices":[]', '"vertices":[],"+census":3,"extensions":{"Noise":{}}')],
+    words=EXTENDED,
+)
+row(
+    "extensions-and-a-type-of-the-header",
+    [header('"CityJSON"', '^"+CityJSON"')],
+    14,
+    words=EXTENDED,
+)
+row(
+    "extensions-and-a-type-of-the-feature",
+    [H, feature(B).replace('"CityJSONFeature"', '^"+CityJSONFeature"')],
+    14,
+    words=EXTENDED,
+)
+
 section("20: id not among the city objects")
 row(
     "id-of-no-city-object",
@@ -453,3 +605,17 @@ for count in range(1, 210):
     row(f"cut/{count:03}", [H, F[:count]], 4, count)
 for at in range(210):
     row(f"not-utf8/{at:03}", [H, F.encode()[:at] + b"\x80" + F.encode()[at + 1 :]], 3, at)
+
+# ---- each type of CityJSON 2.0, and the same behind the sign of extensions, where these are known
+LEVELS = (
+    "Bridge Building CityFurniture CityObjectGroup GenericCityObject LandUse OtherConstruction PlantCover Railway Road"
+    " SolitaryVegetationObject TINRelief TransportSquare Tunnel WaterBody Waterway",
+    "BridgeConstructiveElement BridgeFurniture BridgeInstallation BridgePart BridgeRoom BuildingConstructiveElement"
+    " BuildingFurniture BuildingInstallation BuildingPart BuildingRoom BuildingStorey BuildingUnit"
+    " TunnelConstructiveElement TunnelFurniture TunnelHollowSpace TunnelInstallation TunnelPart",
+)
+for level, names in enumerate(LEVELS):
+    for name in names.split():
+        lines = [H, feature(f'"b":^{{"type":"{name}"}}' if level else f'"b":{{"type":"{name}"}}')]
+        row(f"extensions/{name}", lines, 10 if level else None, words=EXTENDED)
+        row(f"extensions/plus-{name}", [H, of_type(f'"+{name}"')], words=EXTENDED)

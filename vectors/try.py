@@ -2,7 +2,7 @@
 """Tries the vectors with a program: python3 vectors/try.py cityseq PROGRAM, or python3 vectors/try.py peer COMMAND..
 
 With `cityseq` all of each row is wanted: what `filter` writes, its fault line and its status; and what `info` says of lines and
-peaks where a stream is complete and nothing is asked. The last line is 'N passed, M failed', and the status is 0 where all passed.
+peaks where a stream is complete and nothing is asked but types of extensions. The last line is 'N passed, M failed', and the status is 0 where all passed.
 
 With `peer` another checker's command is run, which has the stream on its standard input and ends with status 0 exactly where it
 takes it for valid. It says where that differs from these vectors, those aside that ask for limits of their own or have a query,
@@ -25,8 +25,8 @@ def differences(program, row):
     ):
         if wanted != got:
             yield f"{name}: wanted {wanted!r}, got {got!r}"
-    if row["answer"] == "complete" and not query:
-        report = run([program, "info", *limits], row["text"])[0].decode().splitlines()
+    if row["answer"] == "complete" and set(query) <= {"--extensions"}:
+        report = run([program, "info", *limits, *query], row["text"])[0].decode().splitlines()
         told = dict(line.rsplit(" ", 1) for line in report)
         got = [told.get("lines")] + [
             told.get(f"peak {kind}") for kind in ("bytes", "tokens", "open")

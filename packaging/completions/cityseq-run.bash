@@ -41,30 +41,31 @@ _cityseq_run() {
   case ${COMP_WORDS[1]} in
     check)
       options='
-        --line-limit --depth --keep-going --tree --whole --files-from --null -j --jobs
-        --part-size --cluster --json --sha256 --max-reports --summary --progress -q --quiet
-        --format --record --resume -h --help'
+        --line-limit --depth --keep-going --tree --extensions --whole --files-from --null -j
+        --jobs --part-size --cluster --json --sha256 --max-reports --summary --progress -q
+        --quiet --format --record --resume -h --help'
       files=yes
       ;;
     filter)
       options='
-        --line-limit --depth --keep-going --tree --exclude --id --ids-from --type --lod --bbox
-        --limit --index --where --base -o --output --output-dir --keep-folders --keep-partial
-        --level --files-from --null -j --jobs --part-size --cluster --json --sha256
-        --max-reports --summary --progress -q --quiet --record --resume -h --help'
+        --line-limit --depth --keep-going --tree --extensions --exclude --id --ids-from --type
+        --lod --bbox --limit --index --where --base -o --output --output-dir --keep-folders
+        --keep-partial --level --files-from --null -j --jobs --part-size --cluster --json
+        --sha256 --max-reports --summary --progress -q --quiet --record --resume -h --help'
       files=yes
       ;;
     info)
       options='
-        --line-limit --depth --tree --whole --lods --files-from --null -j --jobs --part-size
-        --cluster --json --sha256 --max-reports --summary --progress -q --quiet -h --help'
+        --line-limit --depth --tree --extensions --whole --lods --files-from --null -j --jobs
+        --part-size --cluster --json --sha256 --max-reports --summary --progress -q --quiet -h
+        --help'
       files=yes
       ;;
     index)
       options='
-        --line-limit --depth --keep-going --tree -o --output --footprints --attributes --show
-        --refresh --files-from --null -j --jobs --part-size --cluster --json --max-reports
-        --summary --progress -q --quiet -h --help'
+        --line-limit --depth --keep-going --tree --extensions -o --output --footprints
+        --attributes --show --refresh --files-from --null -j --jobs --part-size --cluster --json
+        --max-reports --summary --progress -q --quiet -h --help'
       files=yes
       ;;
     pack)
@@ -75,8 +76,8 @@ _cityseq_run() {
       ;;
     report)
       options='
-        --line-limit --depth --tree --whole -o --output --title --files-from --null -j --jobs
-        --part-size --json --progress -q --quiet -h --help'
+        --line-limit --depth --tree --extensions --whole -o --output --title --files-from --null
+        -j --jobs --part-size --json --progress -q --quiet -h --help'
       files=yes
       ;;
     split)

@@ -29,17 +29,18 @@ _cityseq() {
   case ${COMP_WORDS[1]} in
     check)
       options='
-        --line-limit --depth --keep-going --tree -h --help'
+        --line-limit --depth --keep-going --tree --extensions -h --help'
       files=yes
       ;;
     filter)
       options='
-        --line-limit --depth --keep-going --tree --exclude --id --type --lod --bbox -h --help'
+        --line-limit --depth --keep-going --tree --extensions --exclude --id --type --lod --bbox
+        -h --help'
       files=yes
       ;;
     info)
       options='
-        --line-limit --depth --tree -h --help'
+        --line-limit --depth --tree --extensions -h --help'
       files=yes
       ;;
     help) options='check filter info' ;;

@@ -22,6 +22,7 @@ complete -c cityseq -n '__fish_seen_subcommand_from check' -l line-limit -x -d '
 complete -c cityseq -n '__fish_seen_subcommand_from check' -l depth -x -d 'Reject a line with more arrays and objects open at once'
 complete -c cityseq -n '__fish_seen_subcommand_from check' -l keep-going -d 'Report each invalid line and go on with the next'
 complete -c cityseq -n '__fish_seen_subcommand_from check' -l tree -d 'Reject a feature unless children lead from its main city object to all others'
+complete -c cityseq -n '__fish_seen_subcommand_from check' -l extensions -d 'Accept types of city objects that begin with +'
 complete -c cityseq -n '__fish_seen_subcommand_from check' -s h -l help -d 'Print help'
 
 complete -c cityseq -n '__fish_seen_subcommand_from filter' -F
@@ -29,6 +30,7 @@ complete -c cityseq -n '__fish_seen_subcommand_from filter' -l line-limit -x -d 
 complete -c cityseq -n '__fish_seen_subcommand_from filter' -l depth -x -d 'Reject a line with more arrays and objects open at once'
 complete -c cityseq -n '__fish_seen_subcommand_from filter' -l keep-going -d 'Report each invalid line and go on with the next'
 complete -c cityseq -n '__fish_seen_subcommand_from filter' -l tree -d 'Reject a feature unless children lead from its main city object to all others'
+complete -c cityseq -n '__fish_seen_subcommand_from filter' -l extensions -d 'Accept types of city objects that begin with +'
 complete -c cityseq -n '__fish_seen_subcommand_from filter' -l exclude -d 'Keep the features that the options below do not select'
 complete -c cityseq -n '__fish_seen_subcommand_from filter' -l id -x -d 'Select features by id'
 complete -c cityseq -n '__fish_seen_subcommand_from filter' -l type -x -a '(__fish_complete_list , "string join \n $__cityseq_types")' -d 'Select features that have a city object of one of these types'
@@ -40,6 +42,7 @@ complete -c cityseq -n '__fish_seen_subcommand_from info' -F
 complete -c cityseq -n '__fish_seen_subcommand_from info' -l line-limit -x -d 'Reject a line of more bytes'
 complete -c cityseq -n '__fish_seen_subcommand_from info' -l depth -x -d 'Reject a line with more arrays and objects open at once'
 complete -c cityseq -n '__fish_seen_subcommand_from info' -l tree -d 'Reject a feature unless children lead from its main city object to all others'
+complete -c cityseq -n '__fish_seen_subcommand_from info' -l extensions -d 'Accept types of city objects that begin with +'
 complete -c cityseq -n '__fish_seen_subcommand_from info' -s h -l help -d 'Print help'
 
 complete -c cityseq -n '__fish_seen_subcommand_from help' -f -a 'check filter info'

@@ -26,7 +26,7 @@ enum { threads = 8, rounds = 50, rooms = 9 };
 _Static_assert(CITYSEQ_INTERFACE == 3, "the sizes below are those of interface 3");
 _Static_assert(sizeof(struct cityseq_request) == 88 && sizeof(struct cityseq_report) == 32, "sizes");
 _Static_assert(sizeof(struct cityseq_answer) == 96 && sizeof(struct cityseq_feature) == 160, "sizes");
-_Static_assert(sizeof(struct cityseq_tally) == 544, "sizes");
+_Static_assert(sizeof(struct cityseq_tally) == 552, "sizes");
 
 /* The results for a stream, joined from its parts. */
 struct joined {
@@ -236,6 +236,8 @@ static int take_option(struct cityseq_request *request, const char *word, const 
 {
     if (!strcmp(word, "--tree"))
         return request->tree = 1;
+    if (!strcmp(word, "--extensions"))
+        return request->extensions = 1;
     if (!strcmp(word, "--exclude"))
         return request->exclude = 1;
     if (!strcmp(word, "--keep-going"))
@@ -709,6 +711,7 @@ static void texts(void)
     row("the first letters", cityseq_reason_text(CITYSEQ_REASON_SYNTAX, text, 3) == 6 && !memcmp(text, "syn...", 6));
     row("a type", cityseq_type_name(1, text, sizeof text) == 8 && !memcmp(text, "Building", 8));
     row("the last type", cityseq_type_name(32, text, sizeof text) == 10 && !memcmp(text, "TunnelPart", 10));
+    row("types of extensions", cityseq_type_name(33, text, sizeof text) == 9 && !memcmp(text, "extension", 9));
     row("the interface", cityseq_interface() == CITYSEQ_INTERFACE);
     row("the version", cityseq_version(text, sizeof text) == 5 && !memcmp(text, "0.2.0", 5));
     row("no type", cityseq_type_name(CITYSEQ_TYPES, text, sizeof text) == 0);

@@ -20,7 +20,7 @@ FEATURE = (
     b'{"type":"CityJSONFeature","id":"%s","CityObjects":{"%s":{"type":"%s","geometry":[{"type":"MultiPoint",'
     b'"lod":"%s","boundaries":[0,%d]}]}},"vertices":[[%d,0,0],[1,%d,-2]]}'
 )
-TYPES = (b"Building", b"Road", b"TunnelPart", b"Castle")
+TYPES = (b"Building", b"Road", b"TunnelPart", b"Castle", b"+Shed")
 LODS = (b"0", b"1.2", b"2", b"x")
 OPTIONS = (
     [],
@@ -29,6 +29,7 @@ OPTIONS = (
     ["--keep-going", "--lod", "1.2"],
     ["--bbox=0,-10,3,10", "--exclude", "--keep-going"],
     ["--id", "a,c", "--tree"],
+    ["--keep-going", "--extensions"],
 )
 STREAMS = 300
 

@@ -19,7 +19,16 @@ from library import OPTIONS, STREAMS, random_stream  # noqa: E402
 
 from table import rows, run  # noqa: E402
 
-FLAGS = ("keep_going", "tree", "exclude", "asks_ids", "asks_types", "asks_lods", "asks_box")
+FLAGS = (
+    "keep_going",
+    "tree",
+    "exclude",
+    "extensions",
+    "asks_ids",
+    "asks_types",
+    "asks_lods",
+    "asks_box",
+)
 TEXTS = ("ids", "types", "lods", "box")
 NUMBERS = (
     "line",
@@ -116,10 +125,15 @@ def type_numbers(library: ctypes.CDLL) -> dict[str, int]:
     """The numbers of the types of city objects, by their names."""
     text = ctypes.create_string_buffer(64)
     numbers = {}
-    for number in range(33):
+    for number in range(34):
         length = library.cityseq_type_name(ctypes.c_uint64(number), text, ctypes.c_size_t(64))
         numbers[text.raw[:length].decode()] = number
     return numbers
+
+
+def type_number(kind: str, types: dict[str, int]) -> int:
+    """The number of a type. All types of extensions have the same."""
+    return types["extension" if kind.startswith("+") else kind]
 
 
 def past(line: str, at: int, skipped: str) -> int:
@@ -182,7 +196,7 @@ def told_of(
     numbers += (
         len(objects),
         len(geometries),
-        sum(1 << n for n in {types[each["type"]] for each in objects}),
+        sum(1 << n for n in {type_number(each["type"], types) for each in objects}),
         sum(1 << n for n in {lod_class(each, header) for each in geometries}),
     )
     axes = [[int(vertex[axis]) for vertex in vertices] for axis in range(3)]

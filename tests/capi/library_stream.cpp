@@ -113,6 +113,7 @@ cityseq::request random_request(Chance &chance) {
     cityseq::request asked;
     asked.line_limit(limits[below(chance, 6)]).depth_limit(below(chance, 4) ? 64 : 5);
     asked.keep_going(below(chance, 2)).tree(below(chance, 3) == 0).exclude(below(chance, 5) == 0);
+    asked.extensions(below(chance, 4) == 0);
     if (below(chance, 4) == 0)
         asked.ids({"b1", "b"});
     if (below(chance, 4) == 0)

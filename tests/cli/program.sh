@@ -23,7 +23,7 @@ files=' < FILE' # What follows the options in the usage of a command of the prog
 package=false    # Whether the command of the package is tried.
 
 # The lines of blocks that are not run with the package's command.
-not_shown='^(\$ cityseq.*--help|\$ gzip -c [^|]*\| cityseq check|error: |the stack is |standard input and )'
+not_shown='^(\$ cityseq.*--help|error: |the stack is |standard input and )'
 
 # What does not hold of the package's command, and why.
 not_of_the_package='
@@ -42,6 +42,7 @@ row_one_file_as_input_and_output_of_check    the same
 row_one_file_as_input_and_output_of_info     the same
 row_one_file_by_two_names                    the same
 row_one_file_that_is_empty                   it rejects an empty file too
+row_a_gzip_file                              it unpacks what it reads
 row_the_example_counts                       it is about the library
 row_each_edit_can_be_applied                 it is about the crates
 row_the_documents_name_what_is_there         it is about the documents
@@ -240,6 +241,16 @@ row_65_open_arrays() {
 row_no_header() {
   lines "$feature" "$header" | run filter
   answered 1 'line 1, byte 0: 10 member missing' < /dev/null
+}
+
+row_a_gzip_file() {
+  gzip -c examples/town.city.jsonl | run check
+  answered 1 'line 1, byte 1: 3 not UTF-8' < /dev/null
+}
+
+row_a_text_over_many_lines() {
+  printf '{\n  "type": "CityJSON",\n  "version": "2.0"\n}\n' | run check
+  answered 1 'line 1, byte 1: 4 syntax' < /dev/null
 }
 
 row_a_header_of_another_version() {
@@ -992,7 +1003,7 @@ script_of() {
 # another help, and other words for a mistake.
 shown_in() {
   block "$1" "$2" > "$scratch/wanted"
-  # the package has help and messages of its own, unpacks what it reads, and does not look at its stack
+  # the package has help and messages of its own, and does not look at its stack
   if $package && grep -qE "$not_shown" "$scratch/wanted"; then return $skipped; fi
   script_of < "$scratch/wanted" > "$scratch/script"
   PATH=$tools:$PATH timeout 60 bash "$scratch/script" < /dev/null > "$scratch/written" 2>&1

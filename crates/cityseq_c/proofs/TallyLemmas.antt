@@ -7,7 +7,6 @@ use Rattle.std.specs.List.{filter, last_or}
 use Rattle.std.specs.Str.{chars}
 use Rattle.cj_decimal.specs.Meaning.Number.{Number as Decimal}
 use Rattle.cj_feature.specs.Meaning.Transform.{transform_values}
-use Rattle.cj_geometry.specs.ObjectTypes.{type_count}
 use Rattle.cj_stream.specs.CountSink.{is_header}
 use Rattle.cj_stream.specs.Items.{Item}
 use Rattle.cj_stream.specs.declared.ending.End.TheVariants.{Complete}
@@ -15,7 +14,7 @@ use Rattle.cj_stream.specs.declared.running.Outcome.{Outcome}
 use Rattle.cj_stream.specs.Meaning.Headline.{IsUnhindered}
 use Rattle.cj_stream.specs.Run.{Puts}
 use Rattle.cj_stream.specs.Parts.{headed, wider, IsCut, JoinsTallies}
-use Rattle.cj_stream.specs.Tallied.{capped, class_count}
+use Rattle.cj_stream.specs.Tallied.{capped, class_count, slot_count}
 use Rattle.cj_stream.specs.TallySink.{no_tally, last_shown, IsTallyOf, Tallies, TalliesRun, Tally as Tallied}
 use Rattle.cj_stream.specs.Meaning.Lines.{ended_line, lines}
 use Rattle.cj_stream.specs.Meaning.Rules.{Rules}
@@ -123,9 +122,9 @@ added-to-zeros size before counts after none long same few adds =
 -- a tally has as many counts as there are types and classes, and each is below 2^64
 pub record IsOfSize (t : Tallied) : Type 0 where
   pub features : t.features < 2 ^ 64
-  pub types : length t.types ≡ type_count
+  pub types : length t.types ≡ slot_count
   pub lods : length t.lods ≡ class_count
-  pub few_types : (n : ℕ) → n < type_count → get_or t.types n 0 < 2 ^ 64
+  pub few_types : (n : ℕ) → n < slot_count → get_or t.types n 0 < 2 ^ 64
   pub few_lods : (n : ℕ) → n < class_count → get_or t.lods n 0 < 2 ^ 64
 
 -- what zeros and a tally were joined as, by sinks that have the counts of each
@@ -156,7 +155,7 @@ module _ (first second joined : Tally) (x s t u : Tallied) (none : first ≡ zer
 
   same-types : joined.types ≡ second.types
   same-types =
-      told.types ∙ (added-to-zeros type_count s.types t.types u.types of_first.types size.types long.types
+      told.types ∙ (added-to-zeros slot_count s.types t.types u.types of_first.types size.types long.types
       size.few_types joins.types ∙ (of_next.types ∙ sym of_x.types))
 
   same-lods : joined.lods ≡ second.lods

@@ -8,8 +8,8 @@ use Rattle.cityseq_c.specs.Features.{Place}
 abbrev pub begin_of : List ℕ → ℕ → ℕ
 begin_of text line = length (flat_map raw (take (line - 1) (lines text)))
 
--- a place is behind the first lines of a part, whose first is the second of the stream: that number of lines, and their
--- bytes
+-- A place in a part follows its first lines. They are those from the second line of the stream on. `begin` is the
+-- number of their bytes, and `left` are the lines after them.
 pub record IsAlong (part : List ℕ) (p : Place) : Type 0 where
   pub line : 2 ≤ p.line
   pub begin : p.begin ≡ length (flat_map raw (take (p.line - 2) (lines part)))

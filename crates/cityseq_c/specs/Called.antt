@@ -45,7 +45,7 @@ Goes c also (Ok outcome) =
     (rules : Rules) × IsAsked c.request rules × Tells rules (text_of c) outcome c.old c.new × also rules outcome
 Goes c also (Err why) = DeclinesCall c.request c.header c.part why × (c.new ≡ c.old)
 
--- it answers by how it went, where so many bytes of output were written
+-- the answer of a call says how it went, and that it wrote this number of bytes of output
 pub record Calls (c : Call) (also : Rules → Outcome → Type 0) (written : ℕ) (answer : Answer) : Type 0 where
   pub went : Result Outcome NotJudged
   pub goes : Goes c also went
@@ -55,7 +55,7 @@ pub record Calls (c : Call) (also : Rules → Outcome → Type 0) (written : ℕ
 abbrev pub Checks : Call → Answer → Type 0
 Checks c answer = Calls c (λ rules outcome. Unit {0}) 0 answer
 
--- these bytes were written to room, and so many they are; behind them it is as it was
+-- A buffer begins with these bytes, and `written` is their number. The rest of it is as it was.
 pub record IsWritten (bytes old new : List ℕ) (written : ℕ) : Type 0 where
   pub size : length new ≡ length old
   pub count : written ≡ length bytes

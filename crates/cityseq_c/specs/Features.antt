@@ -13,18 +13,17 @@ use Rattle.cj_stream.specs.Items.{Item, is_feature}
 use Rattle.cj_stream.specs.Meaning.Lines.{Line, raw, lines}
 use Rattle.cj_stream.specs.Lines.{later_of}
 use Rattle.cj_stream.specs.Tallied.{IsRange, beside, capped, class_count, how_often, lod_classes, numbers_on}
-use Rattle.cj_stream.specs.Tallied.{type_numbers}
+use Rattle.cj_stream.specs.Tallied.{slot_count, type_numbers}
 use Rattle.cj_stream.specs.Meaning.Rules.{Rules}
 use Rattle.cj_stream.specs.Verdict.{good, is_kept, verdict, item_after}
 use Rattle.cityseq_c.specs.Tally.{range_of}
-use Rattle.cj_geometry.specs.ObjectTypes.{type_count}
 use Rattle.cityseq_c.specs.declared.features.record_of.FeatureRecord.{FeatureRecord}
 use Rattle.cityseq_c.specs.declared.features.listed.Listed.{Listed}
 use Rattle.cityseq_c.specs.declared.features.cursor.Cursor.{Cursor}
 
 -- ---- where features stand
 
--- where a feature stands: the number of its line, where that begins behind the header, and the item that it is
+-- the place of a feature: the number of its line, where that begins after the header, and the feature as an item
 pub record Spot : Type 0 where
   pub line : ℕ
   pub begin : ℕ
@@ -91,7 +90,7 @@ pub record HasRange (i : Item) (f : FeatureRecord) (axis : ℕ) : Type 0 where
   pub ends : IsRange (numbers_on axis i.tree) range
   pub told : get_or f.ranges axis (range_of None) ≡ range_of range
 
--- a record tells where a feature stands, and what is in it
+-- a record has the place of a feature, and says what is in it
 pub record IsRecordOf (x : Spot) (f : FeatureRecord) : Type 0 where
   pub line : f.line ≡ x.line
   pub begin : f.begin ≡ x.begin
@@ -100,7 +99,7 @@ pub record IsRecordOf (x : Spot) (f : FeatureRecord) : Type 0 where
   pub attributes : HasSpan x.item.line.content (attributes_in x.item.tree) f.attributes_begin f.attributes_length
   pub objects : f.objects ≡ capped (length (objects_of x.item.tree))
   pub geometries : f.geometries ≡ capped (length (flat_map object_geometries (objects_of x.item.tree)))
-  pub types : f.types ≡ bits (is_among (type_numbers x.item.tree)) type_count
+  pub types : f.types ≡ bits (is_among (type_numbers x.item.tree)) slot_count
   pub lods : f.lods ≡ bits (is_among (classes_of x.item)) class_count
   pub ranges : (axis : ℕ) → axis < 3 → HasRange x.item f axis
 
@@ -145,7 +144,7 @@ pub record Passes (a : Place) (content : List ℕ) (b : Place) : Type 0 where
   pub left : a.left ≡ record { content = content; lf = lf } ∷ b.left
   pub behind : b ≡ past a
 
--- a search for a content came behind its line, and answers where that is
+-- a search for a content ends after its line, and answers where that line is
 pub record Seeks (a : Place) (content : List ℕ) (answer : Option (ℕ × ℕ)) (b : Place) : Type 0 where
   pub behind : b ≡ past (seek content a)
   pub found : MatchOption answer ((seek content a).left ≡ [])

@@ -12,7 +12,7 @@ use Rattle.cityseq_c.specs.Judged.{IsJudged, run_over}
 use Rattle.cityseq_c.specs.Words.{reason_with}
 use Rattle.cityseq_c.specs.declared.answer.Answer.{Answer}
 
--- an answer is what is told of a text that was judged by rules: its end, its counts, and what was held
+-- an answer reports how a text was judged by rules: its end, its counts, and what was held
 pub record IsAnswerOf (rules : Rules) (text : List ℕ) (answer : Answer) : Type 0 where
   pub outcome : Outcome
   pub judged : IsJudged outcome.ended

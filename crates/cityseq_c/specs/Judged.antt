@@ -25,7 +25,7 @@ IsJudged other = ⊥
 abbrev pub run_over : Rules → List ℕ → Outcome → Run
 run_over rules text outcome = record { rules = rules; read = text; outcome = outcome }
 
--- What is told of a text that was judged by rules. Its end, its counts and the reports in the room for them are those
+-- How a call reports a text that it judged by rules. Its end, its counts and the reports in the room for them are those
 -- of the whole text, unless the sink failed. Whatever the end is, counts and reports are those of the first lines, as
 -- many as were dealt with, and no less was held at most than these lines need.
 pub record Tells (rules : Rules) (text : List ℕ) (outcome : Outcome) (old new : List Told) : Type 0 where
@@ -37,7 +37,7 @@ pub record Tells (rules : Rules) (text : List ℕ) (outcome : Outcome) (old new 
   pub first : Holds text (reported_first rules outcome.lines text) old new
   pub least : IsBelow (exact_peaks rules.limits (first_lines outcome.lines text)) outcome.peaks
 
--- what is lent for the lines of a text: a sink for the kept ones, and room for reports
+-- what a call borrows for the lines of a text: a sink for the kept ones, and a list of reports
 pub record Lent (S : Type 0) : Type 0 where
   pub sink : S
   pub reports : List Told
@@ -45,8 +45,8 @@ pub record Lent (S : Type 0) : Type 0 where
 abbrev pub lent : {S : Type 0} → S → List Told → Lent S
 lent sink reports = record { sink = sink; reports = reports }
 
--- a text was judged: what is told of it, and what a sink took: all that is kept of it, or that of the lines that were
--- dealt with, and then what a fault may leave
+-- A text was judged: what the call reports of it, and what its sink took. Without a fault the sink took all kept lines.
+-- Else it took those of the lines that were dealt with, and then what a fault may leave.
 pub record Judged {S : Type 0} (law : SinkLaw S) (text : Stream) (outcome : Outcome) (old new : Lent S) : Type 0 where
   pub tells : Tells text.rules text.bytes outcome old.reports new.reports
   pub took : IsUnhindered outcome.ended → Took law.takes old.sink (kept text.rules text.bytes) new.sink

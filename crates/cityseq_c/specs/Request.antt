@@ -108,7 +108,8 @@ fault_of r = or_fault (ids_asked r) (or_fault (types_asked r) (or_fault (lods_as
 -- ---- all that is asked
 
 abbrev pub options_of : Request → OptionSet
-options_of r = record { keep_going = r.keep_going; all_reached = r.tree; exclude = r.exclude }
+options_of r =
+    record { keep_going = r.keep_going; all_reached = r.tree; exclude = r.exclude; extensions = r.extensions }
 
 -- a header and a part are cut behind the first line: the header is a line that LF ends; or the first line that LF does
 -- not end, and there is no more

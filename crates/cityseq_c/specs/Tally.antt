@@ -3,8 +3,7 @@ use Rattle.std.specs.Prelude.{◌≡◌, ℕ, ◌+◌, ◌*◌, ◌^◌, ◌<◌
 use Rattle.std.specs.Prelude.{is_some, nat_eq, replicate, unsigned_abs, if◌then◌else◌}
 use Rattle.std.specs.List.{AllZip}
 use Rattle.cj_decimal.specs.Meaning.Number.{Number}
-use Rattle.cj_geometry.specs.ObjectTypes.{type_count}
-use Rattle.cj_stream.specs.Tallied.{class_count}
+use Rattle.cj_stream.specs.Tallied.{class_count, slot_count}
 use Rattle.cj_stream.specs.TallySink.{Tally as Tallied}
 use Rattle.cityseq_c.specs.declared.tally.Range.{Range}
 use Rattle.cityseq_c.specs.declared.tally.Number.{Number as Told}
@@ -45,7 +44,7 @@ AreShown None told = told ≡ no_number ∷ no_number ∷ no_number ∷ []
 abbrev pub zeros : Tally
 zeros = record {
   features = 0;
-  types = replicate type_count 0;
+  types = replicate slot_count 0;
   lods = replicate class_count 0;
   ranges = range_of None ∷ range_of None ∷ range_of None ∷ [];
   transformed = 0;

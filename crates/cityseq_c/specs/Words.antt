@@ -1,7 +1,8 @@
 -- The texts of reasons and the names of types, by their numbers.
-use Rattle.std.specs.Prelude.{◌≡◌, ℕ, List, [], ◌∷◌, ◌++◌, Option, None, Some, length, take, drop, min, nat_eq}
+use Rattle.std.specs.Prelude.{◌≡◌, ℕ, List, [], ◌∷◌, ◌++◌, Option, None, Some, length, take, drop, min, nat_eq, codes}
 use Rattle.std.specs.Prelude.{if◌then◌else◌}
 use Rattle.cj_geometry.specs.Meaning.ObjectTypes.{ObjectRow, object_types}
+use Rattle.cj_geometry.specs.ObjectTypes.{type_count}
 use Rattle.cj_spans.specs.Meaning.Reason.{code_of}
 use Rattle.cj_spans.specs.Meaning.ReasonWords.{words_of}
 use Rattle.cj_spans.specs.declared.reason.Reason.{Reason}
@@ -38,15 +39,16 @@ words_by (Some r) = words_of r
 abbrev pub reason_words : ℕ → List ℕ
 reason_words code = words_by (reason_with code)
 
--- the name of the first of these that has a number; empty where none has
+-- the name of the first of these that has a number; where none has, that of the number behind those of the table, which
+-- is of all types of extensions, and else empty
 abbrev pub name_in : ℕ → List ObjectRow → List ℕ
-name_in number [] = []
+name_in number [] = if nat_eq number type_count then codes "extension" else []
 name_in number (row ∷ rows) = if nat_eq row.number number then row.name else name_in number rows
 
 abbrev pub type_words : ℕ → List ℕ
 type_words number = name_in number object_types
 
--- a text was copied to room as far as it fits, and its length was told
+-- a text was copied to a buffer as far as it fits, and `size` is its whole length
 pub record IsCopied (text old new : List ℕ) (size : ℕ) : Type 0 where
   pub copied : new ≡ take (min (length text) (length old)) text ++ drop (min (length text) (length old)) old
   pub length : size ≡ length text

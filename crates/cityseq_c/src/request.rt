@@ -20,6 +20,8 @@ pub struct Request<'a> {
     pub tree: bool,
     /// Whether the features that satisfy the query are left out, and all others kept.
     pub exclude: bool,
+    /// Whether types of extensions are known: those that begin with `+`.
+    pub extensions: bool,
     /// Whether the id must be one of `ids`.
     pub asks_ids: bool,
     /// Whether some city object must have one of the `types`.
@@ -97,5 +99,6 @@ impl Request<'_> {
             .keep_going(self.keep_going)
             .tree(self.tree)
             .exclude(self.exclude)
+            .extensions(self.extensions)
     }
 }

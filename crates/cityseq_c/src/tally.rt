@@ -3,7 +3,7 @@ ghost use Rattle.std.specs.Prelude.{◌≡◌};
 ghost use Rattle.cityseq_c.specs.Tally.{AreShown, IsDecimal, IsTally, range_of as range_told, range_by};
 
 use cj_decimal::Decimal;
-use cj_stream::{LOD_CLASSES, ObjectType, TallySink, laws};
+use cj_stream::{LOD_CLASSES, TYPE_SLOTS, TallySink, laws};
 
 /// The least and the greatest whole number on an axis.
 #[repr(C)]
@@ -30,8 +30,9 @@ pub struct Number {
 #[derive(Clone, Copy, Debug)]
 pub struct Tally {
     pub features: u64,
-    /// The number of city objects of each type, by the type's number.
-    pub types: [u64; ObjectType::COUNT],
+    /// The number of city objects of each type, by the type's number. The last is that of types of
+    /// extensions.
+    pub types: [u64; TYPE_SLOTS],
     /// The number of geometries in each LoD class: 0 to 4, and 5 for any other.
     pub lods: [u64; LOD_CLASSES],
     /// The vertices on x, y and z, as the features have them.

@@ -44,6 +44,7 @@ const USUAL: Request<'_> = Request {
     keep_going: false,
     tree: false,
     exclude: false,
+    extensions: false,
     asks_ids: false,
     asks_types: false,
     asks_lods: false,
@@ -250,7 +251,7 @@ fn number(low: u64, power: i32) -> Number {
 fn no_tally() -> Tally {
     Tally {
         features: 0,
-        types: [0; 33],
+        types: [0; 34],
         lods: [0; 6],
         ranges: [Range {
             some: 0,

@@ -62,7 +62,8 @@ pub fn reason_text(code: u64) -> &'static str
     }
 }
 
-/// Returns the name of the type with this number. It is empty if there is none.
+/// Returns the name of the type with this number. It is `extension` for the number of all types of
+/// extensions, the last one, and empty if there is none.
 pub fn type_name(number: u64) -> &'static str
     ensures { result.now ≡ type_words number }
 {
@@ -70,6 +71,9 @@ pub fn type_name(number: u64) -> &'static str
         if object_type.number() as u64 == number {
             return object_type.name();
         }
+    }
+    if number == ObjectType::COUNT as u64 {
+        return "extension";
     }
     ""
 }

@@ -37,21 +37,24 @@ with_limits a = with_rule (with_rule a line_rule) depth_rule
 abbrev pub with_tree : App → App
 with_tree a = with_rule a (flag_rule (codes "tree"))
 
+abbrev pub with_extensions : App → App
+with_extensions a = with_rule a (flag_rule (codes "extensions"))
+
 abbrev pub with_keep_going : App → App
 with_keep_going a = with_rule a (flag_rule (codes "keep-going"))
 
 abbrev pub check_app : App
-check_app = with_tree (with_keep_going (with_limits (new_app (codes "check"))))
+check_app = with_extensions (with_tree (with_keep_going (with_limits (new_app (codes "check")))))
 
 abbrev pub filter_app : App
 filter_app =
-    let common = with_tree (with_keep_going (with_limits (new_app (codes "filter")))) in
+    let common = with_extensions (with_tree (with_keep_going (with_limits (new_app (codes "filter"))))) in
     let ids = with_rule (with_rule common (flag_rule (codes "exclude"))) (text_rule (codes "id")) in
     with_rule (with_rule (with_rule ids (text_rule (codes "type"))) (text_rule (codes "lod")))
     (text_rule (codes "bbox"))
 
 abbrev pub info_app : App
-info_app = with_tree (with_limits (new_app (codes "info")))
+info_app = with_extensions (with_tree (with_limits (new_app (codes "info"))))
 
 -- the program, which needs a command
 abbrev pub bare_app : App

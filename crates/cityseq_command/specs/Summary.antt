@@ -5,6 +5,7 @@ use Rattle.std.specs.List.{flat_map}
 use Rattle.cj_budget.specs.declared.limits.Peaks.{Peaks}
 use Rattle.cj_decimal.specs.Meaning.Number.{Number}
 use Rattle.cj_geometry.specs.Meaning.ObjectTypes.{ObjectRow, object_types}
+use Rattle.cj_geometry.specs.ObjectTypes.{type_count}
 use Rattle.cj_stream.specs.Lines.{joined}
 use Rattle.cj_stream.specs.TallySink.{Tally}
 use Rattle.cityseq_command.specs.Text.{text_line, count_line, counted}
@@ -35,6 +36,10 @@ type_text t row = counted (codes "type") row.name (get_or t.types row.number 0)
 -- the same of each type, in the order of the table
 abbrev pub types_text : Tally → List ℕ
 types_text t = flat_map (type_text t) object_types
+
+-- how many city objects there are of types of extensions, if there are some
+abbrev pub extensions_text : Tally → List ℕ
+extensions_text t = counted (codes "type") (codes "extension") (get_or t.types type_count 0)
 
 -- the classes of levels of detail: by their first character, and all others
 abbrev pub class_names : List (List ℕ)
@@ -68,6 +73,7 @@ tally_text t = joined (
     ∷ numbers_line (codes "scale") t.scale
     ∷ numbers_line (codes "translate") t.translate
     ∷ types_text t
+    ∷ extensions_text t
     ∷ lods_text t
     ∷ ranges_text t
     ∷ [])

@@ -16,11 +16,11 @@ buildings = record {
   translate = Some (scaled (pos 1) (pos 3) ∷ scaled (pos 2) (pos 3) ∷ scaled (pos 0) (pos 0) ∷ []);
 }
 
--- terrain and parts of tunnels below the ground, with geometries of the first class and the last
+-- terrain, parts of tunnels and what is of extensions below the ground, with geometries of the first class and the last
 abbrev pub underground : Tally
 underground = record {
   features = 12;
-  types = replicate 11 0 ++ 3 ∷ (replicate 20 0 ++ 40 ∷ []);
+  types = replicate 11 0 ++ 3 ∷ (replicate 20 0 ++ 40 ∷ 7 ∷ []);
   lods = 1 ∷ (replicate 4 0 ++ 20 ∷ []);
   ranges = Some (negsuc 6, negsuc 0) ∷ Some (pos 5, pos 5) ∷ Some (negsuc 99, pos 0) ∷ [];
   scale = Some (scaled (negsuc 0) (pos 0) ∷ scaled (pos 25) (negsuc 3) ∷ scaled (pos 1) (pos 2) ∷ []);
@@ -64,6 +64,7 @@ UndergroundRow = summary_text 13 underground
     ∷ codes "translate -453e-3 0e0 84616468e-3\n"
     ∷ codes "type TINRelief 3\n"
     ∷ codes "type TunnelPart 40\n"
+    ∷ codes "type extension 7\n"
     ∷ codes "lod 0 1\n"
     ∷ codes "lod other 20\n"
     ∷ codes "x -7 -1\n"

@@ -49,7 +49,7 @@ abbrev pub IsOutOfRange : LimitFault → LimitPair → Type 0
 IsOutOfRange LineLimit limits = ¬ InLine limits.line
 IsOutOfRange DepthLimit limits = InLine limits.line × ¬ InDepth limits.depth
 
--- a command was given limits of which this is the first that is out of its range
+-- a command was given limits, and this is the first one that is out of its range
 pub record DeclinesLimits (m : ArgMatches) (fault : LimitFault) : Type 0 where
   pub limits : LimitPair
   pub given : HasLimits m limits
@@ -65,17 +65,20 @@ pub record HasFlag (m : ArgMatches) (option : List ℕ) (given : Bool) : Type 0 
 pub record HasCheckOptions (m : ArgMatches) (options : OptionSet) : Type 0 where
   pub keep_going : HasFlag m (codes "keep-going") options.keep_going
   pub tree : HasFlag m (codes "tree") options.all_reached
+  pub extensions : HasFlag m (codes "extensions") options.extensions
   pub exclude : options.exclude ≡ false
 
 -- the options that `filter` was given
 pub record HasFilterOptions (m : ArgMatches) (options : OptionSet) : Type 0 where
   pub keep_going : HasFlag m (codes "keep-going") options.keep_going
   pub tree : HasFlag m (codes "tree") options.all_reached
+  pub extensions : HasFlag m (codes "extensions") options.extensions
   pub exclude : HasFlag m (codes "exclude") options.exclude
 
 -- the options that `info` was given, and none that it does not take
 pub record HasInfoOptions (m : ArgMatches) (options : OptionSet) : Type 0 where
   pub tree : HasFlag m (codes "tree") options.all_reached
+  pub extensions : HasFlag m (codes "extensions") options.extensions
   pub keep_going : options.keep_going ≡ false
   pub exclude : options.exclude ≡ false
 

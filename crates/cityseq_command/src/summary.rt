@@ -5,7 +5,7 @@ ghost use Rattle.cj_stream.specs.Sink.{AppendsPart, RisesOnErr};
 ghost use Rattle.cj_stream.specs.Output.{channel, output_writer, output_failures};
 ghost use Rattle.cityseq_command.specs.FaultLines.{Wrote};
 ghost use Rattle.cityseq_command.specs.Summary.{check_text, numbers_line, power_text, types_text, class_names};
-ghost use Rattle.cityseq_command.specs.Summary.{lods_text};
+ghost use Rattle.cityseq_command.specs.Summary.{extensions_text, lods_text};
 ghost use Rattle.cityseq_command.specs.Summary.{range_line, ranges_text, tally_text, peaks_text, summary_text};
 ghost use Rattle.cityseq_command.specs.Text.{text_line, count_line, counted};
 
@@ -177,6 +177,16 @@ fn write_types<W: Write + Drop>(out: &mut Output<W>, tally: &TallySink) -> Resul
     Ok(())
 }
 
+/// Writes the number of city objects of types of extensions, if there are any.
+fn write_extensions<W: Write + Drop>(
+    out: &mut Output<W>,
+    tally: &TallySink,
+) -> Result<(), WriteFault>
+    ensures { Wrote (extensions_text tally.now) result (channel W.contents out.old) (channel W.contents out.new) }
+{
+    write_counted(out, "type", "extension", tally.of_extensions())
+}
+
 /// Returns the name of an LoD class.
 fn class_name(class: u8) -> &'static str
     requires { class ≤ 5 }
@@ -239,6 +249,7 @@ fn write_tally<W: Write + Drop>(out: &mut Output<W>, tally: &TallySink) -> Resul
     write_numbers(out, "scale", tally.scale())?;
     write_numbers(out, "translate", tally.translate())?;
     write_types(out, tally)?;
+    write_extensions(out, tally)?;
     write_lods(out, tally)?;
     write_ranges(out, tally)
 }

@@ -33,6 +33,8 @@ const TREE: &str = "tree";
 
 const EXCLUDE: &str = "exclude";
 
+const EXTENSIONS: &str = "extensions";
+
 /// The text after the help of the program.
 const STATUSES: &str = "\
 Exit status:
@@ -160,6 +162,17 @@ fn tree<'a>(alloc: Global) -> Arg<'a>
     )
 }
 
+/// Returns the option to accept types of extensions.
+fn extensions<'a>(alloc: Global) -> Arg<'a>
+    ensures { IsOption result (flag_rule (codes "extensions")) }
+{
+    flag(
+        alloc,
+        EXTENSIONS,
+        "Accept types of city objects that begin with `+`, the types of extensions",
+    )
+}
+
 /// Returns an option of a query, which takes a text.
 fn query_option<'a>(alloc: Global, name: &'a str, value: &'a str, help: &'a str) -> Arg<'a>
     ensures { IsOption result (text_rule name.entry.now) }
@@ -198,7 +211,8 @@ fn check_command<'a>(alloc: Global) -> Result<Command<'a>, AllocError>
     );
     with_limits(command, alloc)?
         .arg(keep_going(alloc))?
-        .arg(tree(alloc))
+        .arg(tree(alloc))?
+        .arg(extensions(alloc))
 }
 
 fn filter_command<'a>(alloc: Global) -> Result<Command<'a>, AllocError>
@@ -214,6 +228,7 @@ fn filter_command<'a>(alloc: Global) -> Result<Command<'a>, AllocError>
     with_limits(command, alloc)?
         .arg(keep_going(alloc))?
         .arg(tree(alloc))?
+        .arg(extensions(alloc))?
         .arg(flag(
             alloc,
             EXCLUDE,
@@ -255,7 +270,9 @@ fn info_command<'a>(alloc: Global) -> Result<Command<'a>, AllocError>
         "cityseq info [OPTIONS] < FILE",
         INFO_EXAMPLE,
     );
-    with_limits(command, alloc)?.arg(tree(alloc))
+    with_limits(command, alloc)?
+        .arg(tree(alloc))?
+        .arg(extensions(alloc))
 }
 
 /// Returns what `clap` knows of the command line: the program with its commands, their options and
@@ -323,7 +340,9 @@ fn has_flag(matches: &ArgMatches, option: &str) -> bool
 fn common_options(matches: &ArgMatches) -> Options
     ensures { HasInfoOptions matches.now result }
 {
-    Options::new().tree(has_flag(matches, TREE))
+    Options::new()
+        .tree(has_flag(matches, TREE))
+        .extensions(has_flag(matches, EXTENSIONS))
 }
 
 /// Returns the options that `check` was given.

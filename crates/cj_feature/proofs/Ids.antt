@@ -21,7 +21,7 @@ by-tests id true true h e = refl
 by-tests id true false h e = absurd (cc h)
 by-tests id false known h e = absurd (cc e)
 
-module _ (templates : TemplateSource) (t : Tree) (valid : of_kind is_object (feature_rules templates false) t ≡ [])
+module _ (templates : TemplateSource) (t : Tree) (valid : of_kind is_object (feature_rules templates false true) t ≡ [])
     (id : Tree) (is : member_of (chars (codes "id")) t ≡ Some id) where
   not-unknown : id_in (member_of (chars (codes "CityObjects")) t) id ≡ []
   not-unknown =
@@ -34,12 +34,12 @@ module _ (templates : TemplateSource) (t : Tree) (valid : of_kind is_object (fea
       × (text_of id ≡ Some x) × IsIn (members_if o) x
   in-objects None e h =
       let vertices = count_of (member_of (chars (codes "vertices")) t) in
-      absurd (is-there (city_objects vertices templates) t (chars (codes "CityObjects")) (has-objects templates t valid)
-      None e refl)
+      absurd (is-there (city_objects true vertices templates) t (chars (codes "CityObjects"))
+      (has-objects templates t valid) None e refl)
   in-objects (Some u) e h =
       let vertices = count_of (member_of (chars (codes "vertices")) t) in
-      let each = λ (v : Tree). flat_map (λ m. city_object vertices templates m.1) (members_of v) in
-      let none = then-none (city_objects vertices templates) t (chars (codes "CityObjects"))
+      let each = λ (v : Tree). flat_map (λ m. city_object true vertices templates m.1) (members_of v) in
+      let none = then-none (city_objects true vertices templates) t (chars (codes "CityObjects"))
       (has-objects templates t valid) (Some u) e u refl in
       let kind = (of_kind-none (λ v. distinct v ++ each v) u is_object none).0 in
       let known = by-tests id (is_object (kind_of u)) (is_known (members_of u) id) h kind in

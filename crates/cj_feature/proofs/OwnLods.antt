@@ -112,35 +112,35 @@ module _ (vertices : Option ℕ) (templates : TemplateSource) (empty : template_
       own-lods (items_of t)
       (of_kind-none (λ u. flat_map (geometry vertices templates) (items_of u)) t is_array h).1
 
-  of-object : (m : Tree × Tree) → city_object vertices templates m.1 ≡ []
+  of-object : (m : Tree × Tree) → city_object true vertices templates m.1 ≡ []
       → map (lod templates) (object_geometries m) ≡ map (member_of (chars (codes "lod"))) (object_geometries m)
   of-object m h =
       let o = m.1 in
-      let rules : distinct o ++ needs (chars (codes "type")) object_type o
+      let rules : distinct o ++ needs (chars (codes "type")) (object_type true) o
       ++ may_have (chars (codes "geometry")) (geometries vertices templates) o
       ++ may_have (chars (codes "children")) texts o ++ may_have (chars (codes "parents")) texts o ++ second_level o
       ≡ [] =
-      (of_kind-none (λ u. distinct u ++ needs (chars (codes "type")) object_type u
+      (of_kind-none (λ u. distinct u ++ needs (chars (codes "type")) (object_type true) u
       ++ may_have (chars (codes "geometry")) (geometries vertices templates) u
       ++ may_have (chars (codes "children")) texts u ++ may_have (chars (codes "parents")) texts u
       ++ second_level u) o is_object h).1 in
       of-member (member_of (chars (codes "geometry")) o)
       (none-both _ _ (none-both _ _ (none-both _ _ (none-both _ _ rules).0).0).0).1
 
-  of-objects : (ms : List (Tree × Tree)) → flat_map (λ m. city_object vertices templates m.1) ms ≡ []
+  of-objects : (ms : List (Tree × Tree)) → flat_map (λ m. city_object true vertices templates m.1) ms ≡ []
       → map (lod templates) (flat_map object_geometries ms)
       ≡ map (member_of (chars (codes "lod"))) (flat_map object_geometries ms)
   of-objects [] h = refl
   of-objects (m ∷ ms) h =
       let own = member_of (chars (codes "lod")) in
-      let both = none-both (city_object vertices templates m.1)
-      (flat_map (λ n. city_object vertices templates n.1) ms) h in
+      let both = none-both (city_object true vertices templates m.1)
+      (flat_map (λ n. city_object true vertices templates n.1) ms) h in
       let first = object_geometries m in let rest = flat_map object_geometries ms in
       map-append (lod templates) first rest ∙ ap (λ os. os ++ map (lod templates) rest) (of-object m both.0)
       ∙ ap (λ os. map own first ++ os) (of-objects ms both.1) ∙ sym (map-append own first rest)
 
 -- those of a valid feature
-pub valid-lods : (header t : Tree) → feature header t false ≡ [] → template_count (templates_of header) ≡ 0
+pub valid-lods : (header t : Tree) → feature header t false true ≡ [] → template_count (templates_of header) ≡ 0
     → map (lod (templates_of header)) (flat_map object_geometries
     (members_if (member_of (chars (codes "CityObjects")) t)))
     ≡ map (member_of (chars (codes "lod"))) (flat_map object_geometries
@@ -148,9 +148,9 @@ pub valid-lods : (header t : Tree) → feature header t false ≡ [] → templat
 valid-lods header t valid empty =
     let templates = templates_of header in
     let vertices = count_of (member_of (chars (codes "vertices")) t) in
-    let has = by-member (city_objects vertices templates) t (member_of (chars (codes "CityObjects")) t)
+    let has = by-member (city_objects true vertices templates) t (member_of (chars (codes "CityObjects")) t)
     (has-objects templates t valid) in
     let u = has.0 in
-    let rules = (of_kind-none (λ v. distinct v ++ flat_map (λ m. city_object vertices templates m.1) (members_of v)) u
-    is_object has.2).1 in
+    let rules = (of_kind-none
+    (λ v. distinct v ++ flat_map (λ m. city_object true vertices templates m.1) (members_of v)) u is_object has.2).1 in
     rw has.1 (of-objects vertices templates empty (members_of u) (none-both _ _ rules).1)

@@ -1,63 +1,27 @@
--- Where the rules on city objects and vertices find nothing, types are known and vertices have three whole numbers.
-use Rattle.std.proofs.Common.{◌≡◌, ◌∙◌, sym, ap, ℕ, zero, suc, ◌<◌, ◌≤◌, drop, take, pos, List, [], ◌∷◌, ◌++◌, length, map, Bool, true, false, nat_eq, cond, Option, Some, None, ℤ, codes, refl, inl, inr, arith}
+-- Where the rules on vertices find nothing, vertices have three whole numbers.
+use Rattle.std.proofs.Common.{◌≡◌, ◌∙◌, sym, ap, ℕ, zero, suc, ◌<◌, ◌≤◌, drop, take, pos, List, [], ◌∷◌, ◌++◌, length, map, Bool, true, false, nat_eq, cond, Option, Some, None, ℤ, refl, inl, inr, arith}
 use Rattle.std.specs.Result.{result_ok}
 use Rattle.std.specs.List.{flat_map, list_all}
 use Rattle.std.specs.Prelude.{IfSome, Result, Ok, Err, option_and_then}
 use Rattle.std.proofs.lemmas.List.{drop-map, drop_all}
 use Rattle.std.proofs.lemmas.Bool.{cases_lt, eqb-true}
-use Rattle.std.specs.Str.{chars}
 use Rattle.cj_spans.specs.declared.reason.Reason.TheVariants.{NotThree}
 use Rattle.cj_spans.specs.Meaning.Tree.{Tree}
 use Rattle.cj_spans.specs.Forest.{total_size}
-use Rattle.cj_spans.specs.Meaning.Kinds.{is_text, is_number, is_array, is_object}
-use Rattle.cj_spans.specs.Meaning.Parts.{items_of, members_of, member_of}
+use Rattle.cj_spans.specs.Meaning.Kinds.{is_number, is_array}
+use Rattle.cj_spans.specs.Meaning.Parts.{items_of}
 use Rattle.cj_decimal.specs.Word.{IsWordOf}
 use Rattle.cj_decimal.specs.declared.decimal.DecimalFault.{DecimalFault}
 use Rattle.cj_decimal.specs.Meaning.Number.{Number, as_whole}
 use Rattle.cj_decimal.specs.Meaning.Decimal.{decimal_of}
 use Rattle.cj_geometry.proofs.Lone.{whole-size}
-use Rattle.cj_geometry.specs.Meaning.ObjectTypes.{ObjectRow, row_of}
-use Rattle.cj_geometry.specs.Meaning.Geometry.{TemplateSource}
-use Rattle.cj_geometry.specs.Meaning.Rule.{one, needs, may_have, distinct, has_length, of_length}
+use Rattle.cj_geometry.specs.Meaning.Rule.{one, has_length, of_length}
 use Rattle.cj_geometry.specs.Meaning.Numbers.{spelling, value_findings, whole_findings, whole_of, whole_number}
-use Rattle.cj_feature.specs.Meaning.Feature.{known_type, object_type, geometries, texts, second_level, city_object}
-use Rattle.cj_feature.specs.Meaning.Feature.{city_objects, vertex_list}
-use Rattle.cj_feature.specs.inner.Typed.{is_row, is_typed, are_one, are_two, are_three, is_vertex, begins_whole}
+use Rattle.cj_feature.specs.Meaning.Feature.{vertex_list}
+use Rattle.cj_feature.specs.inner.Typed.{are_one, are_two, are_three, is_vertex, begins_whole}
 use Rattle.cj_feature.specs.Meaning.CityObject.{vertex_of}
 use Rattle.cj_feature.specs.Axes.{number_on}
-use Rattle.cj_feature.proofs.None.{none-both, of_kind-none, by-member, none-each}
-
--- ---- city objects
-
-known-row : (o : Option ObjectRow) (t : Tree) → known_type o t ≡ [] → is_row o ≡ true
-known-row None t h = absurd (cc h)
-known-row (Some r) t h = refl
-
-typed : (vertices : Option ℕ) (templates : TemplateSource) (m : Tree × Tree) → city_object vertices templates m.1 ≡ []
-    → is_typed m ≡ true
-typed vertices templates m h =
-    let o = m.1 in
-    let name = needs (chars (codes "type")) object_type in
-    let rules : distinct o ++ name o ++ may_have (chars (codes "geometry")) (geometries vertices templates) o
-    ++ may_have (chars (codes "children")) texts o ++ may_have (chars (codes "parents")) texts o ++ second_level o
-    ≡ [] =
-    (of_kind-none (λ u. distinct u ++ name u ++ may_have (chars (codes "geometry")) (geometries vertices templates) u
-    ++ may_have (chars (codes "children")) texts u ++ may_have (chars (codes "parents")) texts u
-    ++ second_level u) o is_object h).1 in
-    let type_rule : name o ≡ [] =
-    (none-both _ _ (none-both _ _ (none-both _ _ (none-both _ _ (none-both _ _ rules).0).0).0).0).1 in
-    let has = by-member object_type o (member_of (chars (codes "type")) o) type_rule in
-    let row : is_row (row_of has.0) ≡ true =
-    known-row (row_of has.0) has.0 (of_kind-none (λ u. known_type (row_of u) u) has.0 is_text has.2).1 in
-    rw has.1 row
-
-pub all-typed : (vertices : Option ℕ) (templates : TemplateSource) (t : Tree) → city_objects vertices templates t ≡ []
-    → list_all is_typed (members_of t) ≡ true
-all-typed vertices templates t h =
-    let each = λ (u : Tree). flat_map (λ m. city_object vertices templates m.1) (members_of u) in
-    let rules : distinct t ++ each t ≡ [] = (of_kind-none (λ u. distinct u ++ each u) t is_object h).1 in
-    none-each (λ m. city_object vertices templates m.1) is_typed (typed vertices templates) (members_of t)
-    (none-both _ _ rules).1
+use Rattle.cj_feature.proofs.None.{none-both, of_kind-none, none-each}
 
 -- ---- vertices
 

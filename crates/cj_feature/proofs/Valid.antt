@@ -1,12 +1,16 @@
 -- What headers and features of no findings have.
-use Rattle.std.proofs.Common.{◌≡◌, List, [], ◌++◌, Bool, true, false, cond, codes, ap}
+use Rattle.std.proofs.Common.{◌≡◌, ℕ, List, [], ◌∷◌, ◌++◌, Bool, true, false, cond, Option, Some, None, codes, refl}
+use Rattle.std.specs.List.{flat_map}
 use Rattle.std.specs.Str.{chars}
+use Rattle.cj_spans.specs.declared.token.Kind.{Kind}
 use Rattle.cj_spans.specs.Meaning.Tree.{Tree}
 use Rattle.cj_spans.specs.Meaning.Kinds.{is_text, is_object}
 use Rattle.cj_spans.specs.declared.finding.Finding.{Finding}
-use Rattle.cj_spans.specs.Meaning.Parts.{member_of}
-use Rattle.cj_geometry.specs.Meaning.Rule.{of_kind, needs, distinct}
+use Rattle.cj_spans.specs.Meaning.Parts.{kind_of, members_of, member_of}
+use Rattle.cj_geometry.specs.Meaning.ObjectTypes.{ObjectRow, row_of}
+use Rattle.cj_geometry.specs.Meaning.Rule.{of_kind, missing, if_there, needs, may_have, distinct}
 use Rattle.cj_geometry.specs.Meaning.Geometry.{TemplateSource, count_of}
+use Rattle.cj_feature.specs.Meaning.Feature.{known_type, object_type, geometries, texts, second_level, city_object}
 use Rattle.cj_feature.specs.Meaning.Feature.{id_in, city_objects, vertex_list, feature_rules}
 use Rattle.cj_feature.specs.Meaning.Header.{three_numbers, transform, header_rules, header}
 use Rattle.cj_feature.proofs.None.{none-both, of_kind-none}
@@ -30,29 +34,96 @@ module _ (b : Bool) (u : Tree) (valid : transform b u ≡ []) where
   pub has-translate : needs (chars (codes "translate")) (three_numbers b) u ≡ []
   has-translate = (none-both _ _ rules).1
 
--- what has no findings has none without the rule on what is reached
+-- ---- what has no findings has none with fewer rules: without the one on what is reached, and with types of extensions
+
+both-none : (fs gs : List Finding) → fs ≡ [] → gs ≡ [] → fs ++ gs ≡ []
+both-none fs gs f g = rw (f, g) refl
+
 on-kind : (b : Bool) (fs gs : List Finding) → b ≡ true → fs ≡ [] → cond b fs gs ≡ []
 on-kind true fs gs e h = h
 on-kind false fs gs e h = cc e
 
-pub valid-without : (templates : TemplateSource) (t : Tree) (tree : Bool)
-    → of_kind is_object (feature_rules templates tree) t ≡ [] → of_kind is_object (feature_rules templates false) t ≡ []
-valid-without templates t false h = h
-valid-without templates t true h =
-    let both = of_kind-none (feature_rules templates true) t is_object h in
-    on-kind _ (feature_rules templates false t) _ both.0 (ap (λ (fs : List Finding). fs ++ []) (none-both _ _ both.1).0)
+of_kind-fewer : (is : Kind → Bool) (all fewer : Tree → List Finding) (t : Tree) → (all t ≡ [] → fewer t ≡ [])
+    → of_kind is all t ≡ [] → of_kind is fewer t ≡ []
+of_kind-fewer is all fewer t on h =
+    let both = of_kind-none all t is h in
+    on-kind (is (kind_of t)) (fewer t) _ both.0 (on both.1)
+
+if-fewer : (all fewer : Tree → List Finding) → ((t : Tree) → all t ≡ [] → fewer t ≡ []) → (g : Tree) (o : Option Tree)
+    → missing g o ++ if_there all o ≡ [] → missing g o ++ if_there fewer o ≡ []
+if-fewer all fewer on g None h = h
+if-fewer all fewer on g (Some t) h = on t h
+
+each-fewer : {A : Type 0} (all fewer : A → List Finding) → ((x : A) → all x ≡ [] → fewer x ≡ []) → (xs : List A)
+    → flat_map all xs ≡ [] → flat_map fewer xs ≡ []
+each-fewer all fewer on [] h = refl
+each-fewer all fewer on (x ∷ xs) h =
+    let both = none-both (all x) (flat_map all xs) h in
+    both-none (fewer x) (flat_map fewer xs) (on x both.0) (each-fewer all fewer on xs both.1)
+
+known-fewer : (extensions : Bool) (o : Option ObjectRow) (t : Tree) → known_type extensions o t ≡ []
+    → known_type true o t ≡ []
+known-fewer extensions (Some r) t h = refl
+known-fewer true None t h = h
+known-fewer false None t h = absurd (cc h)
+
+type-fewer : (extensions : Bool) (t : Tree) → object_type extensions t ≡ [] → object_type true t ≡ []
+type-fewer extensions t h =
+    of_kind-fewer is_text (λ u. known_type extensions (row_of u) u) (λ u. known_type true (row_of u) u) t
+    (known-fewer extensions (row_of t) t) h
+
+module _ (extensions : Bool) (vertices : Option ℕ) (templates : TemplateSource) where
+  object-fewer : (t : Tree) → city_object extensions vertices templates t ≡ []
+      → city_object true vertices templates t ≡ []
+  object-fewer t h =
+      let rest = λ (e : Bool) (o : Tree). distinct o ++ needs (chars (codes "type")) (object_type e) o
+      ++ may_have (chars (codes "geometry")) (geometries vertices templates) o
+      ++ may_have (chars (codes "children")) texts o ++ may_have (chars (codes "parents")) texts o ++ second_level o in
+      of_kind-fewer is_object (rest extensions) (rest true) t (λ rules.
+      let five = none-both _ _ rules in
+      let four = none-both _ _ five.0 in
+      let three = none-both _ _ four.0 in
+      let two = none-both _ _ three.0 in
+      let one = none-both _ _ two.0 in
+      let name = if-fewer (object_type extensions) (object_type true) (type-fewer extensions) t
+      (member_of (chars (codes "type")) t) one.1 in
+      both-none _ _ (both-none _ _ (both-none _ _ (both-none _ _ (both-none _ _ one.0 name) two.1) three.1) four.1)
+      five.1) h
+
+  objects-fewer : (t : Tree) → city_objects extensions vertices templates t ≡ []
+      → city_objects true vertices templates t ≡ []
+  objects-fewer t h =
+      let each = λ (e : Bool) (m : Tree × Tree). city_object e vertices templates m.1 in
+      let all = λ (e : Bool) (u : Tree). distinct u ++ flat_map (each e) (members_of u) in
+      of_kind-fewer is_object (all extensions) (all true) t (λ rules.
+      let both = none-both _ _ rules in
+      both-none _ _ both.0 (each-fewer (each extensions) (each true) (λ m. object-fewer m.1) (members_of t) both.1)) h
+
+pub valid-without : (templates : TemplateSource) (t : Tree) (tree extensions : Bool)
+    → of_kind is_object (feature_rules templates tree extensions) t ≡ []
+    → of_kind is_object (feature_rules templates false true) t ≡ []
+valid-without templates t tree extensions h =
+    of_kind-fewer is_object (feature_rules templates tree extensions) (feature_rules templates false true) t (λ rules.
+    let six = none-both _ _ rules in
+    let five = none-both _ _ six.0 in
+    let four = none-both _ _ five.0 in
+    let three = none-both _ _ four.0 in
+    let vertices = count_of (member_of (chars (codes "vertices")) t) in
+    let objects = if-fewer (city_objects extensions vertices templates) (city_objects true vertices templates)
+    (objects-fewer extensions vertices templates) t (member_of (chars (codes "CityObjects")) t) three.1 in
+    both-none _ [] (both-none _ _ (both-none _ _ (both-none _ _ three.0 objects) four.1) five.1) refl) h
 
 -- of a feature, an id, city objects and vertices
 module _ (templates : TemplateSource) (t : Tree)
-    (valid : of_kind is_object (feature_rules templates false) t ≡ []) where
-  feature_none : feature_rules templates false t ≡ []
-  feature_none = (of_kind-none (feature_rules templates false) t is_object valid).1
+    (valid : of_kind is_object (feature_rules templates false true) t ≡ []) where
+  feature_none : feature_rules templates false true t ≡ []
+  feature_none = (of_kind-none (feature_rules templates false true) t is_object valid).1
 
   pub has-id : needs (chars (codes "id")) (of_kind is_text (id_in (member_of (chars (codes "CityObjects")) t))) t ≡ []
   has-id = (none-both _ _ (none-both _ _ (none-both _ _ (none-both _ _ (none-both _ _ feature_none).0).0).0).0).1
 
   pub has-objects : needs (chars (codes "CityObjects"))
-      (city_objects (count_of (member_of (chars (codes "vertices")) t)) templates) t ≡ []
+      (city_objects true (count_of (member_of (chars (codes "vertices")) t)) templates) t ≡ []
   has-objects = (none-both _ _ (none-both _ _ (none-both _ _ (none-both _ _ feature_none).0).0).0).1
 
   pub has-vertices : needs (chars (codes "vertices")) vertex_list t ≡ []

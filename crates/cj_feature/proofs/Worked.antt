@@ -2,14 +2,14 @@
 use Rattle.std.proofs.Common.{◌≡◌, ℕ, List, [], ◌∷◌, ◌++◌, false, true, None, Some, refl}
 use Rattle.std.specs.Prelude.{codes}
 use Rattle.std.specs.Str.{chars}
-use Rattle.cj_spans.specs.declared.reason.Reason.TheVariants.{MissingMember, IdNotFound, NotReached}
+use Rattle.cj_spans.specs.declared.reason.Reason.TheVariants.{MissingMember, IdNotFound, NotReached, UnknownObjectType}
 use Rattle.cj_spans.specs.Meaning.Finding.{least, found_at}
 use Rattle.cj_spans.specs.Meaning.Json.{atom_at}
 use Rattle.cj_spans.specs.Meaning.Text.{text, code_points_after, first_code_point, first_width}
 use Rattle.cj_spans.specs.Meaning.Tree.{Tree, array, object, no_items, member, no_members}
 use Rattle.cj_geometry.specs.Meaning.ObjectTypes.{object_types}
 use Rattle.cj_geometry.proofs.Digits.{number-zero, number-one}
-use Rattle.cj_feature.specs.Examples.{Row, row, plain_header, other_id, chain, part_apart, main_part, text as text_at}
+use Rattle.cj_feature.specs.Examples.{Row, row, plain_header, other_id, chain, part_apart, main_part, extension, text as text_at}
 use Rattle.cj_feature.specs.Meaning.Feature.{feature}
 use Rattle.cj_feature.specs.Meaning.Header.{header}
 use Rattle.cj_feature.specs.Meaning.Reached.{reached_from, is_reached}
@@ -38,40 +38,50 @@ pub plain_header-valid : header false plain_header ≡ []
 unfolding text code_points_after first_code_point first_width chars
 plain_header-valid = simp (number-zero, number-one) refl
 
-pub plain_feature-valid : feature plain_header plain_feature.tree false ≡ []
+pub plain_feature-valid : feature plain_header plain_feature.tree false false ≡ []
 unfolding text code_points_after first_code_point first_width chars object_types
 plain_feature-valid = refl
 
-pub euro_feature-valid : feature plain_header euro_feature false ≡ []
+pub euro_feature-valid : feature plain_header euro_feature false false ≡ []
 unfolding text code_points_after first_code_point first_width chars object_types
 euro_feature-valid = refl
 
-pub other_id-refused : least None (feature plain_header other_id.tree false) ≡ Some (found_at 31 IdNotFound)
+pub other_id-refused : least None (feature plain_header other_id.tree false false) ≡ Some (found_at 31 IdNotFound)
 unfolding text code_points_after first_code_point first_width chars object_types
 other_id-refused = refl
 
 -- where each city object has to be reached from the main one, and where not
-pub chain-valid : feature plain_header chain.tree true ≡ []
+pub chain-valid : feature plain_header chain.tree true false ≡ []
 unfolding text code_points_after first_code_point first_width chars object_types reached_from is_reached
 chain-valid = refl
 
-pub part_apart-refused : least None (feature plain_header part_apart.tree true) ≡ Some (found_at 78 NotReached)
+pub part_apart-refused : least None (feature plain_header part_apart.tree true false) ≡ Some (found_at 78 NotReached)
 unfolding text code_points_after first_code_point first_width chars object_types reached_from is_reached
 part_apart-refused = refl
 
-pub main_part-refused : least None (feature plain_header main_part.tree true) ≡ Some (found_at 98 NotReached)
+pub main_part-refused : least None (feature plain_header main_part.tree true false) ≡ Some (found_at 98 NotReached)
 unfolding text code_points_after first_code_point first_width chars object_types reached_from is_reached
 main_part-refused = refl
 
-pub part_apart-valid : feature plain_header part_apart.tree false ≡ []
+pub part_apart-valid : feature plain_header part_apart.tree false false ≡ []
 unfolding text code_points_after first_code_point first_width chars object_types
 part_apart-valid = refl
+
+-- a type of an extension, unknown and known
+pub extension-refused : least None (feature plain_header extension.tree false false)
+    ≡ Some (found_at 62 UnknownObjectType)
+unfolding text code_points_after first_code_point first_width chars object_types
+extension-refused = refl
+
+pub extension-valid : feature plain_header extension.tree false true ≡ []
+unfolding text code_points_after first_code_point first_width chars object_types
+extension-valid = refl
 
 -- neither a header nor a feature is the other
 pub feature-no_header : least None (header false plain_feature.tree) ≡ Some (found_at 0 MissingMember)
 unfolding text code_points_after first_code_point first_width chars object_types
 feature-no_header = refl
 
-pub header-no_feature : least None (feature plain_header plain_header false) ≡ Some (found_at 0 MissingMember)
+pub header-no_feature : least None (feature plain_header plain_header false false) ≡ Some (found_at 0 MissingMember)
 unfolding text code_points_after first_code_point first_width chars object_types
 header-no_feature = refl

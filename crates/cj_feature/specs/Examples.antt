@@ -200,6 +200,37 @@ unread_names =
     (member (atom_at line 73 85) (object 86 99 (member (atom_at line 87 90) (number line 91 92)
     (member (atom_at line 93 96) (number line 97 98) no_members))) no_members))) no_members)
 
+-- an unknown type, and a type of an extension, also by an escape; with a parent and a child that are not in the feature
+abbrev pub shed : Row
+shed =
+    row (codes "\"b\":{\"type\":\"Shed\"}")
+    (λ line. member (atom_at line 50 53) (object 54 69
+    (member (atom_at line 55 61) (text line 62 68) no_members)) no_members)
+
+abbrev pub extension : Row
+extension =
+    row (codes "\"b\":{\"type\":\"+Shed\"}")
+    (λ line. member (atom_at line 50 53) (object 54 70
+    (member (atom_at line 55 61) (text line 62 69) no_members)) no_members)
+
+abbrev pub extension_by_escape : Row
+extension_by_escape =
+    row (codes "\"b\":{\"type\":\"\\u002bShed\"}")
+    (λ line. member (atom_at line 50 53) (object 54 75
+    (member (atom_at line 55 61) (text line 62 74) no_members)) no_members)
+
+abbrev pub extension_with_parent : Row
+extension_with_parent =
+    row (codes "\"b\":{\"type\":\"+Shed\",\"parents\":[\"q\"]}")
+    (λ line. member (atom_at line 50 53) (object 54 86 (member (atom_at line 55 61) (text line 62 69)
+    (member (atom_at line 70 79) (array 80 85 (item (text line 81 84) no_items)) no_members))) no_members)
+
+abbrev pub extension_with_child : Row
+extension_with_child =
+    row (codes "\"b\":{\"type\":\"+Shed\",\"children\":[\"q\"]}")
+    (λ line. member (atom_at line 50 53) (object 54 87 (member (atom_at line 55 61) (text line 62 69)
+    (member (atom_at line 70 80) (array 81 86 (item (text line 82 85) no_items)) no_members))) no_members)
+
 -- children that are null
 abbrev pub null_children : Row
 null_children =

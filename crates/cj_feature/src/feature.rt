@@ -1,5 +1,5 @@
 //! Features: the later lines of a stream.
-ghost use Rattle.std.specs.Prelude.{◌≡◌, ◌<◌, ℕ, List, [], false, None, Some, IfSome, codes, get_or, map, option_map};
+ghost use Rattle.std.specs.Prelude.{◌≡◌, ◌<◌, ℕ, List, [], false, true, None, Some, IfSome, codes, get_or, map, option_map};
 ghost use Rattle.std.specs.Str.{chars};
 ghost use Rattle.cj_spans.specs.Meaning.Parts.{member_of, text_of};
 ghost use Rattle.cj_spans.specs.View.{document, document_line, document_source, tree, tree_in, line_of};
@@ -36,7 +36,7 @@ pub struct Feature<'a> {
     objects: u32,
     vertices: u32,
     templates: Templates<'a>,
-    ghost valid: { feature (document header) (document doc) false ≡ [] },
+    ghost valid: { feature (document header) (document doc) false true ≡ [] },
     ghost has_objects: { member_of (chars (codes "CityObjects")) (document doc) ≡ Some (tree_in (document_source doc) objects) } by { tree_if-set _ _ },
     ghost has_vertices: { member_of (chars (codes "vertices")) (document doc) ≡ Some (tree_in (document_source doc) vertices) } by { tree_if-set _ _ },
     ghost has_templates: { given templates ≡ templates_of (document header) } by { given-set _ _ },
@@ -65,7 +65,7 @@ impl<'a> Feature<'a> {
         vertices: Option<u32>,
         templates: Templates<'a>,
     ) -> Feature<'a>
-        requires valid { feature (document header) (document doc) false ≡ [] }
+        requires valid { feature (document header) (document doc) false true ≡ [] }
         requires objects { option_map (tree_in (document_source doc)) objects
             ≡ member_of (chars (codes "CityObjects")) (document doc) }
         requires vertices { option_map (tree_in (document_source doc)) vertices

@@ -14,14 +14,14 @@
 //! let parts = header.parts();
 //! // later, given the first line again, and for each other line:
 //! let header = Header::of(Doc::of(first, first_tokens), parts);
-//! let feature = check_feature(Doc::of(line, tokens.as_slice()), &header, false)?;
+//! let feature = check_feature(Doc::of(line, tokens.as_slice()), &header, false, false)?;
 //! for object in feature.objects() {}      // id, type and node of each
 //! for [x, y, z] in feature.vertices() {}  // whole numbers, as in the line
 //! for x in feature.coordinates(0) {}      // the first number of each
 //!
 //! // if each city object must be reached from the main one, first mark those that are
 //! mark_reached(line, &mut tokens);
-//! let feature = check_feature(Doc::of(line, tokens.as_slice()), &header, true)?;
+//! let feature = check_feature(Doc::of(line, tokens.as_slice()), &header, true, false)?;
 //! ```
 #![tactic(auto)]
 

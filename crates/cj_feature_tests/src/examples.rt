@@ -3,6 +3,7 @@ ghost use Rattle.std.specs.Prelude.{◌≡◌, ◌∷◌, [], false, true, Some,
 ghost use Rattle.cj_spans.specs.declared.reason.Reason.TheVariants.{MissingMember, DuplicateName, WrongKind, WrongType};
 ghost use Rattle.cj_spans.specs.declared.reason.Reason.TheVariants.{WrongVersion, NotEmpty, NotThree, IdNotFound};
 ghost use Rattle.cj_spans.specs.declared.reason.Reason.TheVariants.{ChildNotFound, LinkNotMutual, NoParent, NotReached};
+ghost use Rattle.cj_spans.specs.declared.reason.Reason.TheVariants.{UnknownObjectType};
 ghost use Rattle.cj_spans.specs.Meaning.Finding.{least, found_at};
 ghost use Rattle.cj_spans.specs.Forest.{forest};
 ghost use Rattle.cj_spans.specs.Preorder.{preorder};
@@ -14,85 +15,99 @@ ghost use Rattle.cj_feature.specs.Examples.{unlisted_member, unlisted_group, gro
 ghost use Rattle.cj_feature.specs.Examples.{no_objects, doubled, escaped, same_by_escape, no_object, child_no_object};
 ghost use Rattle.cj_feature.specs.Examples.{other_id, unread_names, null_children, chain, part_apart, main_part};
 ghost use Rattle.cj_feature.specs.Examples.{number_apart, plain_header, plain_header_line, other_type, other_type_line};
+ghost use Rattle.cj_feature.specs.Examples.{shed, extension, extension_by_escape, extension_with_parent};
+ghost use Rattle.cj_feature.specs.Examples.{extension_with_child};
 ghost use Rattle.cj_feature.specs.Examples.{other_version, other_version_line, more_digits, more_digits_line, no_scale};
 ghost use Rattle.cj_feature.specs.Examples.{no_scale_line, two_scales, two_scales_line, with_objects};
 ghost use Rattle.cj_feature.specs.Examples.{with_objects_line, with_vertices, with_vertices_line};
 
 /// A city object may list itself, as a child and as a parent.
 pub fn children_and_parents_of_itself()
-    ensures { feature bare itself.tree false ≡ [] }
+    ensures { feature bare itself.tree false false ≡ [] }
 {}
 
 /// Each child is in the feature, and lists the city object as a parent.
 pub fn children()
-    ensures lost { feature bare lost_child.tree false ≡ found_at 85 ChildNotFound ∷ [] }
-    ensures unlisted { feature bare unlisted_parent.tree false ≡ found_at 85 LinkNotMutual ∷ [] }
-    ensures null { feature bare null_children.tree false ≡ found_at 84 WrongKind ∷ [] }
+    ensures lost { feature bare lost_child.tree false false ≡ found_at 85 ChildNotFound ∷ [] }
+    ensures unlisted { feature bare unlisted_parent.tree false false ≡ found_at 85 LinkNotMutual ∷ [] }
+    ensures null { feature bare null_children.tree false false ≡ found_at 84 WrongKind ∷ [] }
 {}
 
 /// Each parent in the feature lists the city object as a child.
 pub fn parents()
-    ensures lost { feature bare lost_parent.tree false ≡ [] }
-    ensures unlisted { feature bare unlisted_part.tree false ≡ found_at 112 LinkNotMutual ∷ [] }
+    ensures lost { feature bare lost_parent.tree false false ≡ [] }
+    ensures unlisted { feature bare unlisted_part.tree false false ≡ found_at 112 LinkNotMutual ∷ [] }
 {}
 
 /// A city object of the second level needs a parent in the feature.
 pub fn parts()
-    ensures alone { feature bare part_alone.tree false ≡ found_at 54 MissingMember ∷ [] }
-    ensures other { feature bare part_of_other.tree false ≡ found_at 54 NoParent ∷ [] }
-    ensures none { feature bare part_of_none.tree false ≡ found_at 54 NoParent ∷ [] }
-    ensures number { least None (feature bare part_of_number.tree false) ≡ Some (found_at 54 NoParent) }
+    ensures alone { feature bare part_alone.tree false false ≡ found_at 54 MissingMember ∷ [] }
+    ensures other { feature bare part_of_other.tree false false ≡ found_at 54 NoParent ∷ [] }
+    ensures none { feature bare part_of_none.tree false false ≡ found_at 54 NoParent ∷ [] }
+    ensures number { least None (feature bare part_of_number.tree false false) ≡ Some (found_at 54 NoParent) }
 {}
 
 /// The children of a group may be anywhere. Its members list it as any other parent, and its own
 /// parents list it as any other child.
 pub fn groups()
-    ensures group { feature bare group.tree false ≡ [] }
-    ensures unlisted { feature bare unlisted_member.tree false ≡ found_at 115 LinkNotMutual ∷ [] }
-    ensures parent { feature bare unlisted_group.tree false ≡ found_at 91 LinkNotMutual ∷ [] }
-    ensures lost_parent { feature bare group_of_other.tree false ≡ [] }
+    ensures group { feature bare group.tree false false ≡ [] }
+    ensures unlisted { feature bare unlisted_member.tree false false ≡ found_at 115 LinkNotMutual ∷ [] }
+    ensures parent { feature bare unlisted_group.tree false false ≡ found_at 91 LinkNotMutual ∷ [] }
+    ensures lost_parent { feature bare group_of_other.tree false false ≡ [] }
+{}
+
+/// A type that begins with `+` is unknown, or it is known and has no level: no parent needs to be
+/// in the feature. Its children do.
+pub fn types_of_extensions()
+    ensures unknown { feature bare extension.tree false false ≡ found_at 62 UnknownObjectType ∷ [] }
+    ensures known { feature bare extension.tree false true ≡ [] }
+    ensures escaped { feature bare extension_by_escape.tree false true ≡ [] }
+    ensures parent { feature bare extension_with_parent.tree false true ≡ [] }
+    ensures child { feature bare extension_with_child.tree false true ≡ found_at 82 ChildNotFound ∷ [] }
+    ensures other { feature bare shed.tree false true ≡ found_at 62 UnknownObjectType ∷ [] }
 {}
 
 /// Links are between names, in any spelling. If a name is repeated, it does not matter which city
 /// object has the link.
 pub fn names_of_city_objects()
-    ensures doubled { feature bare doubled.tree false ≡ found_at 74 DuplicateName ∷ [] }
-    ensures escaped { feature bare escaped.tree false ≡ [] }
-    ensures same { feature bare same_by_escape.tree false ≡ found_at 74 DuplicateName ∷ [] }
-    ensures unread { feature bare unread_names.tree false ≡ [] }
+    ensures doubled { feature bare doubled.tree false false ≡ found_at 74 DuplicateName ∷ [] }
+    ensures escaped { feature bare escaped.tree false false ≡ [] }
+    ensures same { feature bare same_by_escape.tree false false ≡ found_at 74 DuplicateName ∷ [] }
+    ensures unread { feature bare unread_names.tree false false ≡ [] }
 {}
 
 /// A name is an id in the feature even if its value is no city object.
 pub fn values_that_are_no_city_objects()
-    ensures alone { feature bare no_object.tree false ≡ found_at 54 WrongKind ∷ [] }
-    ensures child { feature bare child_no_object.tree false ≡ found_at 95 WrongKind ∷ found_at 85 LinkNotMutual ∷ [] }
-    ensures least { least None (feature bare child_no_object.tree false) ≡ Some (found_at 85 LinkNotMutual) }
-    ensures parent { feature bare part_of_no_object.tree false ≡ found_at 98 WrongKind
+    ensures alone { feature bare no_object.tree false false ≡ found_at 54 WrongKind ∷ [] }
+    ensures child { feature bare child_no_object.tree false false ≡ found_at 95 WrongKind
+        ∷ found_at 85 LinkNotMutual ∷ [] }
+    ensures least { least None (feature bare child_no_object.tree false false) ≡ Some (found_at 85 LinkNotMutual) }
+    ensures parent { feature bare part_of_no_object.tree false false ≡ found_at 98 WrongKind
         ∷ found_at 88 LinkNotMutual ∷ [] }
 {}
 
 /// The id of the feature is the name of a city object.
 pub fn an_id_of_no_city_object()
-    ensures other { feature bare other_id.tree false ≡ found_at 31 IdNotFound ∷ [] }
-    ensures none { feature bare no_objects.tree false ≡ found_at 31 IdNotFound ∷ [] }
+    ensures other { feature bare other_id.tree false false ≡ found_at 31 IdNotFound ∷ [] }
+    ensures none { feature bare no_objects.tree false false ≡ found_at 31 IdNotFound ∷ [] }
 {}
 
 /// If each city object must be reached from the main one, all that are not have a finding. It does
 /// not matter what level they have, where they are, and what the main one is. Their order does not
 /// matter.
 pub fn city_objects_that_are_not_reached()
-    ensures chain { feature bare chain.tree true ≡ [] }
-    ensures apart { feature bare part_apart.tree true ≡ found_at 78 NotReached ∷ found_at 122 NotReached ∷ [] }
-    ensures main_part { feature bare main_part.tree true ≡ found_at 98 NotReached ∷ [] }
-    ensures unasked { feature bare part_apart.tree false ≡ [] }
-    ensures unasked_part { feature bare main_part.tree false ≡ [] }
+    ensures chain { feature bare chain.tree true false ≡ [] }
+    ensures apart { feature bare part_apart.tree true false ≡ found_at 78 NotReached ∷ found_at 122 NotReached ∷ [] }
+    ensures main_part { feature bare main_part.tree true false ≡ found_at 98 NotReached ∷ [] }
+    ensures unasked { feature bare part_apart.tree false false ≡ [] }
+    ensures unasked_part { feature bare main_part.tree false false ≡ [] }
 {}
 
 /// A value that is no object is not reached either. The finding of its kind comes first, at the
 /// same byte.
 pub fn a_number_that_is_not_reached()
-    ensures all { feature bare number_apart.tree true ≡ found_at 78 WrongKind ∷ found_at 78 NotReached ∷ [] }
-    ensures least { least None (feature bare number_apart.tree true) ≡ Some (found_at 78 WrongKind) }
+    ensures all { feature bare number_apart.tree true false ≡ found_at 78 WrongKind ∷ found_at 78 NotReached ∷ [] }
+    ensures least { least None (feature bare number_apart.tree true false) ≡ Some (found_at 78 WrongKind) }
 {}
 
 /// A header has its type and its version. The digits of the version must be exact.
@@ -114,7 +129,7 @@ pub fn parts_of_a_header()
 /// A header is no feature, and a feature is no header.
 pub fn one_taken_for_the_other()
     ensures feature { least None (header false itself.tree) ≡ Some (found_at 0 MissingMember) }
-    ensures header { least None (feature bare plain_header false) ≡ Some (found_at 0 MissingMember) }
+    ensures header { least None (feature bare plain_header false false) ≡ Some (found_at 0 MissingMember) }
 {}
 
 /// The trees of features are those that their lines show.
@@ -143,6 +158,14 @@ pub fn trees_of_features()
     ensures part_of_no_object { forest part_of_no_object.line (preorder part_of_no_object.tree)
         ≡ part_of_no_object.tree ∷ [] }
     ensures no_objects { forest no_objects.line (preorder no_objects.tree) ≡ no_objects.tree ∷ [] }
+    ensures shed { forest shed.line (preorder shed.tree) ≡ shed.tree ∷ [] }
+    ensures extension { forest extension.line (preorder extension.tree) ≡ extension.tree ∷ [] }
+    ensures by_escape { forest extension_by_escape.line (preorder extension_by_escape.tree)
+        ≡ extension_by_escape.tree ∷ [] }
+    ensures with_parent { forest extension_with_parent.line (preorder extension_with_parent.tree)
+        ≡ extension_with_parent.tree ∷ [] }
+    ensures with_child { forest extension_with_child.line (preorder extension_with_child.tree)
+        ≡ extension_with_child.tree ∷ [] }
     ensures chain { forest chain.line (preorder chain.tree) ≡ chain.tree ∷ [] }
     ensures part_apart { forest part_apart.line (preorder part_apart.tree) ≡ part_apart.tree ∷ [] }
     ensures main_part { forest main_part.line (preorder main_part.tree) ≡ main_part.tree ∷ [] }

@@ -36,6 +36,8 @@ enum Judged {
     HeaderForBox,
     /// A feature after this header.
     Feature(&'static str),
+    /// A feature whose types of extensions are known.
+    Extended,
     /// A feature whose city objects must all be reached.
     Tree,
 }
@@ -72,25 +74,27 @@ fn header_finding(rt: &impl Abort, alloc: Global, line: &[u8], with_box: bool) -
     }
 }
 
-/// Returns the finding of a feature with a header.
-fn finding_with(header: &Header, feature: Doc) -> Option<Finding> {
-    match check_feature(feature, header, false) {
+/// Returns the finding of a feature with a header. Types of extensions are known, or not.
+fn finding_with(header: &Header, feature: Doc, extensions: bool) -> Option<Finding> {
+    match check_feature(feature, header, false, extensions) {
         Ok(_) => None,
         Err(finding) => Some(finding),
     }
 }
 
-/// Returns the finding of a line that is judged as a feature, with a header.
+/// Returns the finding of a line that is judged as a feature, with a header. Types of extensions
+/// are known, or not.
 fn feature_finding(
     rt: &impl Abort,
     alloc: Global,
     header_line: &[u8],
     line: &[u8],
+    extensions: bool,
 ) -> Option<Finding> {
     let header_tokens = tokens_of(rt, alloc, header_line);
     let tokens = tokens_of(rt, alloc, line);
     match check_header(Doc::of(header_line, header_tokens.as_slice()), false) {
-        Ok(header) => finding_with(&header, Doc::of(line, tokens.as_slice())),
+        Ok(header) => finding_with(&header, Doc::of(line, tokens.as_slice()), extensions),
         Err(_) => panic!(rt; "no header"),
     }
 }
@@ -147,7 +151,8 @@ fn finding_of(rt: &impl Abort, alloc: Global, judged: Judged, line: &[u8]) -> Op
     match judged {
         Judged::Header => header_finding(rt, alloc, line, false),
         Judged::HeaderForBox => header_finding(rt, alloc, line, true),
-        Judged::Feature(header) => feature_finding(rt, alloc, header.as_bytes(), line),
+        Judged::Feature(header) => feature_finding(rt, alloc, header.as_bytes(), line, false),
+        Judged::Extended => feature_finding(rt, alloc, HEADER.as_bytes(), line, true),
         Judged::Tree => reached::tree_finding(rt, alloc, line),
     }
 }

@@ -36,6 +36,6 @@ pub use geometry::check_geometry;
 pub use grammar::one_grammar_of_numbers;
 pub use lod::lod_of;
 pub use lods::Lods;
-pub use object_type::{ObjectType, types_are_counted};
+pub use object_type::{ObjectType, is_of_extension, types_are_counted};
 pub use steps::Steps;
 pub use templates::Templates;

@@ -4,7 +4,7 @@ ghost use Rattle.std.specs.Str.{chars};
 ghost use Rattle.cj_spans.specs.Meaning.Tree.{Tree};
 ghost use Rattle.cj_spans.specs.Meaning.Parts.{has_text};
 ghost use Rattle.cj_spans.specs.View.{tree};
-ghost use Rattle.cj_geometry.specs.Meaning.ObjectTypes.{object_types, row_of};
+ghost use Rattle.cj_geometry.specs.Meaning.ObjectTypes.{object_types, row_of, is_of_extension as begins_so};
 ghost use Rattle.cj_geometry.specs.ObjectTypes.{type_count, row_named, row_at};
 
 use cj_spans::Node;
@@ -54,6 +54,17 @@ pub fn types_are_counted()
     ensures table { type_count ≡ length object_types }
     ensures program { ObjectType.COUNT ≡ type_count }
 {}
+
+/// The code point of the sign that begins the types of extensions.
+const PLUS: u32 = 43;
+
+/// Returns whether the text of this node begins as the types of extensions do, with `+` (CityJSON
+/// 2.0, section 8). No type of the table does.
+pub fn is_of_extension(node: Node) -> bool
+    ensures { result ≡ begins_so (tree node.entry) }
+{
+    node.first_code() == Some(PLUS)
+}
 
 impl ObjectType {
     /// The number of types.

@@ -1,21 +1,23 @@
--- Small streams of which each city object has to be reached, or of which what is asked for is left out, computed.
+-- Small streams of which each city object has to be reached, of which what is asked for is left out, or whose types of
+-- extensions are known, computed.
 use Rattle.std.proofs.Common.{◌≡◌, ℕ, ◌≤◌, List, [], ◌∷◌, ◌++◌, Bool, true, false, None, Some, length, refl, ap, ◌∙◌, lit≤}
 use Rattle.std.specs.Prelude.{IsUtf8, not, ◌&&◌, nat_lt}
 use Rattle.std.specs.List.{list_all}
 use Rattle.std.specs.Str.{is_utf8, chars}
 use Rattle.std.proofs.lemmas.Str.{IsUtf8-from_is_utf8}
 use lib.Utf8.{encode}
-use Rattle.cj_spans.specs.declared.reason.Reason.TheVariants.{NotReached}
+use Rattle.cj_spans.specs.declared.reason.Reason.{Reason}
+use Rattle.cj_spans.specs.declared.reason.Reason.TheVariants.{NotReached, UnknownObjectType}
 use Rattle.cj_spans.specs.Meaning.Finding.{least, found_at}
 use Rattle.cj_spans.specs.Forest.{forest}
 use Rattle.cj_spans.specs.Meaning.Json.{Json}
 use Rattle.cj_spans.specs.Meaning.Tree.{Tree, nest}
 use Rattle.cj_spans.proofs.Judgements.{judgement}
-use Rattle.cj_feature.specs.Examples.{plain_header, chain, part_apart, main_part}
+use Rattle.cj_feature.specs.Examples.{plain_header, chain, part_apart, main_part, extension}
 use Rattle.cj_feature.specs.Meaning.Feature.{feature}
-use Rattle.cj_feature.proofs.Worked.{plain_feature, plain_header-valid, plain_feature-valid, chain-valid, part_apart-valid, part_apart-refused, main_part-refused}
+use Rattle.cj_feature.proofs.Worked.{plain_feature, plain_header-valid, plain_feature-valid, chain-valid, part_apart-valid, part_apart-refused, main_part-refused, extension-refused, extension-valid}
 use Rattle.cj_stream.specs.declared.ending.End.TheVariants.{Complete, Refused}
-use Rattle.cj_stream.specs.ChoiceRows.{choosing, ApartRow, ChainRow, ExcludeRow}
+use Rattle.cj_stream.specs.ChoiceRows.{choosing, ApartRow, ChainRow, ExcludeRow, ExtensionRow}
 use Rattle.cj_stream.specs.Item.{tree_of}
 use Rattle.cj_stream.specs.Meaning.Lines.{raw, ended_line}
 use Rattle.cj_stream.specs.Rows.{small_header, small_feature}
@@ -37,6 +39,10 @@ chain_json : Json chain.line chain.tree
 unfolding forest
 chain_json = spelled-tree chain.line _ _ _ chain.tree refl refl refl
 
+extension_json : Json extension.line extension.tree
+unfolding forest
+extension_json = spelled-tree extension.line _ _ _ extension.tree refl refl refl
+
 apart_text : IsUtf8 part_apart.line
 unfolding is_utf8 chars encode
 apart_text = IsUtf8-from_is_utf8 part_apart.line refl
@@ -49,11 +55,15 @@ chain_text : IsUtf8 chain.line
 unfolding is_utf8 chars encode
 chain_text = IsUtf8-from_is_utf8 chain.line refl
 
+extension_text : IsUtf8 extension.line
+unfolding is_utf8 chars encode
+extension_text = IsUtf8-from_is_utf8 extension.line refl
+
 -- ---- one line behind the header
 
-module _ (tree exclude : Bool) where
+module _ (tree exclude extensions : Bool) where
   abbrev rules : Rules
-  rules = choosing tree exclude
+  rules = choosing tree exclude extensions
 
   header_valid : (t : Tree) → verdict_at rules 1 t small_header ≡ Kept
   header_valid t =
@@ -67,21 +77,22 @@ module _ (tree exclude : Bool) where
     second = rw header_tree (verdict-json rules 2 plain_header c short is_text full
         ∙ by-tree t json shallow rules 2 plain_header (judgement c 64))
 
-    refused : (place : ℕ) → least None (feature plain_header t tree) ≡ Some (found_at place NotReached)
-        → (ending_of rules (ended_line small_header ∷ open_line c ∷ []) ≡ Refused 2 place NotReached)
+    refused : (place : ℕ) (reason : Reason)
+        → least None (feature plain_header t tree extensions) ≡ Some (found_at place reason)
+        → (ending_of rules (ended_line small_header ∷ open_line c ∷ []) ≡ Refused 2 place reason)
         × (written rules (ended_line small_header ∷ open_line c ∷ []) ≡ raw (ended_line small_header) ++ [])
-    refused place least_is =
-        second-refused rules place NotReached (ended_line small_header) (header_valid _) refl (open_line c) []
+    refused place reason least_is =
+        second-refused rules place reason (ended_line small_header) (header_valid _) refl (open_line c) []
         (second ∙ ap (by_least (is_kept_if_valid rules 2 plain_header t)) least_is)
 
-    kept : feature plain_header t tree ≡ [] → is_kept_if_valid rules 2 plain_header t ≡ true
+    kept : feature plain_header t tree extensions ≡ [] → is_kept_if_valid rules 2 plain_header t ≡ true
         → (ending_of rules (ended_line small_header ∷ open_line c ∷ []) ≡ Complete)
         × (written rules (ended_line small_header ∷ open_line c ∷ []) ≡ raw (ended_line small_header) ++ (c ++ []))
     kept valid keep =
         two-good rules (ended_line small_header) (header_valid _) (open_line c)
         (second ∙ tree-valid rules 2 plain_header t valid keep)
 
-    left_out : feature plain_header t tree ≡ [] → is_kept_if_valid rules 2 plain_header t ≡ false
+    left_out : feature plain_header t tree extensions ≡ [] → is_kept_if_valid rules 2 plain_header t ≡ false
         → (ending_of rules (ended_line small_header ∷ open_line c ∷ []) ≡ Complete)
         × (written rules (ended_line small_header ∷ open_line c ∷ []) ≡ raw (ended_line small_header) ++ [])
     left_out valid leave =
@@ -93,28 +104,38 @@ module _ (tree exclude : Bool) where
 
 pub row_apart : ApartRow
 row_apart = (
-  kept false false part_apart.line part_apart.tree apart_json (lit≤ tt) (lit≤ tt) apart_text refl part_apart-valid
+  kept false false false part_apart.line part_apart.tree apart_json (lit≤ tt) (lit≤ tt) apart_text refl part_apart-valid
       (holds-everything plain_header part_apart.tree),
-  refused true false part_apart.line part_apart.tree apart_json (lit≤ tt) (lit≤ tt) apart_text refl 78
+  refused true false false part_apart.line part_apart.tree apart_json (lit≤ tt) (lit≤ tt) apart_text refl 78 NotReached
       part_apart-refused,
-  refused true true part_apart.line part_apart.tree apart_json (lit≤ tt) (lit≤ tt) apart_text refl 78
+  refused true true false part_apart.line part_apart.tree apart_json (lit≤ tt) (lit≤ tt) apart_text refl 78 NotReached
       part_apart-refused,
-  refused true false main_part.line main_part.tree main_json (lit≤ tt) (lit≤ tt) main_text refl 98 main_part-refused,
-  refused true true main_part.line main_part.tree main_json (lit≤ tt) (lit≤ tt) main_text refl 98 main_part-refused,
+  refused true false false main_part.line main_part.tree main_json (lit≤ tt) (lit≤ tt) main_text refl 98
+      NotReached main_part-refused,
+  refused true true false main_part.line main_part.tree main_json (lit≤ tt) (lit≤ tt) main_text refl 98
+      NotReached main_part-refused,
 )
 
 pub row_chain : ChainRow
 row_chain = (
-  kept true false chain.line chain.tree chain_json (lit≤ tt) (lit≤ tt) chain_text refl chain-valid
+  kept true false false chain.line chain.tree chain_json (lit≤ tt) (lit≤ tt) chain_text refl chain-valid
       (holds-everything plain_header chain.tree),
-  left_out true true chain.line chain.tree chain_json (lit≤ tt) (lit≤ tt) chain_text refl chain-valid
+  left_out true true false chain.line chain.tree chain_json (lit≤ tt) (lit≤ tt) chain_text refl chain-valid
       (ap not (holds-everything plain_header chain.tree)),
 )
 
 pub row_exclude : ExcludeRow
 row_exclude = (
-  left_out false true small_feature plain_feature.tree feature_json (lit≤ tt) (lit≤ tt) feature_text refl
+  left_out false true false small_feature plain_feature.tree feature_json (lit≤ tt) (lit≤ tt) feature_text refl
       plain_feature-valid (ap not (holds-everything plain_header plain_feature.tree)),
-  left_out false true part_apart.line part_apart.tree apart_json (lit≤ tt) (lit≤ tt) apart_text refl part_apart-valid
-      (ap not (holds-everything plain_header part_apart.tree)),
+  left_out false true false part_apart.line part_apart.tree apart_json (lit≤ tt) (lit≤ tt) apart_text refl
+      part_apart-valid (ap not (holds-everything plain_header part_apart.tree)),
+)
+
+pub row_extension : ExtensionRow
+row_extension = (
+  refused false false false extension.line extension.tree extension_json (lit≤ tt) (lit≤ tt) extension_text refl 62
+      UnknownObjectType extension-refused,
+  kept false false true extension.line extension.tree extension_json (lit≤ tt) (lit≤ tt) extension_text refl
+      extension-valid (holds-everything plain_header extension.tree),
 )

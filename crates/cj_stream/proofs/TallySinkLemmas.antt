@@ -71,7 +71,7 @@ module _ (part : Tree → Tree → List ℕ) (n : ℕ) where
       + how_often n (over_features part is)
   often-some i is = how_often-append n (beside part i.header i.tree) (over_features part is)
 
-types-more : (n : ℕ) → n < 33 → (a b : Tally) (is : List Item) → get_or a.types n 0 ≤ 2 ^ 64 - 1 → Took Tallies a is b
+types-more : (n : ℕ) → n < 34 → (a b : Tally) (is : List Item) → get_or a.types n 0 ≤ 2 ^ 64 - 1 → Took Tallies a is b
     → get_or b.types n 0 ≡ capped (get_or a.types n 0 + how_often n (over_features (λ header t. type_numbers t) is))
 types-more n inside =
     count-more (λ t. get_or t.types n 0) (λ i. how_often n (beside (λ header t. type_numbers t) i.header i.tree))
@@ -171,7 +171,7 @@ no_ranges (suc size) (suc axis) = no_ranges size axis
 tally-new : (t : Tally) (is : List Item) → Took Tallies no_tally is t → IsTallyOf is t
 tally-new t is took = record {
   features = omega (arith, features-more no_tally t is (omega arith) took);
-  types = λ n b. omega (arith, types-more n b no_tally t is (omega (arith, zeros 33 n b)) took, zeros 33 n b);
+  types = λ n b. omega (arith, types-more n b no_tally t is (omega (arith, zeros 34 n b)) took, zeros 34 n b);
   lods = λ n b. omega (
     arith,
     lods-more n (omega (arith, b)) no_tally t is (omega (arith, zeros 6 n (omega (arith, b)))) took,

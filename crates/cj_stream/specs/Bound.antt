@@ -65,7 +65,7 @@ is_readable limits c = is_text limits c && (list_all is_blank_byte c || is_spell
 abbrev pub is_legible : LimitPair → List ℕ → Bool
 is_legible limits s = list_all (is_readable limits) (later_of (contents s))
 
--- What is told of what was held at most of a complete stream. The bytes are exact. Tokens and open containers are, too,
+-- The peaks of a complete stream, as a run reports them. The bytes are exact. Tokens and open containers are, too,
 -- where all later lines are blank or spell a tree; a line that is neither may have added to these before that was seen.
 pub record IsExact (limits : LimitPair) (s : List ℕ) (peaks : Peaks) : Type 0 where
   pub bytes : peaks.bytes ≡ (exact_peaks limits s).bytes

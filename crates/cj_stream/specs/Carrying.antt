@@ -19,7 +19,7 @@ pub record IsFramed (f : FramerState) : Type 0 where
   pub sound : IsSound f.reading
   pub room : HasRoom f.reading.rules.limits f.scanning
 
--- whatever came of a call: the rules stay, no peak falls, and no list is above its limit. A write fault has its cause
+-- However a call ends, the rules stay, no peak falls, and no list is above its limit. A write fault has its cause
 -- in the sink, and want of memory in a growth that failed; and it comes before the header is dealt with, or not at
 -- all
 pub record Carries {S T : Type 0} (law : SinkLaw S) (old : WithSink FramerState S) (answer : Result T End)

@@ -128,8 +128,8 @@ pub record Fed (rules : Rules) (before : List ℕ) (pieces : List (List ℕ)) (o
       outcome.peaks
   pub exact : outcome.ended ≡ Complete → IsExact rules.limits (before ++ joined pieces) outcome.peaks
 
--- pieces that were given after the first lines of a stream, so many, which were those of the bytes before; and how many
--- lines were dealt with in the end
+-- Pieces that were given after the bytes before. These have this number of first lines of a stream. `lines` counts
+-- those that were dealt with in the end.
 pub record GivenAfter : Type 0 where
   pub before : List ℕ
   pub first : ℕ
@@ -139,8 +139,8 @@ pub record GivenAfter : Type 0 where
 abbrev pub given_after : List ℕ → ℕ → InPieces → ℕ → GivenAfter
 given_after before first cut n = record { before = before; first = first; cut = cut; lines = n }
 
--- a sink took what is kept of the pieces that were wholly taken, behind the first lines; no whole line was refused by
--- then; and then it came to an end by the next piece, or after the last
+-- A sink took what is kept of the pieces that were wholly taken, after the first lines. No whole line was refused by
+-- then. The end came by the next piece, or after the last one.
 pub record TookWhole {S : Type 0} (law : SinkLaw S) (later : GivenAfter) (s t : S) (e : End) : Type 0 where
   pub middle : S
   pub good : refusal_in later.cut.rules (lines (whole (later.before ++ taken_of later.cut))) ≡ None

@@ -68,8 +68,8 @@ pub record Counts (rules : Rules) (p : List ℕ) (n features refusals : ℕ) : T
   pub kept : features ≡ length (features_first rules n p)
   pub refused : refusals ≡ length (reported_first rules n p)
 
--- the engine stands for these bytes: what it holds is within their bound, its counts are of their lines, and
--- before an end it has read them all
+-- The engine represents these bytes: what it holds is within their bound, and its counts are of their lines. Before an
+-- end it has read them all.
 pub record StandsFor (e : EngineState) (p : List ℕ) : Type 0 where
   pub held : IsBelow (held_by e) (peaks_of e)
   pub bounded : IsBounded (limits_of e) p (peaks_of e)

@@ -4,7 +4,7 @@ use Rattle.cj_stream.specs.declared.header_reader.Progress.{Progress}
 use Rattle.cj_stream.specs.Meaning.Lines.{newline}
 use Rattle.cj_stream.specs.Lines.{NoLf}
 
--- the bytes up to and with the first LF, where the header was accepted; and else all, of which none is LF
+-- the bytes up to and with the first LF, if the header was accepted; else all bytes, and none is LF
 pub record IsFront (piece : List ℕ) (t : Progress) : Type 0 where
   pub within : t.used ≤ length piece
   pub all : t.accepted ≡ false → (t.used ≡ length piece) × NoLf piece

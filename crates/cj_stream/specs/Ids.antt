@@ -68,7 +68,7 @@ AreRuns keys (n ∷ ns) = (n ≤ length keys) × Ascend (take n keys) × AreRuns
 abbrev pub IsCut : List ℕ → Entry → Type 0
 IsCut bytes entry = (entry.start ≤ entry.end) × IsCharBoundary bytes entry.start × IsCharBoundary bytes entry.end
 
--- ids of these lengths stand one after another, each has its entry, and the entries stand in runs of these lengths
+-- ids of these lengths follow one another, each has its entry, and the entries are in runs of these lengths
 pub record AreIndexed (bytes : List ℕ) (lengths : List ℕ) (entries : List Entry) (runs : List ℕ) : Type 0 where
   pub held : sum lengths ≡ length bytes
   pub within : All (IsCut bytes) entries

@@ -17,7 +17,7 @@ abbrev pub NoneRefused : Rules → List Line → Type 0
 NoneRefused rules ls = (before : List Line) (l : Line) (after : List Line) → ls ≡ before ++ l ∷ after
     → refusal_of rules (length before + 1) (verdict rules before l.content) ≡ None
 
--- the longest prefix of the lines of a stream of which no refusal is an end
+-- the longest prefix of the lines of a stream in which no refusal is an end
 pub record AreGood (rules : Rules) (s : List ℕ) (ls : List Line) : Type 0 where
   pub front : IsFront ls (lines s)
   pub unrefused : NoneRefused rules ls

@@ -34,7 +34,7 @@ reported_after rules n s = drop (length (reported_first rules n s)) (reported ru
 abbrev pub pieces_outcome : LinesOutcome → PiecesOutcome
 pieces_outcome o = record { taken = o.taken; peaks = o.peaks; ended = line_end o.ended }
 
--- pieces of a stream whose first lines, so many, those of the bytes before, were dealt with
+-- pieces of a stream after the bytes before, whose lines were dealt with; `lines` counts these
 pub record LaterPieces : Type 0 where
   pub rules : Rules
   pub before : List ℕ

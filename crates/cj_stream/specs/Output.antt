@@ -19,8 +19,8 @@ output_failures o = o.failures
 abbrev pub flush_answer : {W : Type 0} → Output W → Option (Result (Unit {0}) WriteFault)
 flush_answer o = o.noted
 
--- what is known of a writer: the bytes that it got, if it tells them, how often a write failed, and what the last flush
--- answered, if nothing was written since
+-- what is known of a writer: the bytes that it got, if its contract shows them, how often a write failed, and what the
+-- last flush answered, if nothing was written since
 pub record Channel : Type 0 where
   pub bytes : Option (List ℕ)
   pub failures : ℕ

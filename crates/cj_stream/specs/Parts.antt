@@ -3,7 +3,6 @@
 use Rattle.std.specs.Prelude.{◌≡◌, ℕ, ◌+◌, ◌-◌, ◌<◌, ◌≤◌, List, [], ◌∷◌, ◌++◌, Option, Some, None, ℤ, max, get_or}
 use Rattle.std.specs.Int.{int_min, int_max}
 use Rattle.cj_budget.specs.declared.limits.Peaks.{Peaks}
-use Rattle.cj_geometry.specs.ObjectTypes.{type_count}
 use Rattle.cj_stream.specs.declared.ending.End.{End}
 use Rattle.cj_stream.specs.declared.ending.End.TheVariants.{Complete, Refused, ReadFault, ReadLimit, WriteFault, Memory}
 use Rattle.cj_stream.specs.declared.report_sink.Report.{Report}
@@ -11,7 +10,7 @@ use Rattle.cj_stream.specs.declared.running.Outcome.{Outcome}
 use Rattle.cj_stream.specs.Meaning.Lines.{newline}
 use Rattle.cj_stream.specs.Meaning.Judged.{JudgedLine}
 use Rattle.cj_stream.specs.Lines.{NoLf, whole}
-use Rattle.cj_stream.specs.Tallied.{capped}
+use Rattle.cj_stream.specs.Tallied.{capped, slot_count}
 use Rattle.cj_stream.specs.TallySink.{RangesFront, Tally}
 use Rattle.cj_stream.specs.Meaning.Rules.{Rules}
 use Rattle.cj_stream.specs.Verdict.{ending}
@@ -95,7 +94,7 @@ WidensFront old all new left = (r : Option (ℤ × ℤ)) × RangesFront all r le
 -- the tally of both parts, by that of each: counts add up, ranges become wider, and the transform is that of the first
 pub record JoinsTallies (first second both : Tally) : Type 0 where
   pub features : both.features ≡ capped (first.features + second.features)
-  pub types : (n : ℕ) → n < type_count
+  pub types : (n : ℕ) → n < slot_count
       → get_or both.types n 0 ≡ capped (get_or first.types n 0 + get_or second.types n 0)
   pub lods : (class : ℕ) → class ≤ 5
       → get_or both.lods class 0 ≡ capped (get_or first.lods class 0 + get_or second.lods class 0)

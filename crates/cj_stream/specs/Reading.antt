@@ -227,7 +227,7 @@ pub record LacksMemory (rules : Rules) (q : List ℕ) (n : ℕ) : Type 0 where
   pub first : slice_get (lines q) 0 ≡ Some (ended_line header)
   pub valid : verdict rules [] header ≡ Kept
 
--- where reading stopped: after the lines that LF ended in these bytes, of all bytes, which are so many lines
+-- where reading stopped: after the lines that LF ended in the bytes `done`, of the bytes `all`; `lines` counts them
 pub record StopAt : Type 0 where
   pub rules : Rules
   pub done : List ℕ

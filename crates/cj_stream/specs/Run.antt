@@ -56,8 +56,8 @@ Ends rules r n at_end WriteFault = Unit {0}
 Ends rules r n at_end Memory = Unit {0}
 Ends rules r n at_end cut_short = (refusal_in rules (lines (whole r)) ≡ None) × (n ≡ length (lines (whole r)))
 
--- the account of a run: so many lines were dealt with, so many features kept and lines refused, no more was held, and
--- it ended so; what it held at most is exact where it is complete; `at_end` says that what it read is all there was
+-- The account of a run: its counts of lines, kept features and refused lines, its end, and a bound on what it held. The
+-- peaks are exact if the run is complete. `at_end` says that what it read is all there was.
 pub record Account (run : Run) (at_end : Type 0) : Type 0 where
   pub bounded : IsBounded run.rules.limits run.read run.outcome.peaks
   pub exact : run.outcome.ended ≡ Complete → IsExact run.rules.limits run.read run.outcome.peaks
@@ -92,7 +92,7 @@ Gave reads n ReadLimit = n ≡ reads
 Gave reads n WriteFault = n ≤ reads
 Gave reads n Memory = n ≤ reads
 
--- the bytes r came within so many reads, by this end: each of those that gave bytes gave at least one and at most 8,192
+-- The bytes r came within this number of reads, by this end. Each read that gave bytes gave from 1 to 8,192 of them.
 pub record IsReadWithin (reads : ℕ) (r : List ℕ) (end : End) : Type 0 where
   pub giving : ℕ
   pub gave : Gave reads giving end

@@ -27,7 +27,11 @@ how_often n ns = length (filter (nat_eq n) ns)
 
 -- ---- types of city objects
 
--- the number of a row; their number where there is none
+-- how many counts there are: one for each row of the table of types, and a last one for the types of extensions
+abbrev pub slot_count : ℕ
+slot_count = 34
+
+-- the number of a row; that of the last count where there is none, as for a type of an extension
 abbrev pub row_number : Option ObjectRow → ℕ
 row_number None = type_count
 row_number (Some r) = r.number

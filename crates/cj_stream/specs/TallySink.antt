@@ -7,7 +7,6 @@ use Rattle.cj_spans.specs.Meaning.Tree.{Tree}
 use Rattle.cj_decimal.specs.Meaning.Number.{Number}
 use Rattle.cj_decimal.specs.Word.{IsWordOf}
 use Rattle.cj_feature.specs.Meaning.Transform.{transform_values}
-use Rattle.cj_geometry.specs.ObjectTypes.{type_count}
 use Rattle.cj_stream.specs.declared.ending.End.{End}
 use Rattle.cj_stream.specs.declared.ending.End.TheVariants.{Complete, Refused, WriteFault, Memory}
 use Rattle.cj_stream.specs.Cut.{InPieces, all_of, given_of, taken_of}
@@ -15,10 +14,11 @@ use Rattle.cj_stream.specs.Items.{Item, is_feature}
 use Rattle.cj_stream.specs.Lines.{whole}
 use Rattle.cj_stream.specs.CountSink.{one_more, is_header, how_many}
 use Rattle.cj_stream.specs.Tallied.{IsRange, capped, class_count, how_often, lod_classes, numbers_on, over_features}
-use Rattle.cj_stream.specs.Tallied.{type_numbers}
+use Rattle.cj_stream.specs.Tallied.{slot_count, type_numbers}
 use Rattle.cj_stream.specs.Verdict.{Stream, kept, ending}
 
--- how many features there are; how many city objects of each type, by its number, and how many geometries of each LoD
+-- how many features there are; how many city objects of each type, by its number, with those of extensions at the end,
+-- and how many geometries of each LoD
 -- class; the least and the greatest number of a vertex on each axis; and the numbers of the header's transform
 pub record Tally : Type 0 where
   pub features : ℕ
@@ -32,7 +32,7 @@ pub record Tally : Type 0 where
 abbrev pub no_tally : Tally
 no_tally = record {
   features = 0;
-  types = replicate type_count 0;
+  types = replicate slot_count 0;
   lods = replicate class_count 0;
   ranges = replicate 3 None;
   scale = None;
@@ -85,10 +85,10 @@ pub record TalliesHeader (a : Tally) (t : Tree) (b : Tally) : Type 0 where
   pub scale : Shows (codes "scale") t b.scale
   pub translate : Shows (codes "translate") t b.translate
 
--- a feature beside its header is counted, and the transform stays
+-- a feature is counted, with its header, and the transform stays
 pub record TalliesFeature (a : Tally) (header t : Tree) (b : Tally) : Type 0 where
   pub features : b.features ≡ one_more a.features
-  pub types : RisesBy type_count a.types (type_numbers t) b.types
+  pub types : RisesBy slot_count a.types (type_numbers t) b.types
   pub lods : RisesBy class_count a.lods (lod_classes header t) b.lods
   pub ranges : (axis : ℕ) → axis < 3
       → Widens (get_or a.ranges axis None) (numbers_on axis t) (get_or b.ranges axis None)
@@ -112,7 +112,7 @@ last_shown name is = last_or None (map (λ i. transform_values (chars name) i.tr
 -- the tally of some items; counts stop at the greatest u64
 pub record IsTallyOf (is : List Item) (t : Tally) : Type 0 where
   pub features : t.features ≡ how_many is_feature is
-  pub types : (n : ℕ) → n < type_count → get_or t.types n 0
+  pub types : (n : ℕ) → n < slot_count → get_or t.types n 0
       ≡ capped (how_often n (over_features (λ header f. type_numbers f) is))
   pub lods : (class : ℕ) → class ≤ 5 → get_or t.lods class 0 ≡ capped (how_often class (over_features lod_classes is))
   pub ranges : (axis : ℕ) → axis < 3

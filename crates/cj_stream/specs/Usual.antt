@@ -7,6 +7,6 @@ use Rattle.cj_stream.specs.Meaning.Rules.{OptionSet}
 abbrev pub everything : Criteria
 everything = record { ids = None; types = None; lods = None; box = None }
 
--- the first invalid line is the end, and what satisfies the query is kept
+-- the first invalid line is the end, what satisfies the query is kept, and types of extensions are unknown
 abbrev pub usual_options : OptionSet
-usual_options = record { keep_going = false; all_reached = false; exclude = false }
+usual_options = record { keep_going = false; all_reached = false; exclude = false; extensions = false }

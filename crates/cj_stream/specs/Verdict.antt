@@ -30,11 +30,11 @@ abbrev pub is_blank_line : ℕ → List ℕ → Bool
 is_blank_line number content = nat_lt 1 number && list_all is_blank_byte content
 
 -- the findings of the tree of a line: of a header on the first line, and of a feature beside the header on a later one,
--- of which each city object has to be reached where that is told
+-- of which each city object has to be reached, and may be of an extension, where that is told
 abbrev pub findings : Rules → ℕ → Tree → Tree → List Finding
 findings rules number header t =
     if number == 1 then header_findings (needs_box rules.criteria) t
-    else feature_findings header t rules.options.all_reached
+    else feature_findings header t rules.options.all_reached rules.options.extensions
 
 -- a feature is asked for that satisfies what is asked, or, where such are left out, one that does not
 abbrev pub is_asked : Rules → Tree → Tree → Bool
@@ -205,7 +205,7 @@ pub record Stream : Type 0 where
 abbrev pub stream_of : Rules → List ℕ → Stream
 stream_of rules s = record { rules = rules; bytes = s }
 
--- the first lines of them, so many
+-- this number of first lines of a stream
 pub record UpTo : Type 0 where
   pub rules : Rules
   pub bytes : List ℕ

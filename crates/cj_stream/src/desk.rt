@@ -246,7 +246,12 @@ impl<'q> Desk<'q> {
         }
         let header = self.header(first);
         let doc = Doc::of(content, self.line_tokens.as_slice());
-        let feature = match check_feature(doc, &header, self.options.asks_for_trees()) {
+        let feature = match check_feature(
+            doc,
+            &header,
+            self.options.asks_for_trees(),
+            self.options.knows_extensions(),
+        ) {
             Ok(feature) => feature,
             Err(finding) => return Ok(Dealt::Refused(finding)),
         };

@@ -91,7 +91,9 @@ pub use query::{Query, QueryFault};
 pub use report_sink::{CountReports, NoReports, Report, ReportSink};
 pub use running::{Outcome, run, run_within};
 pub use sink::{CountSink, IgnoreSink, LineSink};
-pub use tally::{LOD_CLASSES, TallySink, classes_are_counted, count_lods, widen_all};
+pub use tally::{
+    LOD_CLASSES, TYPE_SLOTS, TallySink, classes_are_counted, count_lods, slot_of, widen_all,
+};
 
 /// The version of the engine, the program and the library for C.
 pub const VERSION: &str = "0.2.0";

@@ -13,6 +13,7 @@ pub struct Options {
     keep_going: bool,
     tree: bool,
     exclude: bool,
+    extensions: bool,
 }
 
 impl Model for Options {
@@ -20,9 +21,19 @@ impl Model for Options {
 
     ghost Value = { OptionSet };
 
-    ghost view = { λ o. record { keep_going = o.keep_going; all_reached = o.tree; exclude = o.exclude } };
+    ghost view = { λ o. record {
+      keep_going = o.keep_going;
+      all_reached = o.tree;
+      exclude = o.exclude;
+      extensions = o.extensions;
+    } };
 
-    ghost inverse = { λ o. record { keep_going = o.keep_going; tree = o.all_reached; exclude = o.exclude } };
+    ghost inverse = { λ o. record {
+      keep_going = o.keep_going;
+      tree = o.all_reached;
+      exclude = o.exclude;
+      extensions = o.extensions;
+    } };
 }
 
 impl Options {
@@ -34,6 +45,7 @@ impl Options {
             keep_going: false,
             tree: false,
             exclude: false,
+            extensions: false,
         }
     }
 
@@ -67,6 +79,17 @@ impl Options {
         }
     }
 
+    /// Sets whether types of extensions are known: those that begin with `+`. They have no level,
+    /// so such a city object needs no parent.
+    pub fn extensions(self, on: bool) -> Options
+        ensures { result ≡ record self { extensions = on } }
+    {
+        Options {
+            extensions: on,
+            ..self
+        }
+    }
+
     /// Returns whether reading goes on after an invalid line.
     pub fn keeps_going(self) -> bool
         ensures { result ≡ self.keep_going }
@@ -86,5 +109,12 @@ impl Options {
         ensures { result ≡ self.exclude }
     {
         self.exclude
+    }
+
+    /// Returns whether types of extensions are known.
+    pub fn knows_extensions(self) -> bool
+        ensures { result ≡ self.extensions }
+    {
+        self.extensions
     }
 }

@@ -3,7 +3,7 @@
 ghost use Rattle.cj_stream.specs.BoundRows.{EmptyRow as BoundOfNothing, HeaderRow as BoundOfHeader};
 ghost use Rattle.cj_stream.specs.BoundRows.{CutRow as BoundOfLongLine, EdgeRow, ExactRow};
 ghost use Rattle.cj_stream.specs.BoxRows.{BoxRow, FieldRows, RangeRows, EmptyRow as BoxOfNothing, OrderRows};
-ghost use Rattle.cj_stream.specs.ChoiceRows.{ApartRow, ChainRow, ExcludeRow};
+ghost use Rattle.cj_stream.specs.ChoiceRows.{ApartRow, ChainRow, ExcludeRow, ExtensionRow};
 ghost use Rattle.cj_stream.specs.CountRows.{RiseRows, ClassRows, LodRows as LodCounts};
 ghost use Rattle.cj_stream.specs.EndRows.{UnhinderedRow, UnreadRow};
 ghost use Rattle.cj_stream.specs.GoingRows.{BetweenRow, FirstRow as GoingFirst, LastRow};
@@ -34,12 +34,13 @@ pub fn going_rows_compute()
     ensures last { LastRow }
 {}
 
-/// How a stream ends, and what is written, if each city object must be reached, or if selected
-/// features are left out.
+/// How a stream ends, and what is written, if each city object must be reached, if selected
+/// features are left out, or if types of extensions are known.
 pub fn choice_rows_compute()
     ensures apart { ApartRow }
     ensures chain { ChainRow }
     ensures exclude { ExcludeRow }
+    ensures extension { ExtensionRow }
 {}
 
 /// The bound on what is held, and the exact peaks.

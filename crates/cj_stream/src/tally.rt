@@ -1,10 +1,10 @@
 //! A sink that tallies.
 ghost use Rattle.std.specs.Prelude.{◌≡◌, ◌<◌, ◌≤◌, ℕ, None, OnOk, OnErr, get_or};
-ghost use Rattle.cj_geometry.specs.ObjectTypes.{row_at};
+ghost use Rattle.cj_geometry.specs.ObjectTypes.{row_at, type_count};
 ghost use Rattle.cj_stream.specs.Item.{header_item, feature_item};
 ghost use Rattle.cj_stream.specs.Parts.{JoinsTallies};
 ghost use Rattle.cj_stream.specs.Sink.{HasRisen, never_fails};
-ghost use Rattle.cj_stream.specs.Tallied.{class_count};
+ghost use Rattle.cj_stream.specs.Tallied.{class_count, slot_count};
 ghost use Rattle.cj_stream.specs.TallySink.{no_tally};
 
 mod adding;
@@ -13,7 +13,7 @@ mod joining;
 use crate::output::WriteFault;
 use crate::sink::LineSink;
 use adding::count_objects;
-pub use adding::{count_lods, widen_all};
+pub use adding::{count_lods, slot_of, widen_all};
 use cj_decimal::Decimal;
 use cj_feature::{Feature, Header};
 use cj_geometry::ObjectType;
@@ -23,9 +23,14 @@ use std::marker::Model;
 /// The number of LoD classes: 0 to 4, and other.
 pub const LOD_CLASSES: usize = 6;
 
-/// The number of LoD classes is the same in promises and in the program.
+/// The number of counts of types: one for each type of the table, by its number, and the last for
+/// those of extensions.
+pub const TYPE_SLOTS: usize = 34;
+
+/// The numbers of counts are the same in promises and in the program.
 pub fn classes_are_counted()
-    ensures { LOD_CLASSES ≡ class_count }
+    ensures lods { LOD_CLASSES ≡ class_count }
+    ensures types { TYPE_SLOTS ≡ slot_count }
 {}
 
 /// Tallies the kept features of a stream. It counts features, city objects by type, and geometries
@@ -34,7 +39,7 @@ pub fn classes_are_counted()
 #[derive(Clone, Copy, Debug)]
 pub struct TallySink {
     features: u64,
-    types: [u64; ObjectType::COUNT],
+    types: [u64; TYPE_SLOTS],
     lods: [u64; LOD_CLASSES],
     ranges: [Option<(i64, i64)>; 3],
     scale: Option<[Decimal; 3]>,
@@ -72,7 +77,7 @@ impl TallySink {
     {
         TallySink {
             features: 0,
-            types: [0; ObjectType::COUNT],
+            types: [0; TYPE_SLOTS],
             lods: [0; LOD_CLASSES],
             ranges: [None; 3],
             scale: None,
@@ -84,7 +89,7 @@ impl TallySink {
     /// elsewhere can be continued.
     pub fn of_counts(
         features: u64,
-        types: [u64; ObjectType::COUNT],
+        types: [u64; TYPE_SLOTS],
         lods: [u64; LOD_CLASSES],
         ranges: [Option<(i64, i64)>; 3],
     ) -> TallySink
@@ -121,8 +126,16 @@ impl TallySink {
         self.types[object_type.number() as usize]
     }
 
-    /// Returns the number of city objects of each type, by the type's number.
-    pub fn types(&self) -> [u64; ObjectType::COUNT]
+    /// Returns the number of city objects of types of extensions.
+    pub fn of_extensions(&self) -> u64
+        ensures { result ≡ get_or self.now.types type_count 0 }
+    {
+        self.types[ObjectType::COUNT]
+    }
+
+    /// Returns the number of city objects of each type, by the type's number. The last is that of
+    /// types of extensions.
+    pub fn types(&self) -> [u64; TYPE_SLOTS]
         ensures { result ≡ self.now.types }
     {
         self.types

@@ -11,7 +11,7 @@ ghost use Rattle.cityseq_c.specs.Features.{HasSpan, IsRecordOf, attributes_in, b
 ghost use Rattle.cityseq_c.specs.Features.{main_object as main_object_in};
 
 use crate::tally::{Range, range_of};
-use cj_stream::{Feature, LOD_CLASSES, Node, ObjectType, count_lods, widen_all};
+use cj_stream::{Feature, LOD_CLASSES, Node, TYPE_SLOTS, count_lods, slot_of, widen_all};
 
 /// A kept feature, as C has it.
 #[repr(C)]
@@ -36,7 +36,8 @@ pub struct FeatureRecord {
     pub objects: u64,
     /// The number of their geometries.
     pub geometries: u64,
-    /// Bit n is set if a city object has the type of number n.
+    /// Bit n is set if a city object has the type of number n. The last one is for types of
+    /// extensions.
     pub types: u64,
     /// Bit n is set if a geometry has an LoD of class n: 0 to 4, and 5 for any other.
     pub lods: u64,
@@ -45,16 +46,17 @@ pub struct FeatureRecord {
 }
 
 /// Returns the number of city objects of a feature, and the number whose bit n is set if one of
-/// them has the type of number n. The count stops at 2^64 - 1.
+/// them has the type of number n, of which the last is that of types of extensions. The count stops
+/// at 2^64 - 1.
 fn tally_objects(feature: &Feature) -> (u64, u64)
     ensures count { result.0 ≡ capped (length (objects_of (feature_tree feature.now))) }
-    ensures types { result.1 ≡ bits (is_among (type_numbers (feature_tree feature.now))) ObjectType.COUNT }
+    ensures types { result.1 ≡ bits (is_among (type_numbers (feature_tree feature.now))) TYPE_SLOTS }
 {
     let mut count = 0u64;
     let mut types = 0u64;
     for object in feature.objects() {
         count = count.saturating_add(1);
-        types |= 1 << object.object_type.number();
+        types |= 1 << slot_of(object.object_type);
     }
     (count, types)
 }

@@ -1,5 +1,5 @@
 -- The findings of a feature, rule by rule (RULES, features).
-use Rattle.std.specs.Prelude.{ℕ, List, [], ◌++◌, Bool, cond, Option, Some, None, codes}
+use Rattle.std.specs.Prelude.{ℕ, List, [], ◌++◌, Bool, ◌&&◌, cond, Option, Some, None, codes}
 use Rattle.std.specs.List.{flat_map}
 use Rattle.std.specs.Str.{chars}
 use Rattle.cj_spans.specs.declared.reason.Reason.TheVariants.{WrongType, NotThree, UnknownObjectType, IdNotFound}
@@ -10,7 +10,7 @@ use Rattle.cj_spans.specs.Meaning.Kinds.{is_text, is_array, is_object}
 use Rattle.cj_spans.specs.Meaning.Parts.{kind_of, items_of, members_of, member_of, member_if}
 use Rattle.cj_geometry.specs.Meaning.Rule.{one, of_kind, nothing, needs, may_have, distinct, of_length}
 use Rattle.cj_geometry.specs.Meaning.Numbers.{whole_number}
-use Rattle.cj_geometry.specs.Meaning.ObjectTypes.{ObjectRow, row_of}
+use Rattle.cj_geometry.specs.Meaning.ObjectTypes.{ObjectRow, row_of, is_of_extension}
 use Rattle.cj_geometry.specs.Meaning.Geometry.{TemplateSource, listed, empty, geometry, count_of}
 use Rattle.cj_feature.specs.Meaning.Header.{has_member_named}
 use Rattle.cj_feature.specs.Meaning.Links.{is_known, at_second_level, links}
@@ -39,14 +39,14 @@ id_rule u = needs (chars (codes "id")) (of_kind is_text (id_in (member_of (chars
 
 -- ---- city objects
 
--- the type of a city object has a row (RULES, features, 4)
-abbrev pub known_type : Option ObjectRow → Tree → List Finding
-known_type None t = one UnknownObjectType t
-known_type (Some r) t = []
+-- the type of a city object has a row, or is of an extension, if such types are known (RULES, features, 4)
+abbrev pub known_type : Bool → Option ObjectRow → Tree → List Finding
+known_type extensions None t = cond (extensions && is_of_extension t) [] (one UnknownObjectType t)
+known_type extensions (Some r) t = []
 
 -- a text that is the name of a type
-abbrev pub object_type : Tree → List Finding
-object_type t = of_kind is_text (λ u. known_type (row_of u) u) t
+abbrev pub object_type : Bool → Tree → List Finding
+object_type extensions t = of_kind is_text (λ u. known_type extensions (row_of u) u) t
 
 -- an array of geometries (RULES, features, 4)
 abbrev pub geometries : Option ℕ → TemplateSource → Tree → List Finding
@@ -60,21 +60,23 @@ texts t = of_kind is_array (λ u. flat_map (of_kind is_text nothing) (items_of u
 abbrev pub second_level : Tree → List Finding
 second_level o = cond (at_second_level o) (needs (chars (codes "parents")) (of_kind is_array nothing) o) []
 
--- the rules on a city object, with so many vertices if that is known, and the header's templates (RULES, features, 4)
-abbrev pub city_object : Option ℕ → TemplateSource → Tree → List Finding
-city_object vertices templates t =
+-- the rules on a city object, with or without types of extensions, with so many vertices if that is known, and the
+-- header's templates (RULES, features, 4)
+abbrev pub city_object : Bool → Option ℕ → TemplateSource → Tree → List Finding
+city_object extensions vertices templates t =
     of_kind is_object (λ o.
     distinct o
-    ++ needs (chars (codes "type")) object_type o
+    ++ needs (chars (codes "type")) (object_type extensions) o
     ++ may_have (chars (codes "geometry")) (geometries vertices templates) o
     ++ may_have (chars (codes "children")) texts o
     ++ may_have (chars (codes "parents")) texts o
     ++ second_level o) t
 
 -- an object of city objects (RULES, features, 4)
-abbrev pub city_objects : Option ℕ → TemplateSource → Tree → List Finding
-city_objects vertices templates t =
-    of_kind is_object (λ u. distinct u ++ flat_map (λ m. city_object vertices templates m.1) (members_of u)) t
+abbrev pub city_objects : Bool → Option ℕ → TemplateSource → Tree → List Finding
+city_objects extensions vertices templates t =
+    of_kind is_object
+    (λ u. distinct u ++ flat_map (λ m. city_object extensions vertices templates m.1) (members_of u)) t
 
 -- ---- vertices
 
@@ -104,19 +106,20 @@ reach_if all_reached u = cond all_reached (reach_rule (member_of (chars (codes "
 -- ---- the feature
 
 -- the rules on the members, in the order of their numbers (RULES, features, 1 to 7). Rule 7 applies if all city objects
--- must be reached
-abbrev pub feature_rules : TemplateSource → Bool → Tree → List Finding
-feature_rules templates all_reached u =
+-- must be reached. Types of extensions are known, or not.
+abbrev pub feature_rules : TemplateSource → Bool → Bool → Tree → List Finding
+feature_rules templates all_reached extensions u =
     distinct u
     ++ has_member_named (chars (codes "type")) WrongType (chars (codes "CityJSONFeature")) u
     ++ id_rule u
     ++ needs (chars (codes "CityObjects"))
-    (city_objects (count_of (member_of (chars (codes "vertices")) u)) templates) u
+    (city_objects extensions (count_of (member_of (chars (codes "vertices")) u)) templates) u
     ++ needs (chars (codes "vertices")) vertex_list u
     ++ links (member_of (chars (codes "CityObjects")) u)
     ++ reach_if all_reached u
 
--- the findings of a feature, with the templates of the header of this tree, and with or without rule 7 (RULES,
--- features, 1)
-abbrev pub feature : Tree → Tree → Bool → List Finding
-feature header t all_reached = of_kind is_object (feature_rules (templates_of header) all_reached) t
+-- the findings of a feature, with the templates of the header of this tree, with or without rule 7, and with or
+-- without types of extensions (RULES, features, 1)
+abbrev pub feature : Tree → Tree → Bool → Bool → List Finding
+feature header t all_reached extensions =
+    of_kind is_object (feature_rules (templates_of header) all_reached extensions) t

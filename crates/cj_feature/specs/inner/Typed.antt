@@ -1,16 +1,7 @@
--- What a valid feature's city objects and vertices have: a type that is known, and three whole numbers.
+-- What a valid feature's vertices have: three whole numbers.
 use Rattle.std.specs.Prelude.{List, [], ◌∷◌, Bool, true, false, Option, Some, None, ℤ}
 use Rattle.cj_spans.specs.Meaning.Tree.{Tree}
-use Rattle.cj_geometry.specs.Meaning.ObjectTypes.{ObjectRow}
-use Rattle.cj_feature.specs.Meaning.CityObject.{type_row, vertex_of}
-
-abbrev pub is_row : Option ObjectRow → Bool
-is_row None = false
-is_row (Some r) = true
-
--- a name stands before a city object whose type is known
-abbrev pub is_typed : Tree × Tree → Bool
-is_typed m = is_row (type_row m.1)
+use Rattle.cj_feature.specs.Meaning.CityObject.{vertex_of}
 
 -- they are one, two and three
 abbrev pub are_one : List (Option ℤ) → Bool

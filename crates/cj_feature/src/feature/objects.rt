@@ -17,8 +17,16 @@ use cj_geometry::rule::{
     add, check_array, check_names, check_names_unless, check_object, check_text, check_there,
     needed,
 };
-use cj_geometry::{ObjectType, Templates, check_geometry};
+use cj_geometry::{ObjectType, Templates, check_geometry, is_of_extension};
 use cj_spans::{FourMembers, Kind, Least, Node, Reason};
+
+/// What city objects are judged beside: the templates of the header, and whether types of
+/// extensions are known.
+#[derive(Clone, Copy)]
+pub struct Beside<'a> {
+    pub templates: Templates<'a>,
+    pub extensions: bool,
+}
 
 /// Returns whether the type, if there is one, is of the second level.
 fn is_second_level(object_type: Option<ObjectType>) -> bool
@@ -30,15 +38,16 @@ fn is_second_level(object_type: Option<ObjectType>) -> bool
     }
 }
 
-/// Checks that the value is the name of a type. Returns whether it is of the second level.
-fn check_type(node: Node, found: &mut Least) -> bool
+/// Checks that the value is the name of a type. Returns whether it is of the second level, which no
+/// type of an extension is.
+fn check_type(node: Node, extensions: bool, found: &mut Least) -> bool
     ensures second { result ≡ is_second_level_of (tree node.entry) }
-    ensures found { found.new ≡ least found.old (object_type (tree node.entry)) }
+    ensures found { found.new ≡ least found.old (object_type extensions (tree node.entry)) }
 {
     let object_type = ObjectType::of(node);
     match node.kind() {
         Kind::Text => {
-            if object_type.is_none() {
+            if object_type.is_none() && !(extensions && is_of_extension(node)) {
                 add(node, Reason::UnknownObjectType, found);
             }
         }
@@ -49,14 +58,15 @@ fn check_type(node: Node, found: &mut Least) -> bool
 
 /// Checks that the city object has a type, which the caller has looked up. Returns whether it is of
 /// the second level, so that the type is read once.
-fn check_type_there(object: Node, member: Option<Node>, found: &mut Least) -> bool
+fn check_type_there(object: Node, member: Option<Node>, extensions: bool, found: &mut Least) -> bool
     requires { option_map tree member ≡ member_of (chars (codes "type")) (tree object) }
     ensures second { result ≡ at_second_level (tree object.entry) }
-    ensures found { found.new ≡ least found.old (needs (chars (codes "type")) object_type (tree object.entry)) }
+    ensures found { found.new
+        ≡ least found.old (needs (chars (codes "type")) (object_type extensions) (tree object.entry)) }
 {
     check_there(object, member, found);
     match member {
-        Some(value) => check_type(value, found),
+        Some(value) => check_type(value, extensions, found),
         None => false,
     }
 }
@@ -133,15 +143,12 @@ fn check_second_level(object: Node, second: bool, found: &mut Least)
 
 /// Checks that the value is a city object. `vertices` is the number of vertices, if it is known.
 /// Returns whether it may have links.
-fn check_city_object(
-    node: Node,
-    vertices: Option<u64>,
-    templates: Templates,
-    found: &mut Least,
-) -> bool
+fn check_city_object(node: Node, vertices: Option<u64>, beside: Beside, found: &mut Least) -> bool
     ensures unlinked { result ≡ false → (all : List (Tree × Tree)) → (name : Tree)
         → object_links all (name, tree node.entry) ≡ [] }
-    ensures found { found.new ≡ least found.old (city_object vertices (given templates.entry) (tree node.entry)) }
+    ensures found { found.new
+        ≡ least found.old
+        (city_object beside.entry.extensions vertices (given beside.entry.templates) (tree node.entry)) }
 {
     if check_object(node, found) {
         let FourMembers {
@@ -152,8 +159,8 @@ fn check_city_object(
             apart,
         } = node.get_four("type", "geometry", "children", "parents");
         check_names_unless(apart, node, found);
-        let second = check_type_there(node, node.at_if(kind), found);
-        check_geometries_if(node.at_if(geometry), vertices, templates, found);
+        let second = check_type_there(node, node.at_if(kind), beside.extensions, found);
+        check_geometries_if(node.at_if(geometry), vertices, beside.templates, found);
         check_texts_if(node.at_if(children), found);
         check_texts_if(node.at_if(parents), found);
         check_second_level(node, second, found);
@@ -164,20 +171,17 @@ fn check_city_object(
 }
 
 /// Checks that the value is an object of city objects. Returns whether they may have links.
-fn check_city_objects(
-    node: Node,
-    vertices: Option<u64>,
-    templates: Templates,
-    found: &mut Least,
-) -> bool
+fn check_city_objects(node: Node, vertices: Option<u64>, beside: Beside, found: &mut Least) -> bool
     ensures unlinked { result ≡ false → links (Some (tree node.entry)) ≡ [] }
-    ensures found { found.new ≡ least found.old (city_objects vertices (given templates.entry) (tree node.entry)) }
+    ensures found { found.new
+        ≡ least found.old
+        (city_objects beside.entry.extensions vertices (given beside.entry.templates) (tree node.entry)) }
 {
     if check_object(node, found) {
         check_names(node, found);
         let mut linked = false;
         for (_, object) in node.members() {
-            linked |= check_city_object(object, vertices, templates, found);
+            linked |= check_city_object(object, vertices, beside, found);
         }
         linked
     } else {
@@ -190,18 +194,19 @@ pub fn check_city_objects_member(
     object: Node,
     objects: Option<Node>,
     vertices: Option<u64>,
-    templates: Templates,
+    beside: Beside,
     found: &mut Least,
 ) -> bool
     requires { option_map tree objects ≡ member_of (chars (codes "CityObjects")) (tree object) }
     ensures unlinked { result ≡ false → links (option_map tree objects.entry) ≡ [] }
     ensures found { found.new
         ≡ least found.old
-        (needs (chars (codes "CityObjects")) (city_objects vertices (given templates.entry)) (tree object.entry)) }
+        (needs (chars (codes "CityObjects"))
+        (city_objects beside.entry.extensions vertices (given beside.entry.templates)) (tree object.entry)) }
 {
     check_there(object, objects, found);
     match objects {
-        Some(value) => check_city_objects(value, vertices, templates, found),
+        Some(value) => check_city_objects(value, vertices, beside, found),
         None => false,
     }
 }

@@ -22,11 +22,10 @@ ghost use Rattle.cj_feature.specs.View.{feature_tree, feature_line, feature_head
 use crate::feature::Feature;
 use crate::feature::ids::check_id_member;
 use crate::feature::links::check_links;
-use crate::feature::objects::check_city_objects_member;
+use crate::feature::objects::{Beside, check_city_objects_member};
 use crate::feature::search::reached::check_reached;
 use crate::header::Header;
 use crate::member::check_name_there;
-use cj_geometry::Templates;
 use cj_geometry::rule::{
     add, check_array, check_names_unless, check_object, check_there, check_whole, count_wholes,
     is_short_triple,
@@ -139,20 +138,16 @@ fn members_of(node: Node) -> Members
     }
 }
 
-/// Checks that the value is a feature, with these members and templates. If required, it checks
+/// Checks that the value is a feature with these members, beside templates. If required, it checks
 /// that the city objects are connected. Vertices come before the city objects, which need their
 /// number.
-fn check_root(
-    node: Node,
-    members: Members,
-    templates: Templates,
-    connected: bool,
-    found: &mut Least,
-)
+fn check_root(node: Node, members: Members, beside: Beside, connected: bool, found: &mut Least)
     requires members { AreMembers node members }
     requires marks { IsTrue connected → AreMarks (tree node) (line_of node) (tokens_in (source_of node)) }
     ensures { found.new
-        ≡ least found.old (of_kind is_object (feature_rules (given templates.entry) connected) (tree node.entry)) }
+        ≡ least found.old
+        (of_kind is_object (feature_rules (given beside.entry.templates) connected beside.entry.extensions)
+        (tree node.entry)) }
 {
     if check_object(node, found) {
         let Members {
@@ -167,7 +162,7 @@ fn check_root(
         check_name_there(node, kind, "CityJSONFeature", Reason::WrongType, found);
         check_id_member(node, node.at_if(id), node.at_if(objects), found);
         let count = check_vertices_member(node, node.at_if(vertices), found);
-        let linked = check_city_objects_member(node, node.at_if(objects), count, templates, found);
+        let linked = check_city_objects_member(node, node.at_if(objects), count, beside, found);
         check_links_if(linked, node.at_if(objects), found);
         check_reached(connected, node, node.at_if(objects), found);
     }
@@ -175,7 +170,8 @@ fn check_root(
 
 /// Judges a line as a feature, given the header of its stream. The rules are in CityJSON 2.0,
 /// sections 2 and 8, and on the CityJSONSeq page of cityjson.org. With `tree`, each city object
-/// must also be reached from the feature's id, as [`crate::mark_reached`] has marked them.
+/// must also be reached from the feature's id, as [`crate::mark_reached`] has marked them. With
+/// `extensions`, types that begin with `+` are known.
 ///
 /// # Errors
 ///
@@ -184,11 +180,12 @@ pub fn check_feature<'a>(
     doc: Doc<'a>,
     header: &'a Header<'a>,
     tree: bool,
+    extensions: bool,
 ) -> Result<Feature<'a>, Finding>
     requires { IsTrue tree
         → AreMarks (document doc) (document_line doc) (tokens_in (document_source doc)) }
-    ensures verdict { MatchResult result (λ f. feature (header_tree header.now) (document doc.entry) tree ≡ [])
-        (λ f. IsLeast (feature (header_tree header.now) (document doc.entry) tree) (Some f)) }
+    ensures verdict { let findings = feature (header_tree header.now) (document doc.entry) tree extensions in
+        MatchResult result (λ f. findings ≡ []) (λ f. IsLeast findings (Some f)) }
     ensures tree { IfOk result (λ f. feature_tree f ≡ document doc.entry) }
     ensures line { IfOk result (λ f. feature_line f ≡ document_line doc.entry) }
     ensures header { IfOk result (λ f. feature_header f ≡ header_tree header.now) }
@@ -197,8 +194,12 @@ pub fn check_feature<'a>(
     let root = doc.root();
     let members = members_of(root);
     let templates = header.templates();
+    let beside = Beside {
+        templates,
+        extensions,
+    };
     let mut found = Least::new();
-    check_root(root, members, templates, tree, &mut found);
+    check_root(root, members, beside, tree, &mut found);
     match found.get() {
         Some(finding) => Err(finding),
         None => {

@@ -146,3 +146,56 @@ fn features_rule_by_rule(rt: HostRuntime) -> Result<(), Fail> {
     all_meet(&rt, rt.alloc(), Judged::Feature(HEADER), &FEATURES)?;
     Ok(())
 }
+
+const EXTENDED: [Table; 3] = [
+    Table {
+        name: "types with those of extensions",
+        pattern: r#"{"type":"CityJSONFeature","id":"b","CityObjects":{"b":{"type":_}},"vertices":[]}"#,
+        rows: r#"
+        a type of the table | "Road" | none
+        a type of an extension | "+Shed" | none
+        one that is named as a type of the table | "+Road" | none
+        its sign by an escape | "\u002BShed" | none
+        nothing but the sign | "+" | none
+        the sign at the end | ^"Shed+" | 19 unknown object type
+        a space before the sign | ^" +Shed" | 19 unknown object type
+        a sign that is spelled out | ^"\\u002BShed" | 19 unknown object type
+        an unknown type | ^"Shed" | 19 unknown object type
+        the empty text | ^"" | 19 unknown object type
+        a number | ^3 | 12 wrong kind
+        an array | ^["+Shed"] | 12 wrong kind
+        "#,
+    },
+    Table {
+        name: "members of a city object of an extension",
+        pattern: r#"{"type":"CityJSONFeature","id":"b","CityObjects":{"b":{"type":"+Shed",_}},"vertices":[]}"#,
+        rows: r#"
+        no parents | "attributes":{} | none
+        a parent that is not in the feature | "parents":["q"] | none
+        parents of which there are none | "parents":[] | none
+        null for parents | "parents":^null | 12 wrong kind
+        a child that is not in the feature | "children":[^"q"] | 21 child not found
+        itself as a child that does not list it | "children":[^"b"] | 22 link not mutual
+        itself as a parent that does not list it | "parents":[^"b"] | 22 link not mutual
+        a geometry that is a number | "geometry":[^3] | 12 wrong kind
+        doubled names | ^"type":"+Shed" | 11 duplicate name
+        "#,
+    },
+    Table {
+        name: "city objects beside one of an extension",
+        pattern: r#"{"type":"CityJSONFeature","id":"b","CityObjects":{"b":{"type":"+Shed","children":["p"]},"p":_},"vertices":[]}"#,
+        rows: r#"
+        a part of it | {"type":"BuildingPart","parents":["b"]} | none
+        a part that does not list it | {"type":"BuildingPart","parents":["q"]} | 82 22 link not mutual
+        a part without parents | {"type":"BuildingPart"} | 82 22 link not mutual
+        one of an extension | {"type":"+Part","parents":["b"]} | none
+        one of an extension that does not list it | {"type":"+Part"} | 82 22 link not mutual
+        "#,
+    },
+];
+
+#[test]
+fn features_with_types_of_extensions(rt: HostRuntime) -> Result<(), Fail> {
+    all_meet(&rt, rt.alloc(), Judged::Extended, &EXTENDED)?;
+    Ok(())
+}

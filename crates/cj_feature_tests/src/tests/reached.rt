@@ -16,7 +16,7 @@ pub fn tree_finding(rt: &impl Abort, alloc: Global, line: &[u8]) -> Option<Findi
     let mut tokens = tokens_of(rt, alloc, line);
     mark_reached(line, &mut tokens);
     match check_header(Doc::of(HEADER.as_bytes(), header_tokens.as_slice()), false) {
-        Ok(header) => match check_feature(Doc::of(line, tokens.as_slice()), &header, true) {
+        Ok(header) => match check_feature(Doc::of(line, tokens.as_slice()), &header, true, false) {
             Ok(_) => None,
             Err(finding) => Some(finding),
         },

@@ -7,7 +7,7 @@ use super::templates::TEMPLATES;
 use super::{HEADER, is_text, tokens_of};
 use cj_decimal::{Decimal, Fixed18};
 use cj_feature::{Feature, Header, check_feature, check_header};
-use cj_geometry::lod_of;
+use cj_geometry::{ObjectType, lod_of};
 use cj_spans::Doc;
 use std::alloc::{AllocError, Global};
 use std::process::Abort;
@@ -142,6 +142,14 @@ fn a_header_for_a_box_maps_vertices(rt: HostRuntime) -> Result<(), Fail> {
     Ok(())
 }
 
+/// Returns the name of a type, or `+` for one of an extension.
+fn name_of(object_type: Option<ObjectType>) -> &'static str {
+    match object_type {
+        Some(object_type) => object_type.name(),
+        None => "+",
+    }
+}
+
 /// Returns the bytes of id and object, and the type, of each city object.
 fn objects_text(alloc: Global, feature: &Feature) -> Result<String, AllocError> {
     let mut text = String::new(alloc);
@@ -149,7 +157,7 @@ fn objects_text(alloc: Global, feature: &Feature) -> Result<String, AllocError> 
         let one = format!(in alloc;
             " {} {} {}",
             object.id.start(),
-            object.object_type.name(),
+            name_of(object.object_type),
             object.node.start()
         )?;
         text.push_str(&one)?;
@@ -218,7 +226,7 @@ fn line_text(
     let header_tokens = tokens_of(rt, alloc, header_line);
     let tokens = tokens_of(rt, alloc, line);
     match check_header(Doc::of(header_line, header_tokens.as_slice()), false) {
-        Ok(header) => match check_feature(Doc::of(line, tokens.as_slice()), &header, false) {
+        Ok(header) => match check_feature(Doc::of(line, tokens.as_slice()), &header, false, true) {
             Ok(feature) => feature_text(alloc, &feature),
             Err(_) => panic!(rt; "no feature"),
         },
@@ -243,6 +251,17 @@ fn a_building_shows_its_parts(rt: HostRuntime) -> Result<(), Fail> {
     let want =
         "id 31, objects 51 Building 56, geometries 87 116, vertices 0,0,0 1000,0,0 1000,1000,0 0,1000,0, x 0 1000 1000 0, y 0 0 1000 1000, z 0 0 0 0, 210 bytes";
     shows(&rt, rt.alloc(), HEADER, BUILDING, want)?;
+    Ok(())
+}
+
+/// A city object of an extension, and one of the table.
+const SHED: &str =
+    r#"{"type":"CityJSONFeature","id":"s","CityObjects":{"s":{"type":"+Shed"},"r":{"type":"Road"}},"vertices":[]}"#;
+
+#[test]
+fn a_type_of_an_extension_is_none_of_the_table(rt: HostRuntime) -> Result<(), Fail> {
+    let want = "id 31, objects 50 + 54 71 Road 75, geometries, vertices, x, y, z, 106 bytes";
+    shows(&rt, rt.alloc(), HEADER, SHED, want)?;
     Ok(())
 }
 

@@ -1,9 +1,10 @@
 -- The types of city objects (CityJSON 2.0, section 2) with their levels (own: these names and levels are the profile).
-use Rattle.std.specs.Prelude.{ℕ, List, [], ◌∷◌, Bool, true, false, codes, cond, Option, Some, None}
+use Rattle.std.specs.Prelude.{ℕ, List, [], ◌∷◌, Bool, true, false, codes, cond, nat_eq, Option, Some, None}
 use Rattle.std.specs.Option.{option_map_or}
 use Rattle.std.specs.Str.{chars}
+use Rattle.cj_spans.specs.Meaning.Signs.{plus_sign}
 use Rattle.cj_spans.specs.Meaning.Tree.{Tree}
-use Rattle.cj_spans.specs.Meaning.Parts.{has_text}
+use Rattle.cj_spans.specs.Meaning.Parts.{text_of, has_text}
 
 -- a name, whether a type of this name is of the second level, and its number
 pub record ObjectRow : Type 0 where
@@ -67,3 +68,12 @@ row_of t = row_in object_types t
 -- the text of the tree is the name of a type of the second level
 abbrev pub is_second_level : Tree → Bool
 is_second_level t = option_map_or (λ (r : ObjectRow). r.is_second) (row_of t) false
+
+-- the first code point is a plus sign
+abbrev pub begins_with_plus : List ℕ → Bool
+begins_with_plus [] = false
+begins_with_plus (c ∷ cs) = nat_eq c plus_sign
+
+-- the text of the tree begins as the types of extensions do (CityJSON 2.0, section 8)
+abbrev pub is_of_extension : Tree → Bool
+is_of_extension t = option_map_or begins_with_plus (text_of t) false

@@ -1,7 +1,7 @@
 //! The types of city objects. A row has a value, and what is expected of it: number, level and
 //! name, or `none`.
 use super::{is_text, tokens_of};
-use cj_geometry::ObjectType;
+use cj_geometry::{ObjectType, is_of_extension};
 use cj_spans::Doc;
 use std::alloc::{AllocError, Global};
 use std::process::Abort;
@@ -145,6 +145,32 @@ fn types_by_their_names(rt: HostRuntime) -> Result<(), Fail> {
         name_meets(&rt, rt.alloc(), row)?;
     }
     Ok(())
+}
+
+/// Values, and whether each begins as the types of extensions do.
+const EXTENSIONS: [(&str, bool); 12] = [
+    (r#""+Shed""#, true),
+    (r#""+""#, true),
+    (r#""++""#, true),
+    (r#""\u002bShed""#, true),
+    (r#""Shed""#, false),
+    (r#""""#, false),
+    (r#"" +Shed""#, false),
+    (r#""\\u002bShed""#, false),
+    (r#""\u012b""#, false),
+    ("3", false),
+    ("null", false),
+    (r#"["+Shed"]"#, false),
+];
+
+#[test]
+fn types_of_extensions_begin_with_a_sign(rt: HostRuntime) {
+    for row in &EXTENSIONS {
+        let (value, want) = *row;
+        let tokens = tokens_of(&rt, rt.alloc(), value.as_bytes());
+        let found = is_of_extension(Doc::of(value.as_bytes(), tokens.as_slice()).root());
+        assert!(&rt; found == want, "{value}");
+    }
 }
 
 const IN_ORDER: [&str; 33] = [

@@ -19,7 +19,7 @@ const BASE: u64 = 256;
 /// The least code point that ends a word.
 const PAST_DIGITS: u32 = 255;
 
-/// Returns whether a byte is a character that stands for itself: ASCII, and no backslash. One
+/// Returns whether a byte is a character of its own in a string: ASCII, and no backslash. One
 /// comparison is enough, since the backslash becomes 255 and other ASCII stays below 127.
 #[inline(always)]
 fn stands_for_itself(byte: u8) -> bool
@@ -47,7 +47,7 @@ fn word_of_plain(bytes: &[u8], place: usize) -> u64
     ])
 }
 
-/// Returns the word that begins so, with the next code points, of which the first has this weight.
+/// Returns the word that begins so, with the next code points. The first of these has this weight.
 ///
 /// It is cold, since most texts are plain.
 #[tactic(auto, using(crate::proofs::Words::digits_none, crate::proofs::Words::digits_few, crate::proofs::Words::digits_cut))]

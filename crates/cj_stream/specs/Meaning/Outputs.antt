@@ -1,7 +1,7 @@
 -- Where kept lines and reports go.
 use Rattle.std.specs.Prelude.{◌≡◌, ℕ, List, [], ◌∷◌, Option}
 
--- the bytes that a writer got, if it tells them; how often a write to it failed; and a sink of reports
+-- the bytes that a writer got, if its contract shows them; how often a write to it failed; and a sink of reports
 pub record Outputs (N : Type 0) : Type 0 where
   pub bytes : Option (List ℕ)
   pub failures : ℕ

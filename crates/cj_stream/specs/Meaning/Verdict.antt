@@ -39,7 +39,7 @@ is_blank header content = is_some header && list_all is_blank_byte content
 -- one (RULES, "Features")
 abbrev pub faults : Rules → Option Tree → Tree → List Finding
 faults rules None t = header_findings (needs_box rules.criteria) t
-faults rules (Some header) t = feature_findings header t rules.options.all_reached
+faults rules (Some header) t = feature_findings header t rules.options.all_reached rules.options.extensions
 
 -- A header is kept. A feature is kept that satisfies the query (RULES, "Queries"), or, if such features are left out,
 -- one that does not.

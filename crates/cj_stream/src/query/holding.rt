@@ -1,6 +1,8 @@
 //! Whether a feature has one of some ids, types or LoDs.
-ghost use Rattle.std.specs.Prelude.{◌≡◌, map, option_map, string_bytes};
+ghost use Rattle.std.specs.Prelude.{◌≡◌, false, get_or, map, option_map, string_bytes};
 ghost use Rattle.cj_spans.specs.View.{tree};
+ghost use Rattle.cj_geometry.specs.Meaning.ObjectTypes.{ObjectRow};
+ghost use Rattle.cj_geometry.specs.ObjectTypes.{row_at};
 ghost use Rattle.cj_feature.specs.HeaderView.{header_tree};
 ghost use Rattle.cj_feature.specs.View.{feature_tree};
 ghost use Rattle.cj_stream.specs.Meaning.Criteria.{there_is, is_one_of as is_one, has_id as id_holds};
@@ -30,12 +32,23 @@ pub fn has_id(ids: &Ids, feature: &Feature) -> bool
     ids.has(feature.id())
 }
 
+/// Returns whether a type is one of these. No type of an extension is.
+#[inline(always)]
+fn is_one_type(types: &[bool; ObjectType::COUNT], object_type: Option<ObjectType>) -> bool
+    ensures { result ≡ there_is (λ (r : ObjectRow). get_or types.now r.number false) (option_map row_at object_type) }
+{
+    match object_type {
+        Some(object_type) => types[object_type.number() as usize],
+        None => false,
+    }
+}
+
 /// Returns whether the type of some city object is one of these.
 pub fn has_type(types: &[bool; ObjectType::COUNT], feature: &Feature) -> bool
     ensures { result ≡ type_holds types.now (feature_tree feature.now) }
 {
     for object in feature.objects() {
-        if types[object.object_type.number() as usize] {
+        if is_one_type(types, object.object_type) {
             return true;
         }
     }

@@ -6,6 +6,7 @@ ghost use Rattle.std.specs.Str.{chars};
 ghost use Rattle.cj_decimal.specs.Word.{IsWordOf};
 ghost use Rattle.cj_spans.specs.Meaning.Parts.{member_of, items_if};
 ghost use Rattle.cj_spans.specs.View.{tree};
+ghost use Rattle.cj_geometry.specs.ObjectTypes.{row_at};
 ghost use Rattle.cj_feature.specs.Meaning.CityObject.{object_geometries};
 ghost use Rattle.cj_feature.specs.Axes.{number_on};
 ghost use Rattle.cj_feature.specs.View.{feature_tree, feature_header};
@@ -13,11 +14,11 @@ ghost use Rattle.cj_feature.specs.Walks.{vertices_left};
 ghost use Rattle.cj_stream.specs.Meaning.Criteria.{objects_of};
 ghost use Rattle.cj_stream.specs.Parts.{wider as wider_range, WidensFront};
 ghost use Rattle.cj_stream.specs.Tallied.{class_of as lod_class, type_numbers, lod_classes, numbers_on};
-ghost use Rattle.cj_stream.specs.Tallied.{own_classes};
+ghost use Rattle.cj_stream.specs.Tallied.{own_classes, row_number};
 ghost use Rattle.cj_stream.specs.TallySink.{AreWordsOf, RisesBy, TakesNumber, TakesSome, Widens};
 
-use super::LOD_CLASSES;
 use super::joining::join_ranges;
+use super::{LOD_CLASSES, TYPE_SLOTS};
 use cj_decimal::word_value;
 use cj_feature::{Feature, Vertices};
 use cj_geometry::{Lods, ObjectType};
@@ -45,12 +46,24 @@ fn class_of(lod: Option<Node>) -> usize
     }
 }
 
+/// Returns the number of the count of a type. That of types of extensions is the last.
+#[inline(always)]
+pub fn slot_of(object_type: Option<ObjectType>) -> usize
+    ensures number { result ≡ row_number (option_map row_at object_type) }
+    ensures below { result < TYPE_SLOTS }
+{
+    match object_type {
+        Some(object_type) => object_type.number() as usize,
+        None => ObjectType::COUNT,
+    }
+}
+
 /// Counts the city objects of a feature by their types.
-fn count_types(counts: &mut [u64; ObjectType::COUNT], feature: &Feature)
-    ensures { RisesBy ObjectType.COUNT counts.old (type_numbers (feature_tree feature.now)) counts.new }
+fn count_types(counts: &mut [u64; TYPE_SLOTS], feature: &Feature)
+    ensures { RisesBy TYPE_SLOTS counts.old (type_numbers (feature_tree feature.now)) counts.new }
 {
     for object in feature.objects() {
-        let number = object.object_type.number() as usize;
+        let number = slot_of(object.object_type);
         counts[number] = counts[number].saturating_add(1);
     }
 }
@@ -72,17 +85,13 @@ fn count_own(counts: &mut [u64; LOD_CLASSES], object: Node)
 /// Counts the city objects of a feature by their types, and its geometries by the classes of their
 /// own LoDs.
 #[inline(always)]
-fn count_plain(
-    types: &mut [u64; ObjectType::COUNT],
-    lods: &mut [u64; LOD_CLASSES],
-    feature: &Feature,
-)
-    ensures types { RisesBy ObjectType.COUNT types.old (type_numbers (feature_tree feature.now)) types.new }
+fn count_plain(types: &mut [u64; TYPE_SLOTS], lods: &mut [u64; LOD_CLASSES], feature: &Feature)
+    ensures types { RisesBy TYPE_SLOTS types.old (type_numbers (feature_tree feature.now)) types.new }
     ensures lods { RisesBy LOD_CLASSES lods.old
         (own_classes (flat_map object_geometries (objects_of (feature_tree feature.now)))) lods.new }
 {
     for object in feature.objects() {
-        let number = object.object_type.number() as usize;
+        let number = slot_of(object.object_type);
         types[number] = types[number].saturating_add(1);
         count_own(lods, object.node);
     }
@@ -128,11 +137,11 @@ pub fn count_lods(counts: &mut [u64; LOD_CLASSES], feature: &Feature)
 /// Counts the city objects of a feature by their types, and its geometries by LoD class, as
 /// [`crate::TallySink::by_lod`] does.
 pub fn count_objects(
-    types: &mut [u64; ObjectType::COUNT],
+    types: &mut [u64; TYPE_SLOTS],
     lods: &mut [u64; LOD_CLASSES],
     feature: &Feature,
 )
-    ensures types { RisesBy ObjectType.COUNT types.old (type_numbers (feature_tree feature.now)) types.new }
+    ensures types { RisesBy TYPE_SLOTS types.old (type_numbers (feature_tree feature.now)) types.new }
     ensures lods { RisesBy LOD_CLASSES lods.old (lod_classes (feature_header feature.now) (feature_tree feature.now))
         lods.new }
 {

@@ -53,7 +53,10 @@ fn objects_note(alloc: Global, feature: &Feature) -> Result<String, AllocError> 
     for object in feature.objects() {
         count = count.saturating_add(1);
         note.push_str(" ")?;
-        note.push_str(object.object_type.name())?;
+        match object.object_type {
+            Some(object_type) => note.push_str(object_type.name())?,
+            None => note.push_str("+")?,
+        }
     }
     format!(in alloc; " objects {count}{note}")
 }

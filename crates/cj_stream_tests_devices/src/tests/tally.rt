@@ -1,9 +1,12 @@
 //! What is tallied of a stream.
 use super::calls::check_bytes;
 use super::steps::{Opening, Step, check_steps};
+use cj_budget::Limits;
 use cj_feature::{CityObject, Feature, Header};
-use cj_stream::{End, LineSink, ObjectType, TallySink, WriteFault};
-use cj_stream_testkit::{FEATURE, joined, ran_to};
+use cj_stream::{
+    End, LineSink, NoReports, ObjectType, Options, Outcome, Query, TallySink, WriteFault,
+};
+use cj_stream_testkit::{FEATURE, Reading, SlowReader, joined, ran, ran_to};
 use std::alloc::{AllocError, Global};
 use std::process::Abort;
 use std::test::Fail;
@@ -110,7 +113,10 @@ struct TypesSink {
 
 /// Returns the count of the type of this city object.
 fn type_note(alloc: Global, tally: &TallySink, object: CityObject) -> Result<String, AllocError> {
-    format!(in alloc; " {}", tally.by_type(object.object_type))
+    match object.object_type {
+        Some(object_type) => format!(in alloc; " {}", tally.by_type(object_type)),
+        None => format!(in alloc; " +{}", tally.of_extensions()),
+    }
 }
 
 fn types_note(alloc: Global, tally: &TallySink, feature: &Feature) -> Result<String, AllocError> {
@@ -408,5 +414,40 @@ fn own_lods_are_tallied(rt: HostRuntime) -> Result<(), Fail> {
     let told = report(rt.alloc(), &tally)?;
     check_bytes(&rt, told.as_bytes(), OWN_TALLY.as_bytes(), "own", 0);
     assert!(&rt; tally.by_type(ObjectType::Road) == 4 && tally.by_type(ObjectType::Tunnel) == 2);
+    Ok(())
+}
+
+/// A feature with three city objects of extensions, and one of the table.
+const SHEDS: &str =
+    r#"{"type":"CityJSONFeature","id":"s","CityObjects":{"s":{"type":"+Shed"},"t":{"type":"\u002bShed"},"b":{"type":"Bridge"},"u":{"type":"+Bridge"}},"vertices":[]}"#;
+
+/// Tallies this feature, twice. Types of extensions are known, or not.
+fn sheds(alloc: Global, extensions: bool, tally: &mut TallySink) -> Result<Outcome, Fail> {
+    let own = SHEDS.as_bytes();
+    let text = joined(alloc, &[PLAIN.as_bytes(), b"\n", own, b"\n", own])?;
+    let query = Query::all(alloc);
+    let reading = Reading {
+        options: Options::new().extensions(extensions),
+        ..Reading::usual(Limits::usual(), &query)
+    };
+    let mut reader = SlowReader::new(&text, 100);
+    Ok(ran(alloc, &mut reader, tally, &mut NoReports, &reading))
+}
+
+#[test]
+fn types_of_extensions_are_tallied(rt: HostRuntime) -> Result<(), Fail> {
+    let mut tally = TallySink::new();
+    let outcome = sheds(rt.alloc(), true, &mut tally)?;
+    assert!(&rt; outcome.kept == 2 && tally.of_extensions() == 6);
+    assert!(&rt; tally.by_type(ObjectType::Bridge) == 2 && tally.types()[33] == 6);
+    Ok(())
+}
+
+#[test]
+fn unknown_types_are_not_tallied(rt: HostRuntime) -> Result<(), Fail> {
+    let mut tally = TallySink::new();
+    let outcome = sheds(rt.alloc(), false, &mut tally)?;
+    assert!(&rt; outcome.kept == 0 && tally.of_extensions() == 0);
+    assert!(&rt; tally.by_type(ObjectType::Bridge) == 0);
     Ok(())
 }

@@ -101,6 +101,7 @@ pub fn options_of(cell: &str) -> Options {
             "going" => options.keep_going(true),
             "tree" => options.tree(true),
             "exclude" => options.exclude(true),
+            "extensions" => options.extensions(true),
             "no-going" => options.keep_going(false),
             "no-tree" => options.tree(false),
             "no-exclude" => options.exclude(false),
@@ -133,7 +134,7 @@ fn start(rt: &impl Abort, query: &mut Query, word: &str) {
         "id" => query.start_ids(),
         "type" => query.start_types(),
         "lod" => query.start_lods(),
-        "-" | "going" | "tree" | "no-tree" | "exclude" => {}
+        "-" | "going" | "tree" | "no-tree" | "exclude" | "extensions" => {}
         _ => panic!(rt; "no word {word}"),
     }
 }

@@ -1,4 +1,4 @@
-//! The vectors of the folder `vectors/`, by section, without its two families. Written by
+//! The vectors of the folder `vectors/`, by section, without its three families. Written by
 //! vectors/make.py: change vectors/rows.py and run it again.
 //!
 //! A row has cells with bars between them:
@@ -265,6 +265,87 @@ type-that-is-empty|1000|64|-|&H;&lf;{"type":"CityJSONFeature","id":"b","CityObje
 #[test]
 fn unknown_object_type(rt: HostRuntime) -> Result<(), Fail> {
     check_rows(&rt, rt.alloc(), UNKNOWN_OBJECT_TYPE)
+}
+
+/// 19: types of extensions.
+const TYPES_OF_EXTENSIONS: &str = r#"
+known-of-an-extension|1000|64|extensions|&H;&lf;{"type":"CityJSONFeature","id":"b","CityObjects":{"b":{"type":"+Shed"}},"vertices":[]}&lf;|all|complete|2|1|226 34 3
+unknown-of-an-extension|1000|64|-|&H;&lf;{"type":"CityJSONFeature","id":"b","CityObjects":{"b":{"type":"+Shed"}},"vertices":[]}&lf;|&H;&lf;|line 2, byte 62: 19 unknown object type|1|0|-
+known-of-a-sign-alone|1000|64|extensions|&H;&lf;{"type":"CityJSONFeature","id":"b","CityObjects":{"b":{"type":"+"}},"vertices":[]}&lf;|all|complete|2|1|222 34 3
+unknown-of-a-sign-alone|1000|64|-|&H;&lf;{"type":"CityJSONFeature","id":"b","CityObjects":{"b":{"type":"+"}},"vertices":[]}&lf;|&H;&lf;|line 2, byte 62: 19 unknown object type|1|0|-
+known-of-two-signs|1000|64|extensions|&H;&lf;{"type":"CityJSONFeature","id":"b","CityObjects":{"b":{"type":"++"}},"vertices":[]}&lf;|all|complete|2|1|223 34 3
+unknown-of-two-signs|1000|64|-|&H;&lf;{"type":"CityJSONFeature","id":"b","CityObjects":{"b":{"type":"++"}},"vertices":[]}&lf;|&H;&lf;|line 2, byte 62: 19 unknown object type|1|0|-
+known-of-a-sign-by-an-escape|1000|64|extensions|&H;&lf;{"type":"CityJSONFeature","id":"b","CityObjects":{"b":{"type":"\u002bShed"}},"vertices":[]}&lf;|all|complete|2|1|231 34 3
+unknown-of-a-sign-by-an-escape|1000|64|-|&H;&lf;{"type":"CityJSONFeature","id":"b","CityObjects":{"b":{"type":"\u002bShed"}},"vertices":[]}&lf;|&H;&lf;|line 2, byte 62: 19 unknown object type|1|0|-
+known-of-a-sign-by-an-escape-in-capitals|1000|64|extensions|&H;&lf;{"type":"CityJSONFeature","id":"b","CityObjects":{"b":{"type":"\u002BShed"}},"vertices":[]}&lf;|all|complete|2|1|231 34 3
+unknown-of-a-sign-by-an-escape-in-capitals|1000|64|-|&H;&lf;{"type":"CityJSONFeature","id":"b","CityObjects":{"b":{"type":"\u002BShed"}},"vertices":[]}&lf;|&H;&lf;|line 2, byte 62: 19 unknown object type|1|0|-
+known-of-a-sign-before-a-type|1000|64|extensions|&H;&lf;{"type":"CityJSONFeature","id":"b","CityObjects":{"b":{"type":"+Building"}},"vertices":[]}&lf;|all|complete|2|1|230 34 3
+unknown-of-a-sign-before-a-type|1000|64|-|&H;&lf;{"type":"CityJSONFeature","id":"b","CityObjects":{"b":{"type":"+Building"}},"vertices":[]}&lf;|&H;&lf;|line 2, byte 62: 19 unknown object type|1|0|-
+known-of-a-sign-before-a-part|1000|64|extensions|&H;&lf;{"type":"CityJSONFeature","id":"b","CityObjects":{"b":{"type":"+BuildingPart"}},"vertices":[]}&lf;|all|complete|2|1|234 34 3
+unknown-of-a-sign-before-a-part|1000|64|-|&H;&lf;{"type":"CityJSONFeature","id":"b","CityObjects":{"b":{"type":"+BuildingPart"}},"vertices":[]}&lf;|&H;&lf;|line 2, byte 62: 19 unknown object type|1|0|-
+known-of-a-sign-before-a-space|1000|64|extensions|&H;&lf;{"type":"CityJSONFeature","id":"b","CityObjects":{"b":{"type":"+ "}},"vertices":[]}&lf;|all|complete|2|1|223 34 3
+unknown-of-a-sign-before-a-space|1000|64|-|&H;&lf;{"type":"CityJSONFeature","id":"b","CityObjects":{"b":{"type":"+ "}},"vertices":[]}&lf;|&H;&lf;|line 2, byte 62: 19 unknown object type|1|0|-
+known-of-a-sign-before-a-quote|1000|64|extensions|&H;&lf;{"type":"CityJSONFeature","id":"b","CityObjects":{"b":{"type":"+\""}},"vertices":[]}&lf;|all|complete|2|1|224 34 3
+unknown-of-a-sign-before-a-quote|1000|64|-|&H;&lf;{"type":"CityJSONFeature","id":"b","CityObjects":{"b":{"type":"+\""}},"vertices":[]}&lf;|&H;&lf;|line 2, byte 62: 19 unknown object type|1|0|-
+known-of-a-sign-before-a-letter-of-two-bytes|1000|64|extensions|&H;&lf;{"type":"CityJSONFeature","id":"b","CityObjects":{"b":{"type":"+&195;&169;"}},"vertices":[]}&lf;|all|complete|2|1|224 34 3
+unknown-of-a-sign-before-a-letter-of-two-bytes|1000|64|-|&H;&lf;{"type":"CityJSONFeature","id":"b","CityObjects":{"b":{"type":"+&195;&169;"}},"vertices":[]}&lf;|&H;&lf;|line 2, byte 62: 19 unknown object type|1|0|-
+known-of-a-sign-before-half-a-pair|1000|64|extensions|&H;&lf;{"type":"CityJSONFeature","id":"b","CityObjects":{"b":{"type":"+\ud800"}},"vertices":[]}&lf;|all|complete|2|1|228 34 3
+unknown-of-a-sign-before-half-a-pair|1000|64|-|&H;&lf;{"type":"CityJSONFeature","id":"b","CityObjects":{"b":{"type":"+\ud800"}},"vertices":[]}&lf;|&H;&lf;|line 2, byte 62: 19 unknown object type|1|0|-
+known-of-a-sign-before-a-group|1000|64|extensions|&H;&lf;{"type":"CityJSONFeature","id":"b","CityObjects":{"b":{"type":"+CityObjectGroup"}},"vertices":[]}&lf;|all|complete|2|1|237 34 3
+unknown-of-a-sign-before-a-group|1000|64|-|&H;&lf;{"type":"CityJSONFeature","id":"b","CityObjects":{"b":{"type":"+CityObjectGroup"}},"vertices":[]}&lf;|&H;&lf;|line 2, byte 62: 19 unknown object type|1|0|-
+extended-of-no-sign|1000|64|extensions|&H;&lf;{"type":"CityJSONFeature","id":"b","CityObjects":{"b":{"type":"Shed"}},"vertices":[]}&lf;|&H;&lf;|line 2, byte 62: 19 unknown object type|1|0|-
+extended-of-no-letters|1000|64|extensions|&H;&lf;{"type":"CityJSONFeature","id":"b","CityObjects":{"b":{"type":""}},"vertices":[]}&lf;|&H;&lf;|line 2, byte 62: 19 unknown object type|1|0|-
+extended-of-a-space-before-the-sign|1000|64|extensions|&H;&lf;{"type":"CityJSONFeature","id":"b","CityObjects":{"b":{"type":" +Shed"}},"vertices":[]}&lf;|&H;&lf;|line 2, byte 62: 19 unknown object type|1|0|-
+extended-of-a-sign-at-the-end|1000|64|extensions|&H;&lf;{"type":"CityJSONFeature","id":"b","CityObjects":{"b":{"type":"Shed+"}},"vertices":[]}&lf;|&H;&lf;|line 2, byte 62: 19 unknown object type|1|0|-
+extended-of-a-spelled-escape|1000|64|extensions|&H;&lf;{"type":"CityJSONFeature","id":"b","CityObjects":{"b":{"type":"\\u002bShed"}},"vertices":[]}&lf;|&H;&lf;|line 2, byte 62: 19 unknown object type|1|0|-
+extended-of-a-minus|1000|64|extensions|&H;&lf;{"type":"CityJSONFeature","id":"b","CityObjects":{"b":{"type":"-Shed"}},"vertices":[]}&lf;|&H;&lf;|line 2, byte 62: 19 unknown object type|1|0|-
+extended-of-a-wide-sign|1000|64|extensions|&H;&lf;{"type":"CityJSONFeature","id":"b","CityObjects":{"b":{"type":"&239;&188;&139;Shed"}},"vertices":[]}&lf;|&H;&lf;|line 2, byte 62: 19 unknown object type|1|0|-
+extended-of-a-small-letter|1000|64|extensions|&H;&lf;{"type":"CityJSONFeature","id":"b","CityObjects":{"b":{"type":"building"}},"vertices":[]}&lf;|&H;&lf;|line 2, byte 62: 19 unknown object type|1|0|-
+extended-of-a-sign-behind-no-break-space|1000|64|extensions|&H;&lf;{"type":"CityJSONFeature","id":"b","CityObjects":{"b":{"type":"\u00a0+Shed"}},"vertices":[]}&lf;|&H;&lf;|line 2, byte 62: 19 unknown object type|1|0|-
+extended-type-that-is-a-number|1000|64|extensions|&H;&lf;{"type":"CityJSONFeature","id":"b","CityObjects":{"b":{"type":3}},"vertices":[]}&lf;|&H;&lf;|line 2, byte 62: 12 wrong kind|1|0|-
+extended-type-that-is-a-null|1000|64|extensions|&H;&lf;{"type":"CityJSONFeature","id":"b","CityObjects":{"b":{"type":null}},"vertices":[]}&lf;|&H;&lf;|line 2, byte 62: 12 wrong kind|1|0|-
+extended-type-that-is-a-array|1000|64|extensions|&H;&lf;{"type":"CityJSONFeature","id":"b","CityObjects":{"b":{"type":["+Shed"]}},"vertices":[]}&lf;|&H;&lf;|line 2, byte 62: 12 wrong kind|1|0|-
+extended-type-that-is-a-truth|1000|64|extensions|&H;&lf;{"type":"CityJSONFeature","id":"b","CityObjects":{"b":{"type":true}},"vertices":[]}&lf;|&H;&lf;|line 2, byte 62: 12 wrong kind|1|0|-
+extended-of-no-type|1000|64|extensions|&H;&lf;{"type":"CityJSONFeature","id":"b","CityObjects":{"b":{}},"vertices":[]}&lf;|&H;&lf;|line 2, byte 54: 10 member missing|1|0|-
+extended-of-two-types|1000|64|extensions|&H;&lf;{"type":"CityJSONFeature","id":"b","CityObjects":{"b":{"type":"+Shed","type":"+Shed"}},"vertices":[]}&lf;|&H;&lf;|line 2, byte 70: 11 duplicate name|1|0|-
+extension-of-no-parents|1000|64|extensions|&H;&lf;{"type":"CityJSONFeature","id":"b","CityObjects":{"b":{"type":"+Shed","parents":[]}},"vertices":[]}&lf;|all|complete|2|1|239 36 4
+extension-of-a-parent-elsewhere|1000|64|extensions|&H;&lf;{"type":"CityJSONFeature","id":"b","CityObjects":{"b":{"type":"+Shed","parents":["q"]}},"vertices":[]}&lf;|all|complete|2|1|242 37 4
+extension-of-null-for-parents|1000|64|extensions|&H;&lf;{"type":"CityJSONFeature","id":"b","CityObjects":{"b":{"type":"+Shed","parents":null}},"vertices":[]}&lf;|&H;&lf;|line 2, byte 80: 12 wrong kind|1|0|-
+extension-of-a-lost-child|1000|64|extensions|&H;&lf;{"type":"CityJSONFeature","id":"b","CityObjects":{"b":{"type":"+Shed","children":["q"]}},"vertices":[]}&lf;|&H;&lf;|line 2, byte 82: 21 child not found|1|0|-
+extension-of-itself-as-child|1000|64|extensions|&H;&lf;{"type":"CityJSONFeature","id":"b","CityObjects":{"b":{"type":"+Shed","children":["b"]}},"vertices":[]}&lf;|&H;&lf;|line 2, byte 82: 22 link not mutual|1|0|-
+extension-of-itself-as-parent|1000|64|extensions|&H;&lf;{"type":"CityJSONFeature","id":"b","CityObjects":{"b":{"type":"+Shed","parents":["b"]}},"vertices":[]}&lf;|&H;&lf;|line 2, byte 81: 22 link not mutual|1|0|-
+extension-named-as-a-group-of-a-lost-child|1000|64|extensions|&H;&lf;{"type":"CityJSONFeature","id":"b","CityObjects":{"b":{"type":"+CityObjectGroup","children":["q"]}},"vertices":[]}&lf;|&H;&lf;|line 2, byte 93: 21 child not found|1|0|-
+extension-over-a-part|1000|64|extensions|&H;&lf;{"type":"CityJSONFeature","id":"b","CityObjects":{"b":{"type":"+Shed","children":["p"]},"p":{"type":"BuildingPart","parents":["b"]}},"vertices":[]}&lf;|all|complete|2|1|287 44 4
+extension-over-a-part-of-another|1000|64|extensions|&H;&lf;{"type":"CityJSONFeature","id":"b","CityObjects":{"b":{"type":"+Shed","children":["p"]},"p":{"type":"BuildingPart","parents":["q"]}},"vertices":[]}&lf;|&H;&lf;|line 2, byte 82: 22 link not mutual|1|0|-
+extension-over-one-of-an-extension|1000|64|extensions|&H;&lf;{"type":"CityJSONFeature","id":"b","CityObjects":{"b":{"type":"+Shed","children":["p"]},"p":{"type":"+Part","parents":["b"]}},"vertices":[]}&lf;|all|complete|2|1|280 44 4
+extension-over-one-that-does-not-list-it|1000|64|extensions|&H;&lf;{"type":"CityJSONFeature","id":"b","CityObjects":{"b":{"type":"+Shed","children":["p"]},"p":{"type":"+Part"}},"vertices":[]}&lf;|&H;&lf;|line 2, byte 82: 22 link not mutual|1|0|-
+extension-over-a-road-that-lists-it|1000|64|extensions|&H;&lf;{"type":"CityJSONFeature","id":"b","CityObjects":{"b":{"type":"+Shed","children":["p"]},"p":{"type":"Road","parents":["b"]}},"vertices":[]}&lf;|all|complete|2|1|279 44 4
+part-of-an-extension-elsewhere|1000|64|extensions|&H;&lf;{"type":"CityJSONFeature","id":"b","CityObjects":{"b":{"type":"BuildingPart","parents":["q"]},"c":{"type":"+Shed"}},"vertices":[]}&lf;|&H;&lf;|line 2, byte 54: 23 no parent in the feature|1|0|-
+extension-in-a-building|1000|64|extensions|&H;&lf;{"type":"CityJSONFeature","id":"b","CityObjects":{"b":{"type":"Building","children":["p"]},"p":{"type":"+Part","parents":["b"]}},"vertices":[]}&lf;|all|complete|2|1|283 44 4
+extension-apart|1000|64|extensions tree|&H;&lf;{"type":"CityJSONFeature","id":"b","CityObjects":{"b":{"type":"Building"},"c":{"type":"+Shed"}},"vertices":[]}&lf;|&H;&lf;|line 2, byte 78: 31 not reached from the main object|1|0|-
+extension-apart-and-no-tree-asked|1000|64|extensions|&H;&lf;{"type":"CityJSONFeature","id":"b","CityObjects":{"b":{"type":"Building"},"c":{"type":"+Shed"}},"vertices":[]}&lf;|all|complete|2|1|250 38 3
+extension-apart-and-unknown|1000|64|tree|&H;&lf;{"type":"CityJSONFeature","id":"b","CityObjects":{"b":{"type":"Building"},"c":{"type":"+Shed"}},"vertices":[]}&lf;|&H;&lf;|line 2, byte 78: 31 not reached from the main object|1|0|-
+extension-of-an-index-too-great|1000|64|extensions|&H;&lf;{"type":"CityJSONFeature","id":"b","CityObjects":{"b":{"type":"+Shed","geometry":[{"type":"MultiPoint","lod":"1","boundaries":[0]}]}},"vertices":[]}&lf;|&H;&lf;|line 2, byte 127: 25 vertex index out of range|1|0|-
+extension-of-a-cone|1000|64|extensions|&H;&lf;{"type":"CityJSONFeature","id":"b","CityObjects":{"b":{"type":"+Shed","geometry":[{"type":"+Cone"}]}},"vertices":[]}&lf;|&H;&lf;|line 2, byte 90: 24 unknown geometry type|1|0|-
+semantics-of-an-extension|1000|64|extensions|&H;&lf;{"type":"CityJSONFeature","id":"b","CityObjects":{"b":{"type":"Building","geometry":[{"type":"Solid","lod":"1","boundaries":[[[[0,1,2]],[[0,2,1]]]],"semantics":{"surfaces":[{"type":"+Roof"}],"values":null}}]}},"vertices":[[0,0,0],[1,0,0],[0,1,0]]}&lf;|all|complete|2|1|387 75 9
+extension-among-others|1000|64|extensions|&H;&lf;&F;&lf;{"type":"CityJSONFeature","id":"b1","CityObjects":{"b1":{"type":"+Shed","geometry":[{"type":"MultiSurface","lod":"2.2","boundaries":[[[0,1,2,3]]]}]}},"vertices":[[0,0,0],[1000,0,0],[1000,1000,0],[0,1000,0]]}&lf;&F;&lf;|all|complete|4|3|350 65 8
+extension-among-others-and-unknown|1000|64|-|&H;&lf;&F;&lf;{"type":"CityJSONFeature","id":"b1","CityObjects":{"b1":{"type":"+Shed","geometry":[{"type":"MultiSurface","lod":"2.2","boundaries":[[[0,1,2,3]]]}]}},"vertices":[[0,0,0],[1000,0,0],[1000,1000,0],[0,1000,0]]}&lf;&F;&lf;|&H;&lf;&F;&lf;|line 3, byte 64: 19 unknown object type|2|1|-
+extension-asked-for-by-its-id|1000|64|extensions id=b1|&H;&lf;&F;&lf;{"type":"CityJSONFeature","id":"b1","CityObjects":{"b1":{"type":"+Shed","geometry":[{"type":"MultiSurface","lod":"2.2","boundaries":[[[0,1,2,3]]]}]}},"vertices":[[0,0,0],[1000,0,0],[1000,1000,0],[0,1000,0]]}&lf;|all|complete|3|2|350 65 8
+extension-asked-for-by-its-lod|1000|64|extensions lod=2.2|&H;&lf;{"type":"CityJSONFeature","id":"b1","CityObjects":{"b1":{"type":"+Shed","geometry":[{"type":"MultiSurface","lod":"2.2","boundaries":[[[0,1,2,3]]]}]}},"vertices":[[0,0,0],[1000,0,0],[1000,1000,0],[0,1000,0]]}&lf;|all|complete|2|1|347 65 8
+extension-asked-for-by-another-lod|1000|64|extensions lod=1|&H;&lf;{"type":"CityJSONFeature","id":"b1","CityObjects":{"b1":{"type":"+Shed","geometry":[{"type":"MultiSurface","lod":"2.2","boundaries":[[[0,1,2,3]]]}]}},"vertices":[[0,0,0],[1000,0,0],[1000,1000,0],[0,1000,0]]}&lf;|&H;&lf;|complete|2|0|347 65 8
+extension-beside-what-is-asked-for|1000|64|extensions type=Building|&H;&lf;&F;&lf;{"type":"CityJSONFeature","id":"b1","CityObjects":{"b1":{"type":"+Shed","geometry":[{"type":"MultiSurface","lod":"2.2","boundaries":[[[0,1,2,3]]]}]}},"vertices":[[0,0,0],[1000,0,0],[1000,1000,0],[0,1000,0]]}&lf;|&H;&lf;&F;&lf;|complete|3|1|350 65 8
+extension-in-a-box|1000|64|extensions bbox=1001,2001,1005,2005|&H;&lf;{"type":"CityJSONFeature","id":"b1","CityObjects":{"b1":{"type":"+Shed","geometry":[{"type":"MultiSurface","lod":"2.2","boundaries":[[[0,1,2,3]]]}]}},"vertices":[[0,0,0],[1000,0,0],[1000,1000,0],[0,1000,0]]}&lf;|all|complete|2|1|347 65 8
+extension-that-is-left-out|1000|64|extensions exclude type=Building|&H;&lf;&F;&lf;{"type":"CityJSONFeature","id":"b1","CityObjects":{"b1":{"type":"+Shed","geometry":[{"type":"MultiSurface","lod":"2.2","boundaries":[[[0,1,2,3]]]}]}},"vertices":[[0,0,0],[1000,0,0],[1000,1000,0],[0,1000,0]]}&lf;|&H;&lf;{"type":"CityJSONFeature","id":"b1","CityObjects":{"b1":{"type":"+Shed","geometry":[{"type":"MultiSurface","lod":"2.2","boundaries":[[[0,1,2,3]]]}]}},"vertices":[[0,0,0],[1000,0,0],[1000,1000,0],[0,1000,0]]}&lf;|complete|3|1|350 65 8
+extensions-and-an-empty-stream|1000|64|extensions||all|line 1, byte 0: 1 no header line|0|0|-
+extensions-and-no-feature|1000|64|extensions|&H;&lf;|all|complete|1|0|140 21 3
+extensions-and-members-of-the-header|1000|64|extensions|{"type":"CityJSON","version":"2.0","transform":{"scale":[0.001,0.001,0.001],"translate":[1000.0,2000.0,0.0]},"CityObjects":{},"vertices":[],"+census":3,"extensions":{"Noise":{}}}&lf;|all|complete|1|0|178 27 3
+extensions-and-a-type-of-the-header|1000|64|extensions|{"type":"+CityJSON","version":"2.0","transform":{"scale":[0.001,0.001,0.001],"translate":[1000.0,2000.0,0.0]},"CityObjects":{},"vertices":[]}&lf;||line 1, byte 8: 14 wrong type|0|0|-
+extensions-and-a-type-of-the-feature|1000|64|extensions|&H;&lf;{"type":"+CityJSONFeature","id":"b","CityObjects":{"b":{"type":"Building"}},"vertices":[]}&lf;|&H;&lf;|line 2, byte 8: 14 wrong type|1|0|-
+"#;
+
+#[test]
+fn types_of_extensions(rt: HostRuntime) -> Result<(), Fail> {
+    check_rows(&rt, rt.alloc(), TYPES_OF_EXTENSIONS)
 }
 
 /// 20: id not among the city objects.

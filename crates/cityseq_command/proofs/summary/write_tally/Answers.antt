@@ -1,6 +1,6 @@
 use Rattle.std.proofs.Common.{codes}
 use Rattle.cityseq_command.specs.Text.{count_line}
-use Rattle.cityseq_command.specs.Summary.{numbers_line, types_text, lods_text, ranges_text}
+use Rattle.cityseq_command.specs.Summary.{numbers_line, types_text, extensions_text, lods_text, ranges_text}
 use Rattle.cityseq_command.proofs.WroteLemmas.{Wrote-then, Wrote-last, Wrote-stops}
 use Rattle.cityseq_command.proofs.summary.write_tally.Goals as goal
 
@@ -37,6 +37,18 @@ returns-in_err-write_types g c =
     (rw c.translate.ensures at c.in_ok-write_numbers-2.ensures)
     (Wrote-stops _ c.from_residual-in_err-write_types.ensures.0 _ (types_text t) _ _ _ c.in_err-write_types.ensures)))
 
+pub returns-in_err-write_extensions : goal.returns-in_err-write_extensions
+returns-in_err-write_extensions g c =
+    let t = c.args.tally.now in
+    Wrote-then _ _ (count_line (codes "features") t.features) _ _ _ _
+    (rw c.features.ensures at c.in_ok-write_count.ensures)
+    (Wrote-then _ _ (numbers_line (codes "scale") t.scale) _ _ _ _ (rw c.scale.ensures at c.in_ok-write_numbers.ensures)
+    (Wrote-then _ _ (numbers_line (codes "translate") t.translate) _ _ _ _
+    (rw c.translate.ensures at c.in_ok-write_numbers-2.ensures)
+    (Wrote-then _ _ (types_text t) _ _ _ _ c.in_ok-write_types.ensures
+    (Wrote-stops _ c.from_residual-in_err-write_extensions.ensures.0 _ (extensions_text t) _ _ _
+    c.in_err-write_extensions.ensures))))
+
 pub returns-in_err-write_lods : goal.returns-in_err-write_lods
 returns-in_err-write_lods g c =
     let t = c.args.tally.now in
@@ -46,7 +58,8 @@ returns-in_err-write_lods g c =
     (Wrote-then _ _ (numbers_line (codes "translate") t.translate) _ _ _ _
     (rw c.translate.ensures at c.in_ok-write_numbers-2.ensures)
     (Wrote-then _ _ (types_text t) _ _ _ _ c.in_ok-write_types.ensures
-    (Wrote-stops _ c.from_residual-in_err-write_lods.ensures.0 _ (lods_text t) _ _ _ c.in_err-write_lods.ensures))))
+    (Wrote-then _ _ (extensions_text t) _ _ _ _ c.in_ok-write_extensions.ensures
+    (Wrote-stops _ c.from_residual-in_err-write_lods.ensures.0 _ (lods_text t) _ _ _ c.in_err-write_lods.ensures)))))
 
 pub returns : goal.returns
 returns g c =
@@ -57,5 +70,6 @@ returns g c =
     (Wrote-then _ _ (numbers_line (codes "translate") t.translate) _ _ _ _
     (rw c.translate.ensures at c.in_ok-write_numbers-2.ensures)
     (Wrote-then _ _ (types_text t) _ _ _ _ c.in_ok-write_types.ensures
+    (Wrote-then _ _ (extensions_text t) _ _ _ _ c.in_ok-write_extensions.ensures
     (Wrote-then _ _ (lods_text t) _ _ _ _ c.in_ok-write_lods.ensures
-    (Wrote-last _ (ranges_text t) _ _ c.write_ranges.ensures)))))
+    (Wrote-last _ (ranges_text t) _ _ c.write_ranges.ensures))))))

@@ -8,4 +8,5 @@ pub returns : goal.returns
 returns c =
     let limited = c.in_ok-with_limits.ensures (new_app (codes "check")) c.described-command.ensures in
     let going = with_option limited c.keep_going.ensures c.in_ok-arg.ensures in
-    IfOk-weaker c.arg-2.result _ _ (λ m adds. with_option going c.tree.ensures adds) c.arg-2.ensures
+    let trees = with_option going c.tree.ensures c.in_ok-arg-2.ensures in
+    IfOk-weaker c.arg-3.result _ _ (λ m adds. with_option trees c.extensions.ensures adds) c.arg-3.ensures

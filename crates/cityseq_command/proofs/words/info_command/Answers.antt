@@ -6,6 +6,6 @@ use Rattle.cityseq_command.proofs.words.info_command.Goals as goal
 
 pub returns : goal.returns
 returns c =
-    IfOk-weaker c.arg.result _ _
-    (λ m adds. with_option (c.in_ok-with_limits.ensures (new_app (codes "info")) c.described-command.ensures)
-    c.tree.ensures adds) c.arg.ensures
+    let limited = c.in_ok-with_limits.ensures (new_app (codes "info")) c.described-command.ensures in
+    let trees = with_option limited c.tree.ensures c.in_ok-arg.ensures in
+    IfOk-weaker c.arg-2.result _ _ (λ m adds. with_option trees c.extensions.ensures adds) c.arg-2.ensures

@@ -14,7 +14,7 @@ loop-object-init c =
     record {
       few = omega arith;
       counted = omega (arith, long);
-      marked = Marking-start 33 _ _ (ap (map (λ (m : Tree × Tree). row_number (type_row m.1))) all);
+      marked = Marking-start 34 _ _ (ap (map (λ (m : Tree × Tree). row_number (type_row m.1))) all);
     }
 
 pub loop-object-preserved : goal.loop-object-preserved
@@ -22,13 +22,13 @@ loop-object-preserved c =
     let number = λ (m : Tree × Tree). row_number (type_row m.1) in
     let step = c.in-Some.ensures.steps.0 in
     let long = ap length step in
-    let own = ap row_number c.in-Some.object.typed ∙ sym c.number.ensures.number in
+    let own = ap row_number c.in-Some.object.typed ∙ sym c.slot_of.ensures.number in
     let first = ap (map number) step ∙ ap (λ n. n ∷ map number (objects_left c.next.new.self)) own in
     let before = c.loop-object.invariant in
     record {
       few = c.saturating_add-count.type_inv;
       counted = omega (arith, long, before.few, before.counted, c.saturating_add-count.ensures);
-      marked = Marking-step 33 _ c.loop-object.types c.number.result _ _ _ c.number.ensures.below (omega arith) first
+      marked = Marking-step 34 _ c.loop-object.types c.slot_of.result _ _ _ c.slot_of.ensures.below (omega arith) first
           refl before.marked;
     }
 
@@ -38,4 +38,4 @@ returns-clause-count c =
     let e = rw c.in-None.ensures.steps.0.0 at before.counted in omega (arith, e, before.few)
 
 pub returns-clause-types : goal.returns-clause-types
-returns-clause-types c = Marking-end 33 _ _ (rw c.in-None.ensures.steps.0.0 at c.loop-object.invariant.marked)
+returns-clause-types c = Marking-end 34 _ _ (rw c.in-None.ensures.steps.0.0 at c.loop-object.invariant.marked)

@@ -12,6 +12,6 @@ invariant-loop-object l = record {
   few : l.count < 2 ^ 64;
   counted : capped (l.count + length (objects_left l.object-iterator))
       ≡ capped (length (objects_of (feature_tree l.feature)));
-  marked : Marking 33 (type_numbers (feature_tree l.feature)) l.types
+  marked : Marking 34 (type_numbers (feature_tree l.feature)) l.types
       (map (λ m. row_number (type_row m.1)) (objects_left l.object-iterator));
 }

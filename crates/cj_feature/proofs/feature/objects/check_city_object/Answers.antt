@@ -21,8 +21,8 @@ pub returns-then-check_object-clause-found : goal.returns-then-check_object-clau
 returns-then-check_object-clause-found c =
     let n = tree c.args.node in
     let o = c.check_object.new.found in
-    let name = needs (chars (codes "type")) object_type in
-    let geometry = may_have (chars (codes "geometry")) (geometries c.args.vertices (given c.args.templates)) in
+    let name = needs (chars (codes "type")) (object_type c.args.beside.extensions) in
+    let geometry = may_have (chars (codes "geometry")) (geometries c.args.vertices (given c.args.beside.templates)) in
     let children = may_have (chars (codes "children")) texts in
     let parents = may_have (chars (codes "parents")) texts in
     let members = c.get_four-kind.ensures in

@@ -15,8 +15,8 @@ use Rattle.cj_feature.proofs.feature.objects.check_city_objects.Goals as goal
 
 pub loop-object-preserved : goal.loop-object-preserved
 loop-object-preserved c = (
-  least_on (λ m. city_object c.args.vertices (given c.args.templates) m.1) _ _ _ _ _ _ c.loop-object.invariant.0
-      c.in-Some.ensures.steps.0 c.check_city_object-linked.ensures.found,
+  least_on (λ m. city_object c.args.beside.extensions c.args.vertices (given c.args.beside.templates) m.1) _ _ _ _ _ _
+      c.loop-object.invariant.0 c.in-Some.ensures.steps.0 c.check_city_object-linked.ensures.found,
   λ e all.
       let n = neither c.loop-object.linked c.check_city_object-linked.result e in
       next_unlinked (object_links all) _ _ _ _ (c.loop-object.invariant.1 n.0 all) c.in-Some.ensures.steps.0
@@ -26,7 +26,9 @@ loop-object-preserved c = (
 pub returns-in-None-clause-found : goal.returns-in-None-clause-found
 returns-in-None-clause-found c =
     let n = tree c.args.node in
-    let each = λ (u : Tree). flat_map (λ m. city_object c.args.vertices (given c.args.templates) m.1) (members_of u) in
+    let beside = c.args.beside in
+    let one = λ (m : Tree × Tree). city_object beside.extensions c.args.vertices (given beside.templates) m.1 in
+    let each = λ (u : Tree). flat_map one (members_of u) in
     let walked = rw c.in-None.ensures.steps.0.0 at c.loop-object.invariant.0 in
     of_kind-then is_object (λ u. distinct u ++ each u) n _ _ _ (sym c.if-check_object.ensures.is)
     c.check_object.ensures.found

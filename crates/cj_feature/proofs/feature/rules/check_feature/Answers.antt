@@ -1,4 +1,4 @@
-use Rattle.std.proofs.Common.{◌≡◌, [], false, Option, sym, subst}
+use Rattle.std.proofs.Common.{◌≡◌, [], false, true, Option, sym, subst}
 use Rattle.cj_spans.specs.declared.finding.Finding.{Finding}
 use Rattle.cj_spans.specs.Meaning.Finding.{least}
 use Rattle.cj_spans.specs.Meaning.Least.{IsLeast}
@@ -11,7 +11,7 @@ use Rattle.cj_feature.proofs.feature.rules.check_feature.Goals as goal
 
 pub returns-in-Some-clause-verdict : goal.returns-in-Some-clause-verdict
 returns-in-Some-clause-verdict c =
-    let findings = feature (header_tree c.args.header.now) (document c.args.doc) c.args.tree in
+    let findings = feature (header_tree c.args.header.now) (document c.args.doc) c.args.tree c.args.extensions in
     let found = c.check_root.new.found in
     let checked : found ≡ least c.new-found.result findings =
     rw (c.root-root.ensures.tree, c.templates-templates.ensures.given) at c.check_root.ensures in
@@ -20,7 +20,7 @@ returns-in-Some-clause-verdict c =
 
 pub of-requires-clause-valid : goal.of-requires-clause-valid
 of-requires-clause-valid c =
-    let findings = feature (header_tree c.args.header.now) (document c.args.doc) c.args.tree in
+    let findings = feature (header_tree c.args.header.now) (document c.args.doc) c.args.tree c.args.extensions in
     let found = c.check_root.new.found in
     let checked : found ≡ least c.new-found.result findings =
     rw (c.root-root.ensures.tree, c.templates-templates.ensures.given) at c.check_root.ensures in
@@ -29,5 +29,6 @@ of-requires-clause-valid c =
     subst P (sym c.in-None.ensures.held)
     (only-findings findings c.new-found.result found c.new-found.ensures checked) in
     let header : document c.doc.result ≡ header_tree c.args.header.now = c.doc.ensures.tree in
-    subst (λ h. feature h (document c.args.doc) false ≡ []) (sym header)
-    (valid-without (templates_of (header_tree c.args.header.now)) (document c.args.doc) c.args.tree none)
+    subst (λ h. feature h (document c.args.doc) false true ≡ []) (sym header)
+    (valid-without (templates_of (header_tree c.args.header.now)) (document c.args.doc) c.args.tree c.args.extensions
+    none)

@@ -19,11 +19,11 @@ pub returns-then-check_object : goal.returns-then-check_object
 returns-then-check_object c =
     let n = tree c.args.node in
     let o = c.check_object.new.found in
-    let templates = given c.args.templates in
+    let templates = given c.args.beside.templates in
     let type_rule = has_member_named (chars (codes "type")) WrongType (chars (codes "CityJSONFeature")) n in
     let objects =
-    needs (chars (codes "CityObjects")) (city_objects (count_of (member_of (chars (codes "vertices")) n)) templates)
-    n in
+    needs (chars (codes "CityObjects"))
+    (city_objects c.args.beside.extensions (count_of (member_of (chars (codes "vertices")) n)) templates) n in
     let vertices = needs (chars (codes "vertices")) vertex_list n in
     let there = c.at_if-then-check_object-4.ensures.tree ∙ c.requires.members.objects in
     let linked = rw there at c.check_links_if.ensures in
@@ -43,5 +43,6 @@ returns-then-check_object c =
     least-two o _ _ (distinct n ++ type_rule ++ id_rule n ++ objects ++ vertices
     ++ links (member_of (chars (codes "CityObjects")) n)) (reach_if c.args.connected n) six
     c.check_reached.ensures in
-    of_kind-then is_object (feature_rules templates c.args.connected) n _ _ _ (sym c.if-check_object.ensures.is)
+    of_kind-then is_object (feature_rules templates c.args.connected c.args.beside.extensions) n _ _ _
+    (sym c.if-check_object.ensures.is)
     c.check_object.ensures.found seven

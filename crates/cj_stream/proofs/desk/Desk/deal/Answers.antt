@@ -40,7 +40,8 @@ returns-in-Err-check_feature-clause-hands g c = λ number later.
     let header : header_tree c.header-header.result ≡ h =
     rw c.scan_later.ensures.rest at c.header-header.ensures.tree in
     let asked = rw c.scan_later.ensures.rest at c.asks_for_trees.ensures in
-    let found = rw asked at c.in-Err-check_feature.ensures.verdict in
+    let known = rw c.scan_later.ensures.rest at c.knows_extensions.ensures in
+    let found = rw (asked, known) at c.in-Err-check_feature.ensures.verdict in
     let least : IsLeast (findings rules number h t) (Some c.in-Err-check_feature.finding) =
     rw (feature, ← header, ← shown) found in
     (says ∙ tree-refused rules number h t c.in-Err-check_feature.finding least, refl)

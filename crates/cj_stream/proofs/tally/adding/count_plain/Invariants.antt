@@ -10,7 +10,7 @@ use Rattle.cj_stream.proofs.tally.adding.count_plain.Given as goal
 
 abbrev pub invariant-loop-object : goal.invariant-loop-object
 invariant-loop-object l = record {
-  types : Counting 33 l.initial.types (type_numbers (feature_tree l.feature)) l.types
+  types : Counting 34 l.initial.types (type_numbers (feature_tree l.feature)) l.types
       (map (λ m. row_number (type_row m.1)) (objects_left l.object-iterator));
   lods : Counting 6 l.initial.lods (own_classes (flat_map object_geometries (objects_of (feature_tree l.feature))))
       l.lods (own_classes (flat_map object_geometries (objects_left l.object-iterator)));
