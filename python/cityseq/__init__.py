@@ -24,7 +24,7 @@ if TYPE_CHECKING:
     from .calls import index, info, report, table
     from .convert.collecting import collect
     from .convert.splitting import split
-    from .engine.faults import (
+    from .engine import (
         CityseqError,
         InvalidStream,
         LibraryMissing,
@@ -45,7 +45,7 @@ _MODULES = {
     "calls": "check check_files features filter index info report table",
     "convert.collecting": "collect",
     "convert.splitting": "split",
-    "engine.faults": "CityseqError InvalidStream LibraryMissing MemoryFault OutOfDate ReadFault"
+    "engine": "CityseqError InvalidStream LibraryMissing MemoryFault OutOfDate ReadFault"
     " RequestError Status WriteFault",
     "engine.judge": "Limits Options Query",
     "engine.reports": "Explanation Report explain",

@@ -15,7 +15,7 @@ def run() -> NoReturn:
     The command handles faults and interrupts itself. Here are those that come before it is loaded.
     """
     try:
-        from .cli.main import run as run_command
+        from .cli import run as run_command
 
         run_command()
     except KeyboardInterrupt:

@@ -11,8 +11,8 @@ from .engine.judge import Box, Limits, Options, Query, Texts, Work, work_of
 from .engine.reports import Report
 from .run import Info, Result, one_options, one_query, watched
 from .run.streams import Stream, results
-from .sources import Source, stream_of
-from .sources.outputs import Limit, Target, Writer, refuse_same
+from .sources import Source, refuse_same, stream_of
+from .sources.outputs import Limit, Target, Writer
 
 if TYPE_CHECKING:
     from .delivery.facts import Delivery
@@ -39,6 +39,7 @@ def check(
     depth: int = USUAL_DEPTH,
     keep_going: bool = False,
     tree: bool = False,
+    extensions: bool = False,
     on_report: OnReport = None,
     progress: Progress = None,
     part_size: int | None = None,
@@ -49,13 +50,14 @@ def check(
     Args:
         source: A path, `-` for standard input, bytes that are the stream, or a binary file. What is
             packed by gzip or Zstandard is unpacked, but for bytes.
-        options: The options, in place of `jobs`, `line_limit`, `depth`, `keep_going`, `tree` and
-            `part_size`.
+        options: The options, in place of `jobs`, `line_limit`, `depth`, `keep_going`, `tree`,
+            `extensions` and `part_size`.
         jobs: How many threads judge parts of the stream. None is one for each processor.
         line_limit: The most bytes in a line, from 1 to 1 GiB.
         depth: The most arrays and objects that are open at once, from 1 to 1,024.
         keep_going: Whether to report each invalid line, and not only the first.
         tree: Whether the main city object has to reach each other one of its feature.
+        extensions: Whether types of city objects that begin with `+` are known, as extensions have.
         on_report: Is called with each report as it comes. The result then has no list of them.
         progress: Is called with the number of bytes that were done since the call before. In a
             packed file these are packed bytes. True shows a bar, by the package tqdm.
@@ -73,7 +75,7 @@ def check(
         RequestError: An argument has a value that it may not have.
         LibraryMissing: The library is not there, or it is another version.
     """
-    made = Options(Limits(line_limit, depth), keep_going, tree, jobs, part_size)
+    made = Options(Limits(line_limit, depth), keep_going, tree, jobs, part_size, extensions)
     how = one_options(options, made)
     work = work_of("check", how)
     with watched(progress, [source]) as done:
@@ -91,6 +93,7 @@ def check_files(
     depth: int = USUAL_DEPTH,
     keep_going: bool = False,
     tree: bool = False,
+    extensions: bool = False,
     on_report: OnReport = None,
     progress: Progress = None,
     part_size: int | None = None,
@@ -109,7 +112,7 @@ def check_files(
         RequestError: An argument has a value that it may not have.
         LibraryMissing: The library is not there, or it is another version.
     """
-    made = Options(Limits(line_limit, depth), keep_going, tree, jobs, part_size)
+    made = Options(Limits(line_limit, depth), keep_going, tree, jobs, part_size, extensions)
     how = one_options(options, made)
     listed = list(sources) if progress is True else sources
     return _checked(listed, whole, work_of("check", how), how, on_report, progress)
@@ -146,6 +149,7 @@ def filter(
     depth: int = USUAL_DEPTH,
     keep_going: bool = False,
     tree: bool = False,
+    extensions: bool = False,
     keep_partial: bool = False,
     on_report: OnReport = None,
     progress: Progress = None,
@@ -185,7 +189,7 @@ def filter(
         RequestError: An argument has a value that it may not have, or the output is the source.
         LibraryMissing: The library is not there, or it is another version.
     """
-    made = Options(Limits(line_limit, depth), keep_going, tree, jobs, part_size)
+    made = Options(Limits(line_limit, depth), keep_going, tree, jobs, part_size, extensions)
     how = one_options(options, made)
     work = work_of("filter", how, one_query(query, Query(ids, types, lods, box, exclude)))
     refuse_same([source], [output])
@@ -205,6 +209,7 @@ def info(
     line_limit: int = USUAL_LINE,
     depth: int = USUAL_DEPTH,
     tree: bool = False,
+    extensions: bool = False,
     on_report: OnReport = None,
     progress: Progress = None,
     part_size: int | None = None,
@@ -229,7 +234,7 @@ def info(
         RequestError: An argument has a value that it may not have.
         LibraryMissing: The library is not there, or it is another version.
     """
-    made = Options(Limits(line_limit, depth), False, tree, jobs, part_size)
+    made = Options(Limits(line_limit, depth), False, tree, jobs, part_size, extensions)
     how = one_options(options, made)
     work = work_of("info", how, exact_lods=exact_lods)
     with watched(progress, [source]) as done:
@@ -254,6 +259,7 @@ def features(
     depth: int = USUAL_DEPTH,
     keep_going: bool = False,
     tree: bool = False,
+    extensions: bool = False,
 ) -> Iterator[Feature]:
     """Lists the features that a query selects. The arguments are those of `filter`.
 
@@ -270,7 +276,9 @@ def features(
     """
     from .run.features import features as listed  # few runs need it
 
-    how = one_options(options, Options(Limits(line_limit, depth), keep_going, tree))
+    how = one_options(
+        options, Options(Limits(line_limit, depth), keep_going, tree, extensions=extensions)
+    )
     work = work_of("filter", how, one_query(query, Query(ids, types, lods, box, exclude)))
     return listed(source, work)
 
@@ -290,6 +298,7 @@ def table(
     depth: int = USUAL_DEPTH,
     keep_going: bool = False,
     tree: bool = False,
+    extensions: bool = False,
 ) -> dict[str, Any]:
     """Returns the features that a query selects as columns, which `pandas.DataFrame` takes. The
     other arguments are those of `features`.
@@ -310,7 +319,9 @@ def table(
     """
     from .run.features import table as tabled  # few runs need it
 
-    how = one_options(options, Options(Limits(line_limit, depth), keep_going, tree))
+    how = one_options(
+        options, Options(Limits(line_limit, depth), keep_going, tree, extensions=extensions)
+    )
     work = work_of("filter", how, one_query(query, Query(ids, types, lods, box, exclude)))
     if attributes is None:
         return tabled(source, work)
@@ -331,6 +342,7 @@ def index(
     depth: int = USUAL_DEPTH,
     keep_going: bool = False,
     tree: bool = False,
+    extensions: bool = False,
     on_report: OnReport = None,
     progress: Progress = None,
     part_size: int | None = None,
@@ -363,11 +375,11 @@ def index(
         LibraryMissing: The library is not there, or it is another version.
     """
     from .attributes.columns import checked_names  # few runs need it
-    from .indexes.details import Wanted
+    from .indexes.builder import Wanted
     from .indexes.index_run import checked
     from .indexes.index_run import index as indexed
 
-    made = Options(Limits(line_limit, depth), keep_going, tree, jobs, part_size)
+    made = Options(Limits(line_limit, depth), keep_going, tree, jobs, part_size, extensions)
     how = one_options(options, made)
     work, named = work_of("check", how), checked(paths, output)
     wanted = Wanted(footprints, None if attributes is None else checked_names(attributes))
@@ -386,6 +398,7 @@ def report(
     line_limit: int = USUAL_LINE,
     depth: int = USUAL_DEPTH,
     tree: bool = False,
+    extensions: bool = False,
     progress: Progress = None,
     part_size: int | None = None,
     whole: bool | None = None,
@@ -413,10 +426,10 @@ def report(
         CityseqError: A package is missing that a page needs.
         LibraryMissing: The library is not there, or it is another version.
     """
-    from .delivery.report import How, checked, of_bytes  # few runs need it
-    from .delivery.report import report as made
+    from .delivery import How, checked, of_bytes  # few runs need it
+    from .delivery import report as made
 
-    given = Options(Limits(line_limit, depth), False, tree, jobs, part_size)
+    given = Options(Limits(line_limit, depth), False, tree, jobs, part_size, extensions)
     how = replace(one_options(options, given), keep_going=True)
     work = work_of("check", how)
     with watched(progress, checked(paths, output)[0]) as done:

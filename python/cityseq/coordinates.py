@@ -15,7 +15,7 @@ from math import ceil, floor
 from threading import Lock
 from typing import Any, NamedTuple
 
-from .engine.faults import RequestError
+from .engine import RequestError
 from .indexes.geopackage import SYSTEM
 
 Extent = tuple[float, float, float, float]

@@ -23,15 +23,14 @@ from .cluster.folders import USUAL, Folder, filter_to_folder
 from .cluster.jobs import PART, Cluster, Job, checked_size
 from .cluster.runs import PIECES, Runs
 from .cluster.tasks import hash_file
-from .engine import USUAL_DEPTH, USUAL_LINE
-from .engine.faults import RequestError
+from .engine import USUAL_DEPTH, USUAL_LINE, RequestError
 from .engine.judge import Box, Limits, Options, Query, Texts, Work, work_of
 from .indexes.builder import Builder
 from .indexes.index_run import Indexed, checked, of_takers, written
 from .run import Info, Result, one_options, one_query, watched
 from .run.streams import Results, Stream
-from .sources import is_path, is_url
-from .sources.outputs import Target, Writer, refuse_same
+from .sources import is_path, is_url, refuse_same
+from .sources.outputs import Target, Writer
 from .sources.packed import Packing
 from .sources.ranges import SHORT
 
@@ -72,6 +71,7 @@ def check(
     depth: int = USUAL_DEPTH,
     keep_going: bool = False,
     tree: bool = False,
+    extensions: bool = False,
     on_report: OnReport = None,
     progress: Progress = None,
     part_size: Size = PART,
@@ -83,8 +83,9 @@ def check(
         paths: The paths or URLs of the files, or the only one. A path means the same file for each
             worker. A relative path is one of this process.
         part_size: How many bytes a part has, as a number or a text such as 32MB.
-        options, line_limit, depth, keep_going, tree, on_report, progress: As for `cityseq.check`.
-            The cluster has its own number of jobs, so that of the options says nothing.
+        options, line_limit, depth, keep_going, tree, extensions, on_report, progress: As for
+            `cityseq.check`. The cluster has its own number of jobs, so that of the options says
+            nothing.
 
     Yields:
         The result of each file. A fault of one is in its result, and the others go on.
@@ -93,7 +94,9 @@ def check(
         RequestError: An argument has a value that it may not have.
         CityseqError: The scheduler is lost, or a worker has another engine than this process.
     """
-    how = one_options(options, Options(Limits(line_limit, depth), keep_going, tree))
+    how = one_options(
+        options, Options(Limits(line_limit, depth), keep_going, tree, extensions=extensions)
+    )
     return _run(client, paths, work_of("check", how), _size(how, part_size), on_report, progress)
 
 
@@ -106,13 +109,14 @@ def info(
     line_limit: int = USUAL_LINE,
     depth: int = USUAL_DEPTH,
     tree: bool = False,
+    extensions: bool = False,
     on_report: OnReport = None,
     progress: Progress = None,
     part_size: Size = PART,
 ) -> Iterator[Info]:
     """Summarises one file or several, and yields the result of each, in order. The arguments are
     those of `check` and of `cityseq.info`. A fault of a file is in its result."""
-    how = one_options(options, Options(Limits(line_limit, depth), tree=tree))
+    how = one_options(options, Options(Limits(line_limit, depth), tree=tree, extensions=extensions))
     work = work_of("info", how, exact_lods=exact_lods)
     found: Any = _run(client, paths, work, _size(how, part_size), on_report, progress)
     return found  # type: ignore[no-any-return]
@@ -136,6 +140,7 @@ def filter(
     depth: int = USUAL_DEPTH,
     keep_going: bool = False,
     tree: bool = False,
+    extensions: bool = False,
     keep_partial: bool = False,
     on_report: OnReport = None,
     progress: Progress = None,
@@ -154,7 +159,9 @@ def filter(
 
     The other arguments are those of `check` and of `cityseq.filter`, and so are the faults.
     """
-    how = one_options(options, Options(Limits(line_limit, depth), keep_going, tree))
+    how = one_options(
+        options, Options(Limits(line_limit, depth), keep_going, tree, extensions=extensions)
+    )
     work = work_of("filter", how, one_query(query, Query(ids, types, lods, box, exclude)))
     if (output is None) == (output_dir is None):
         raise RequestError("one of `output` and `output_dir` is wanted")
@@ -207,6 +214,7 @@ def index(
     depth: int = USUAL_DEPTH,
     keep_going: bool = False,
     tree: bool = False,
+    extensions: bool = False,
     on_report: OnReport = None,
     progress: Progress = None,
     part_size: Size = PART,
@@ -214,7 +222,9 @@ def index(
     """Writes an index of files where this is called, as `cityseq.index` does. The workers judge
     the files, and return where each feature is. Packed files are refused: they have no parts. The
     other arguments are those of `check`."""
-    how = one_options(options, Options(Limits(line_limit, depth), keep_going, tree))
+    how = one_options(
+        options, Options(Limits(line_limit, depth), keep_going, tree, extensions=extensions)
+    )
     found: list[Result] = []
     named = checked(paths, output)
     work, builder = work_of("check", how), Builder(os.fsdecode(output))

@@ -138,7 +138,8 @@ def delivery(reports, files=None, cells=False, title="delivery"):
         4,
         8_388_608,
         64,
-        False,
+        tree=False,
+        extensions=False,
     )
     return facts.Delivery(
         title,

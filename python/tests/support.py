@@ -49,8 +49,8 @@ def options_of(row):
     words = [] if row["query"] == "-" else row["query"].replace("=", " ").split(" ")
     while words:
         word = words.pop(0)
-        if word == "--tree":
-            options["tree"] = True
+        if word in ("--tree", "--extensions", "--exclude"):
+            options[word[2:]] = True
         elif word == "--bbox":
             options["box"] = words.pop(0)
         else:
@@ -210,7 +210,7 @@ def command(*words, given=b"", coding="utf-8", **more):
 
 def ran(*words):
     """What the command writes, says and answers if it runs in this process."""
-    from cityseq.cli.main import main
+    from cityseq.cli import main
 
     out, said = io.TextIOWrapper(io.BytesIO()), io.StringIO()
     with contextlib.redirect_stdout(out), contextlib.redirect_stderr(said):

@@ -17,7 +17,7 @@ from unittest import mock
 
 import cityseq
 from cityseq.cli.pack_command import packed_name
-from cityseq.engine.faults import OutOfDate, ReadFault
+from cityseq.engine import OutOfDate, ReadFault
 from cityseq.indexes import line_reader as blocks_of
 from cityseq.sources.packed import BLOCK, LAST, Packing, Unpacker, pack
 

@@ -2,7 +2,6 @@
 import json
 import random
 import sqlite3
-import tempfile
 import unittest
 from contextlib import closing
 from decimal import Decimal
@@ -10,8 +9,7 @@ from unittest import mock
 
 import cityseq
 from cityseq import OutOfDate, ReadFault, RequestError, WriteFault
-from cityseq.attributes import columns
-from cityseq.attributes.values import columns_of, members, rows_of
+from cityseq.attributes import columns, columns_of, members, rows_of
 
 from .support import HEADER, InFolder, command
 
@@ -208,6 +206,24 @@ class Values(unittest.TestCase):
             members(b' { "a" : [ 1 , {"b":2.50}] ,"a":1, "\\u0062":1E2}'),
             {"a": '[ 1 , {"b":2.50}]', "b": "1E2"},
         )
+
+    def test_strings_by_their_names(self):
+        chance, letters = random.Random(3), ("", "a", "b", ",", ":", "}", "é", "a:", ",b")
+        for _ in range(2_000):
+            made = [
+                [(chance.choice("ab"), chance.choice(letters)) for _ in range(chance.randrange(3))]
+                for _ in range(chance.randrange(4))
+            ]
+            colon = chance.choice((":", ":", ":", " : "))
+            texts = [
+                ("{%s}" % ",".join(f'"{name}"{colon}"{value}"' for name, value in pairs)).encode()
+                for pairs in made
+            ]
+            found = columns_of(texts, ("a", "b", "\ud800"))
+            for name in ("a", "b"):
+                first = [dict(reversed(pairs)).get(name) for pairs in made]
+                self.assertEqual(found[name], first, texts)
+            self.assertEqual(found["\ud800"], [None] * len(texts))
 
     def test_names_that_could_be_found_between_texts(self):
         text = b'{"a":"b",":":"c",",":"d","e":" ","}":"f"}'
@@ -412,13 +428,17 @@ class Indexed(InFolder):
 
     def test_many_spellings_and_no_room_for_them(self):
         values = ["1.50"] * 300 + ["true"] * 300
-        with mock.patch.object(columns, "HELD", 100):
-            kind, found = self.column(*values, '"a"', part_size=5_000)
+        kind, found = self.column(*values, '"a"', part_size=5_000)
         self.assertEqual((kind, found), ("TEXT", [*values, "a"]))
-        with mock.patch.object(tempfile, "SpooledTemporaryFile") as made:
-            made.return_value.write.side_effect = OSError(28, "No space left on device")
-            with self.assertRaisesRegex(WriteFault, "No space left on device"):
-                self.column(*values)
+        begin = columns.AttributeColumns.begin
+
+        def begin_with_little_room(made, base):
+            begin(made, base)
+            base.execute("PRAGMA temp.max_page_count = 2")
+
+        with mock.patch.object(columns.AttributeColumns, "begin", begin_with_little_room):
+            with self.assertRaisesRegex(WriteFault, "full"):
+                self.column(*values * 100)
         self.assertEqual(
             sorted(each.name for each in self.folder.iterdir()), ["i.gpkg", "stream.city.jsonl"]
         )
@@ -437,7 +457,7 @@ class Indexed(InFolder):
             self.assertEqual(found.pop("v"), ("INTEGER", [*range(40), None, None, None]))
             self.assertEqual(found, plain)
             more = self.tables()
-            for name in ("feature_ids", "streams", "reports", "rtree_features_geom_node"):
+            for name in ("streams", "reports", "rtree_features_geom_node"):
                 self.assertEqual(more[name], tables[name])
         self.assertEqual(self.indexed(*given, names=[]), plain)
 

@@ -508,7 +508,7 @@ class Workers(InFolder):
             "        logging.getLogger(name).error('a future was left')\n"
             "    raise OSError\n"
             "distributed.Client = fails\n"
-            "from cityseq.cli.main import main\n"
+            "from cityseq.cli import main\n"
             "raise SystemExit(main(['check', 'a', '--cluster', 'tcp://127.0.0.1:9']))\n"
         )
         done = subprocess.run(

@@ -13,8 +13,8 @@ import unittest
 from unittest import mock
 
 import cityseq
-from cityseq.cli.options import COMMANDS
 from cityseq.cli.output import put
+from cityseq.cli.requests import COMMANDS
 
 from . import support
 from .support import HEADER, PLAIN, InFolder, command, feature
@@ -341,7 +341,7 @@ class Commands(InFolder):
         for name in COMMANDS:
             output, said, status = command(name, "--help")
             self.assertEqual((output, said, status), (command("help", name)[0], "", 0))
-            self.assertTrue(output.decode().startswith(COMMANDS[name].about))
+            self.assertTrue(output.decode().startswith(COMMANDS[name].__doc__.split("\n")[0]))
             self.assertLess(max(map(len, output.decode().splitlines())), 160)
         self.assertEqual(command("-V"), (f"cityseq-run {cityseq.__version__}\n".encode(), "", 0))
 

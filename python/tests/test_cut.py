@@ -520,6 +520,7 @@ class Command(InFolder):
             (("--exclude",), "--exclude"),
             ((SAMPLE,), "FILE"),
             (("--tree",), "--tree"),
+            (("--extensions",), "--extensions"),
             (("--keep-going",), "--keep-going"),
             (("--line-limit", "9000000"), "--line-limit"),
             (("--depth", "65"), "--depth"),

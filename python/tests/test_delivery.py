@@ -2,9 +2,7 @@
 import csv
 import gzip
 import json
-import operator
 import random
-import struct
 import subprocess
 import unittest
 from collections import Counter
@@ -19,8 +17,10 @@ from .test_told import example
 
 try:
     extras.need_all()
-    from cityseq.delivery import repeated, survey
+    from cityseq.delivery import survey
+    from cityseq.engine.records import RECORD
     from cityseq.engine.world import extent_of, transform_of
+    from cityseq.indexes.builder import temporary_folder
 
     MISSING = None
 except extras.PackageMissing as fault:
@@ -289,146 +289,78 @@ class Repeated(InFolder):
             )
             self.assertEqual(
                 [(each.count, each.places) for each in found.first],
-                [(len(where), where[: repeated.MOST_PLACES]) for where in wanted.values()][
-                    : repeated.MOST_IDS
+                [(len(where), where[: survey.MOST_PLACES]) for where in wanted.values()][
+                    : survey.MOST_IDS
                 ],
             )
             for each, name in zip(found.first, wanted):
-                short = len(name.encode("utf-8", "surrogatepass")) < repeated.LONGEST
-                self.assertEqual(each.id, name if short else name[: repeated.LONGEST] + "\u2026")
+                short = len(name.encode("utf-8", "surrogatepass")) < survey.LONGEST
+                self.assertEqual(each.id, name if short else name[: survey.LONGEST] + "\u2026")
 
     def test_more_than_memory_holds_at_once(self):
         ids = [f"i{number % 700}" for number in range(1_000)]
         path = self.file(HEADER + b"".join(map(named, ids)))
-        with mock.patch.multiple(repeated, AT_ONCE=50, BLOCK=90):
+        with mock.patch.object(survey, "TOGETHER", 50):
             found = cityseq.report(path).repeated
-        self.assertEqual(
-            (found.ids, found.features, len(found.first)), (300, 600, repeated.MOST_IDS)
-        )
+        self.assertEqual((found.ids, found.features, len(found.first)), (300, 600, survey.MOST_IDS))
         self.assertEqual(
             [(each.id, [line for _, line in each.places]) for each in found.first[:2]],
             [("i0", [2, 702]), ("i1", [3, 703])],
         )
 
-    def setUp(self):
-        super().setUp()
-        self.hash = repeated.Hash()
+    def test_files_in_another_order(self):
+        """The first places are those of the first files, whichever comes first."""
+        with survey.Ids() as made:
+            for file in (2, 0, 1):
+                made.add(file, survey.np.array([4, 5, 6]), [b"a", b"%d" % file, b"b"])
+            told = made.repeated(["f", "g", "h"])
+        self.assertEqual((told.ids, told.features), (2, 6))
+        self.assertEqual(
+            [(each.id, each.count, each.places) for each in told.first],
+            [
+                ("a", 3, [("f", 4), ("g", 4), ("h", 4)]),
+                ("b", 3, [("f", 6), ("g", 6), ("h", 6)]),
+            ],
+        )
 
-    def added(self, ids, count, at_once):
-        """What is found among the ids of numbers, which come in pieces."""
-        with repeated.Ids() as made, mock.patch.object(repeated, "AT_ONCE", at_once):
-            for begin in range(0, count, 1_000):
-                numbers = range(begin, min(begin + 1_000, count))
-                lines = survey.np.array(numbers, "u8") + 2
-                made.add(0, lines, self.hash.of_spellings([ids(number) for number in numbers]))
-            with Reads(made) as reads:
-                return made.repeated(["f"]), reads.bytes
-
-    def test_each_record_is_read_once(self):
-        """Time is linear: with many shares no more is read than with one."""
-        for at_once in (1 << 19, 500, 1):
-            with mock.patch.object(repeated, "BLOCK", 1_500):
-                found, size = self.added(lambda number: b"%d" % (number % 4_990), 5_000, at_once)
-            self.assertEqual((found.ids, found.features), (10, 20))
-            self.assertEqual(size, 5_000 * repeated.RECORD.itemsize)
-
-    def test_a_part_of_a_hash_is_not_enough(self):
-        """Hashes are equal in the first 64 bits, or in the last 32."""
-        for high, low in (([7, 7, 7], [1, 2, 1]), ([1, 2, 1], [7, 7, 7])):
-            found = self.hash.of_spellings([b"a", b"b", b"a"])
-            found.high[:], found.low[:] = high, low
-            with repeated.Ids() as made:
-                made.add(0, survey.np.array([2, 3, 4]), found)
-                told = made.repeated(["f"])
-            self.assertEqual((told.ids, told.features), (1, 2))
-            self.assertEqual(
-                [(each.id, each.places) for each in told.first], [("a", [("f", 2), ("f", 4)])]
-            )
+    def test_a_database_that_is_full(self):
+        with survey.Ids() as made:
+            made._base.execute("PRAGMA max_page_count = 2")
+            with self.assertRaises(cityseq.WriteFault) as raised:
+                for _ in range(100):
+                    made.add(0, survey.np.arange(100), [b"x" * 200] * 100)
+        self.assertEqual(raised.exception.file, temporary_folder())
 
 
 @unittest.skipIf(MISSING, MISSING)
-class Hashes(unittest.TestCase):
-    """Ids with and without escapes, wherever they lie in a part, have the hash of their text."""
+class Spelled(unittest.TestCase):
+    """Ids with and without escapes, wherever they lie in a part, are equal if their texts are."""
 
     def test_any_place(self):
-        chance, made = random.Random(1), repeated.Hash()
+        chance = random.Random(1)
         for _ in range(300):
             ids = [
                 "".join(chance.choice("a\u00e9\u0000\ud800\U0001f3e0z") for _ in range(size))
                 for size in (chance.choice((0, 1, 7, 8, 9, 15, 60, 90, 300)) for _ in range(9))
             ]
             ids += [chance.choice(ids) for _ in range(5)]
-            part, begins, lengths = b"x" * chance.randrange(3), [], []
-            for name in ids:
+            part, raw = b"x" * chance.randrange(3), b""
+            for number, name in enumerate(ids):
                 is_plain = "\ud800" not in name and chance.random() < 0.5
-                spelled = json.dumps(name, ensure_ascii=not is_plain)[1:-1].encode()
-                begins.append(len(part))
-                lengths.append(len(spelled))
+                spelled = json.dumps(name, ensure_ascii=not is_plain or "\0" in name).encode()
+                begin = chance.randrange(len(part) + 1)
+                spans = (len(part) - begin, len(spelled), 0, 0)
+                raw += RECORD.pack(number + 2, begin, 300, *spans, 1, 1, 1, 1, *[0] * 9)
                 part += spelled + b"\\" * chance.randrange(2)
-            found = made.of(part, *(survey.np.array(each) for each in (begins, lengths)))
-            keys = list(zip(found.high.tolist(), found.low.tolist()))
+            keys = survey.ids_of(part, raw)
             for one, key in zip(ids, keys):
                 for other, its in zip(ids, keys):
                     self.assertEqual(one == other, key == its)
-            for number, name in enumerate(ids):
-                text = name.encode("utf-8", "surrogatepass")[: repeated.LONGEST]
-                self.assertEqual(found.text(number), text)
-
-    def test_the_sums(self):
-        """Each is the upper half of a sum of products, as Python makes it."""
-        chance, made = random.Random(2), repeated.Hash()
-        first, of_length, *others = made._factors.tolist()
-        for size in (0, 1, 4, 8, 9, 31, 250):
-            ids = [chance.randbytes(size).replace(b"\\", b"x") for _ in range(5)]
-            found = made.of_spellings(ids)
-            for id, high, low in zip(ids, found.high.tolist(), found.low.tolist()):
-                text = id + bytes(-len(id) % 8)
-                halves = struct.unpack(f"<{len(text) // 4}I", text)
-                sums = [
-                    one + len(id) * other + sum(map(operator.mul, halves, factors))
-                    for one, other, *factors in zip(first, of_length, *others)
-                ]
-                whole = [each % (1 << 64) >> 32 for each in sums]
-                self.assertEqual((high, low), (whole[0] << 32 | whole[1], whole[2]))
-
-    def test_another_run_has_other_hashes(self):
-        one, other = (repeated.Hash().of_spellings([b"a", b"x" * 300]) for _ in "ab")
-        self.assertTrue((one.high != other.high).all())
-
-    def test_no_bit_is_always_the_same(self):
-        ids = [b"i%d" % number for number in range(1_000)]
-        # one hash of a hundred hardly changes a bit where ids are so alike
-        made = [repeated.Hash().of_spellings(ids) for _ in range(20)]
-        high, low = (survey.np.concatenate(each) for each in zip(*((m.high, m.low) for m in made)))
-        for bits, values in ((64, high), (32, low)):
-            for bit in range(bits):
-                share = (values >> survey.np.uint64(bit) & survey.np.uint64(1)).mean()
-                self.assertTrue(0.3 < share < 0.7, (bits, bit, share))
+            for name, key in zip(ids, keys):
+                text = name.encode("utf-8", "surrogatepass")[: survey.LONGEST]
+                self.assertEqual(key[: survey.LONGEST], text)
 
 
-class Reads:
-    """Counts the bytes of records that are read."""
-
-    def __init__(self, ids):
-        self._file, self.bytes = ids._records, 0
-        ids._records = self
-
-    def __enter__(self):
-        return self
-
-    def __exit__(self, *_):
-        self._file.close()
-
-    def read(self, count):
-        text = self._file.read(count)
-        self.bytes += len(text)
-        return text
-
-    def __getattr__(self, name):
-        return getattr(self._file, name)
-
-
-@unittest.skipIf(MISSING, MISSING)
 class Middles(InFolder):
     """Where an invalid feature is."""
 

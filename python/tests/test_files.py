@@ -9,8 +9,8 @@ from unittest import mock
 
 import cityseq
 from cityseq.engine.judge import asked, judge, judge_lines
-from cityseq.sources import RegularFile, regular_file
-from cityseq.sources.chunks import Chunks, FileChunk
+from cityseq.sources.chunks import Chunks
+from cityseq.sources.regular import FileChunk, RegularFile, regular_file
 
 from . import support
 from .support import HEADER, PLAIN, InFolder, feature

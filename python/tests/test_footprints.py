@@ -331,7 +331,6 @@ class Kept(InFolder):
             with closing(sqlite3.connect(index)) as base:
                 tables = (
                     "features",
-                    "feature_ids",
                     "streams",
                     "cityseq_index",
                     "rtree_features_geom",

@@ -180,7 +180,7 @@ class Filters(support.InFolder):
 
     def test_parts_of_a_file_are_not_copied(self):
         """Those whose ids Python reads are `bytes`, and others are not."""
-        with mock.patch("cityseq.sources.RegularFile.read", side_effect=AssertionError):
+        with mock.patch("cityseq.sources.regular.RegularFile.read", side_effect=AssertionError):
             for jobs in (1, 3):
                 self.asked_for(20_000, 100_000, jobs=jobs)
             with self.assertRaises(AssertionError):

@@ -20,9 +20,9 @@ from fractions import Fraction
 from unittest import mock
 
 import cityseq
-from cityseq import sources as regular
 from cityseq.engine.records import id_of
 from cityseq.indexes import builder
+from cityseq.sources import regular
 
 from . import support
 from .support import HEADER, PLAIN, ROOT, InFolder, command, feature
@@ -478,7 +478,7 @@ class Refreshed(InFolder):
 
     def test_an_index_that_another_program_changed(self):
         with closing(sqlite3.connect(self.index)) as base:
-            base.execute("DELETE FROM feature_ids WHERE key = (SELECT min(key) FROM feature_ids)")
+            base.execute("UPDATE streams SET reference_system = 'other' WHERE fid = 1")
             base.commit()
         self.copied(self.paths[0], self.texts[0])
         before = self.index.read_bytes()
@@ -855,7 +855,7 @@ class BadInput(InFolder):
         with self.assertRaises(cityseq.ReadFault) as caught:
             cityseq.Index(self.index)
         self.assertIn(
-            "it is an index of version 1, and not of version 4: build it again",
+            "it is an index of version 1, and not of version 5: build it again",
             str(caught.exception),
         )
 

@@ -360,12 +360,7 @@ class Hostile(InFolder):
                 with self.assertRaises(cityseq.OutOfDate):
                     with cityseq.Index(self.index) as index:
                         index.filter(io.BytesIO())
-        # all have one hash
-        self.made(
-            "UPDATE features SET id = x'00ff', line = 'x'",
-            "DELETE FROM feature_ids",
-            "INSERT INTO feature_ids VALUES (0, x'000000000001000000000002')",
-        )
+        self.made("UPDATE features SET id = x'00ff', line = 'x'")  # all have one id
         with self.assertRaises(cityseq.OutOfDate):
             with cityseq.Index(self.index) as index:
                 index.show()
@@ -389,7 +384,7 @@ class Hostile(InFolder):
         """SQLite asks Python, so that it can run the handler of the signal."""
         code = (
             "import sys; from cityseq.indexes import database\n"
-            "from cityseq.cli.main import end_by_signals, main\n"
+            "from cityseq.cli import end_by_signals, main\n"
             "def check(self, total):\n"
             "    with self.reading():\n"
             "        print('begun', flush=True)\n"

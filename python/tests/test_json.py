@@ -84,7 +84,7 @@ class Documented(InFolder):
                 wanted = {name: OPTIONS[name] for name in OPTIONS if name not in optional}
                 self.fits(
                     told["options"],
-                    wanted if told["command"] == "filter" else dict(list(wanted.items())[:4]),
+                    wanted if told["command"] == "filter" else dict(list(wanted.items())[:5]),
                 )
             if told.get("info") is not None:
                 self.fits(told["info"], TABLES["info"])

@@ -6,14 +6,13 @@ import sqlite3
 import struct
 import tempfile
 import unittest
-import zlib
 from contextlib import closing
 from decimal import Decimal
 from fractions import Fraction
 from unittest import mock
 
 import cityseq
-from cityseq.engine.faults import WriteFault
+from cityseq.engine import WriteFault
 from cityseq.engine.records import RECORD, Records, id_of
 from cityseq.engine.world import Axis, World, ceiling_of, floor_of
 from cityseq.indexes import builder, bulk, candidates, geopackage
@@ -29,34 +28,35 @@ WITHOUT = "numpy is not there"
 class Sorted(unittest.TestCase):
     """Rows come out as Python sorts them."""
 
-    def rows(self, count, width, chance):
+    def rows(self, count, chance):
         """Rows by chance, some of which begin alike, and then ascend."""
         for number in range(count):
             key = chance.choice((0, chance.randrange(50), chance.getrandbits(64)))
-            yield struct.pack(f">Q{width - 8}s", key, struct.pack(">Q", number)[: width - 8])
+            yield struct.pack(f">Q{bulk.CELL.size}s", key, struct.pack(">Q", number))
 
     def test_any_number_of_rows(self):
         chance = random.Random(1)
-        for many in (2, 10**9):
-            for width in (8, 16, 32):
+        for together in (1, 7, 4_096):
+            for many in (2, 10**9):
                 for count in (0, 1, 2, 63, 64, 65, 1_000):
-                    rows = list(dict.fromkeys(self.rows(count, width, chance)))
-                    with self.subTest(many=many, width=width, count=count):
-                        self.assertEqual(self.sorted(rows, width, many), sorted(rows))
+                    rows = list(dict.fromkeys(self.rows(count, chance)))
+                    with self.subTest(together=together, many=many, count=count):
+                        self.assertEqual(self.sorted(rows, many, together), sorted(rows))
 
-    def sorted(self, rows, width, many):
+    def sorted(self, rows, many, together=7):
         """The rows, through blocks of 64 rows and pieces of 2. numpy sorts from so many on."""
-        small = mock.patch.multiple(bulk, BLOCK=64, MERGED=1, LEAST=2)
-        with small, mock.patch.object(bulk, "MANY", many), bulk.Sorter(width) as sorter:
+        small = mock.patch.multiple(bulk, BLOCK=64, PIECE=2, TOGETHER=together)
+        with small, mock.patch.object(bulk, "MANY", many), bulk.Sorter() as sorter:
             for begin in range(0, len(rows), 7):
                 sorter.add(b"".join(rows[begin : begin + 7]))
             self.assertEqual(sorter.count, len(rows))
             found = b"".join(sorter.rows())
-        return [found[at : at + width] for at in range(0, len(found), width)]
+        return [found[at : at + bulk.ROW] for at in range(0, len(found), bulk.ROW)]
 
     def test_few_rows_need_no_file(self):
         with mock.patch.object(tempfile, "TemporaryFile", side_effect=AssertionError):
-            self.assertEqual(self.sorted([b"b" * 8, b"a" * 8], 8, 10), [b"a" * 8, b"b" * 8])
+            one, other = b"a" * bulk.ROW, b"b" * bulk.ROW
+            self.assertEqual(self.sorted([other, one], 10), [one, other])
 
     def test_a_full_folder(self):
         fault = OSError(28, "No space left on device")
@@ -64,9 +64,9 @@ class Sorted(unittest.TestCase):
             mock.patch.object(tempfile, "TemporaryFile", side_effect=fault),
             mock.patch.object(bulk.Sorter, "_write", side_effect=fault),
         ):
-            with broken, mock.patch.object(bulk, "BLOCK", 2), bulk.Sorter(8) as sorter:
+            with broken, mock.patch.object(bulk, "BLOCK", 2), bulk.Sorter() as sorter:
                 with self.assertRaises(WriteFault) as raised:
-                    sorter.add(bytes(16))
+                    sorter.add(bytes(2 * bulk.ROW))
             self.assertEqual(raised.exception.file, tempfile.gettempdir())
 
 
@@ -148,7 +148,7 @@ class Vectors(InFolder):
                 index = str(self.folder / f"{many}-{block}.gpkg")
                 with mock.patch.object(bulk, "MANY", many), mock.patch.object(bulk, "BLOCK", block):
                     cityseq.index(path, index)
-                dumps.append((dump(index), query(index, "SELECT * FROM feature_ids")))
+                dumps.append((dump(index), query(index, "PRAGMA integrity_check")))
         self.assertEqual(len(dumps[0][0][0]), 2_000)
         for other in dumps[1:]:
             self.assertEqual(other, dumps[0])
@@ -294,13 +294,12 @@ class Uniform(InFolder):
             self.assertTrue(opened.is_changed)
 
 
-class Hashes(InFolder):
-    """Features are found by the hash of their ids."""
+class ManyIds(InFolder):
+    """Features are found by their ids."""
 
-    ALIKE = ("plumless", "buckeroo")  # two words with one CRC-32
+    ALIKE = ("plumless", "buckeroo")
 
-    def test_ids_with_one_hash(self):
-        self.assertEqual(*(zlib.crc32(word.encode()) for word in self.ALIKE))
+    def test_ids_that_are_repeated(self):
         names = ["a", *self.ALIKE, "b", self.ALIKE[0], "a"]
         path = self.file(HEADER + b"".join(map(feature, names)), "s.city.jsonl")
         index = str(self.folder / "it.gpkg")
@@ -314,20 +313,17 @@ class Hashes(InFolder):
             found = [(each.id, [line for _, line in each.places]) for each in opened.repeated_ids()]
         self.assertEqual(found, [("a", [2, 7]), (self.ALIKE[0], [3, 6])])
 
-    def test_halves_of_a_hash(self):
-        """A number of a feature may have the bytes of a hash."""
-        hashes = [0x0001_0002, 0x0001_0003, 0x0001_0002, 0x0002_0002, 0xFFFF_FFFF]
-        numbers = [0x0002_0003, 0x0000_0200, 0x0302_0002, 2, (1 << 32) - 1]
-        rows = candidates.id_rows(hashes, numbers)
-        joined = b"".join(sorted(rows[at : at + 8] for at in range(0, len(rows), 8)))
-        with closing(sqlite3.connect(":memory:")) as base:
-            base.execute("CREATE TABLE feature_ids (key INTEGER PRIMARY KEY, entries BLOB)")
-            candidates.write_ids(base, [joined[:16], joined[16:]])
-            found = sorted(candidates._found(base, [(each, each) for each in sorted(set(hashes))]))
-            self.assertEqual(found, sorted(zip(numbers, hashes)))
-            candidates.find_alike(base)
-            alike = base.execute("SELECT hash, fid FROM temp.alike ORDER BY fid").fetchall()
-        self.assertEqual(alike, [(0x0001_0002, 0x0002_0003), (0x0001_0002, 0x0302_0002)])
+    def test_how_ids_are_found(self):
+        """SQLite searches the features by their ids, and reads no others."""
+        path = self.file(HEADER + b"".join(map(feature, "abc")), "s.city.jsonl")
+        index = str(self.folder / "it.gpkg")
+        cityseq.index(path, index)
+        with cityseq.Index(index) as opened, opened._base.reading():
+            candidates.want(opened._base, b"a\nc")
+            plan = opened._base.execute(f"EXPLAIN QUERY PLAN {candidates.WANTED}").fetchall()
+            found = opened._base.execute(candidates.WANTED).fetchall()
+        self.assertEqual(found, [(1,), (3,)])
+        self.assertIn("SEARCH features USING INDEX features_id (id=?)", [row[3] for row in plan])
 
     def test_ids_by_chance(self):
         chance = random.Random(3)
@@ -346,17 +342,13 @@ class Hashes(InFolder):
         counts = {name: names.count(name) for name in names}
         self.assertEqual(twice, {name: count for name, count in counts.items() if count > 1})
 
-    def test_entries_that_no_index_has(self):
-        path = self.file(HEADER + feature("a"), "s.city.jsonl")
+    def test_without_the_index_of_ids(self):
+        path = self.file(HEADER + b"".join(map(feature, "aba")), "s.city.jsonl")
         index = str(self.folder / "it.gpkg")
-        for value in ("'text'", "x'00'", "7"):
-            cityseq.index(path, index)
-            with closing(sqlite3.connect(index)) as base:
-                base.execute(f"UPDATE feature_ids SET entries = {value}")
-                base.execute("UPDATE cityseq_index SET changed = 0")
-                base.commit()
-            with self.subTest(value), cityseq.Index(index) as opened:
-                with self.assertRaises(cityseq.OutOfDate), opened.select(ids=["a"]) as features:
-                    list(features)
-                with self.assertRaises(cityseq.OutOfDate):
-                    list(opened.repeated_ids())
+        cityseq.index(path, index)
+        with closing(sqlite3.connect(index)) as base:
+            base.execute("DROP INDEX features_id")
+        with cityseq.Index(index) as opened:
+            with opened.select(ids=["a"]) as features:
+                self.assertEqual([each.line for each in features], [2, 4])
+            self.assertEqual([each.id for each in opened.repeated_ids()], ["a"])

@@ -1,10 +1,12 @@
 """The names that `import *` gives, and the statuses."""
 import builtins
+import gzip
 import io
 import json
 import os
 import subprocess
 import sys
+import tempfile
 import unittest
 
 import cityseq
@@ -34,6 +36,37 @@ class Layers(unittest.TestCase):
         settings = {**os.environ, "PYTHONPATH": os.path.join(ROOT, "python")}
         ran = subprocess.run([sys.executable, "-c", code], capture_output=True, env=settings)
         self.assertEqual((ran.stdout, ran.stderr), (b"['engine']\n", b""))
+
+    def test_a_request_for_a_box_loads_few(self):
+        code = (
+            "import sys, cityseq; index, = sys.argv[1:];"
+            "found = list(cityseq.Index(index).select(box='0,0,9,9'));"
+            "print(len([name for name in sys.modules if name.split('.')[0] == 'cityseq']) <= 20)"
+        )
+        settings = {**os.environ, "PYTHONPATH": os.path.join(ROOT, "python")}
+        with tempfile.TemporaryDirectory() as folder:
+            index = os.path.join(folder, "town.gpkg")
+            cityseq.index(os.path.join(ROOT, "examples/town.city.jsonl"), index)
+            words = [sys.executable, "-c", code, index]
+            ran = subprocess.run(words, capture_output=True, env=settings)
+        self.assertEqual((ran.stdout, ran.stderr), (b"True\n", b""))
+
+
+class Loaded(unittest.TestCase):
+    def test_a_check_of_a_packed_file_loads_few_modules(self):
+        code = (
+            "import sys; from cityseq.cli import main; main(sys.argv[1:]);"
+            "print(sum(name.split('.')[0] == 'cityseq' for name in sys.modules))"
+        )
+        with tempfile.TemporaryDirectory() as folder:
+            path = os.path.join(folder, "town.city.jsonl.gz")
+            with gzip.open(path, "wb") as file:
+                file.write(HEADER + PLAIN)
+            words = [sys.executable, "-c", code, "check", "--quiet", path]
+            settings = {**os.environ, "PYTHONPATH": os.path.join(ROOT, "python")}
+            ran = subprocess.run(words, capture_output=True, env=settings)
+        self.assertEqual(ran.stderr, b"")
+        self.assertLessEqual(int(ran.stdout), 12)
 
 
 class Statuses(unittest.TestCase):

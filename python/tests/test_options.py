@@ -21,6 +21,7 @@ class Plain(InFolder):
             (Options(Limits(line=50)), {"line_limit": 50}),
             (Options(Limits(depth=3), jobs=2, part_size=99), {"depth": 3, "jobs": 2}),
             (Options(tree=True), {"tree": True}),
+            (Options(extensions=True), {"extensions": True}),
             (Options(), {}),
         ):
             with self.subTest(options=options):

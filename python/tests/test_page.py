@@ -18,8 +18,8 @@ from .support import InFolder
 
 try:
     extras.need_all()
+    from cityseq import delivery as lists
     from cityseq.delivery import page
-    from cityseq.delivery import report as lists
 
     MISSING = None
 except extras.PackageMissing as fault:

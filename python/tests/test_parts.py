@@ -153,7 +153,7 @@ class Vectors(unittest.TestCase):
 
     def test_check_and_info(self):
         for row in support.rows():
-            if row["query"] not in ("-", "--tree"):
+            if not {"-", "--tree", "--extensions"}.issuperset(row["query"].split()):
                 continue
             wanted = support.wanted_of(row)[1:]
             for result in (

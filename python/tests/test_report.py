@@ -11,7 +11,7 @@ from unittest import mock
 
 import cityseq
 from cityseq import delivery as extras
-from cityseq.delivery import report as report_run
+from cityseq import delivery as report_run
 
 from . import support
 from .support import HEADER, InFolder, command, feature
@@ -120,11 +120,12 @@ class Command(InFolder):
     def test_a_disk_that_is_full(self):
         """No file may have more than 64 KB, or 4: a temporary file would, and then the page."""
         for count, wanted in (
-            (3_000, "/tmp: write fault: File too large\n"),
+            (12_000, "/tmp: write fault: disk I/O error\n"),
             (1, "delivery.html: write fault: File too large\n"),
         ):
             path = self.file(
-                HEADER + b"".join(feature(f"f{number}") for number in range(count)), "stream.jsonl"
+                HEADER + b"".join(feature(f"{number:0240}") for number in range(count)),
+                "stream.jsonl",
             )
             limit = 65_536 if count > 1 else 4_096
             ran = subprocess.run(
@@ -148,7 +149,7 @@ class Command(InFolder):
         for name in extras.PACKAGES:
             code = (
                 f"import sys; sys.modules[{name!r}] = None\n"
-                "from cityseq.cli.main import main; sys.exit(main(sys.argv[1:]))"
+                "from cityseq.cli import main; sys.exit(main(sys.argv[1:]))"
             )
             ran = subprocess.run(
                 [sys.executable, "-c", code, "report", "--output", self.page, self.good],

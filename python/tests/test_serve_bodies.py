@@ -48,6 +48,7 @@ class Verdicts(Served):
                 ("", ()),
                 ("?keep_going", ("--keep-going",)),
                 ("?tree=true&depth=20", ("--tree", "--depth", "20")),
+                ("?extensions=true", ("--extensions",)),
                 ("?keep_going=true&summary=true", ("--keep-going", "--summary")),
             ):
                 answer = self.server.ask(f"/check{query}", "POST", text)

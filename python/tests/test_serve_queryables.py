@@ -81,11 +81,11 @@ class Documents(Asked):
 
     def test_conformance_without_lark(self):
         from cityseq.serve import documents as resources
-        from cityseq.serve import queryables
+        from cityseq.serve import parameters
         from cityseq.serve.settings import Limits
 
         with mock.patch.dict(sys.modules, {"lark": None}):
-            self.assertFalse(queryables.has_filters())
+            self.assertFalse(parameters.has_filters())
             table = resources.table(Limits())
         named = {each for resource in table for each in resource.conforms}
         self.assertEqual(named & FILTERS, set())

@@ -382,7 +382,7 @@ class Safety(Served):
             ("web = None", "this version of aiohttp cannot be used: "),
         ):
             (self.folder / "aiohttp.py").write_text(text)
-            code = f"import sys; sys.path.insert(0, {str(self.folder)!r}); from cityseq.cli.main import main; sys.exit(main(['serve']))"
+            code = f"import sys; sys.path.insert(0, {str(self.folder)!r}); from cityseq.cli import main; sys.exit(main(['serve']))"
             ran = subprocess.run(
                 [sys.executable, "-c", code],
                 stderr=subprocess.PIPE,

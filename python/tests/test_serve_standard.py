@@ -331,7 +331,7 @@ class Definition(Served):
                 }
 
     def test_parameters(self):
-        judging = {"keep_going", "tree", "line_limit", "depth", "max_reports"}
+        judging = {"keep_going", "tree", "extensions", "line_limit", "depth", "max_reports"}
         wanted = {
             "/collections/town/items": {
                 "bbox",

@@ -12,7 +12,7 @@ import time
 import unittest
 
 import cityseq
-from cityseq.sources.outputs import write_all
+from cityseq.sources import write_all
 
 from . import support
 from .support import HEADER, PLAIN, InFolder, feature

@@ -11,7 +11,7 @@ import unittest
 from decimal import Decimal
 
 import cityseq
-from cityseq.engine.faults import quoted, shown
+from cityseq.engine import quoted, shown
 from cityseq.engine.hints import met
 from cityseq.engine.judge import asked
 from cityseq.engine.reports import excerpt_of, find_id

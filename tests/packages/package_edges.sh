@@ -90,10 +90,11 @@ row_memory_for_four_threads_is_enough_for_eight() {
 
 row_what_nobody_expected() {
   "$python" -c 'import sys
-from cityseq.cli import main, stream_commands
+from cityseq import cli
+from cityseq.cli import stream_commands
 def asked(*_, **__): raise KeyError("x")
 stream_commands.asked = asked
-sys.exit(main.main(["check", "-"]))' > "$scratch/out" 2> "$scratch/said" < /dev/null
+sys.exit(cli.main(["check", "-"]))' > "$scratch/out" 2> "$scratch/said" < /dev/null
   same 70 $? && same 1 "$(wc -l < "$scratch/said")" && grep -q 'KeyError.*please report' "$scratch/said"
 }
 
@@ -154,16 +155,32 @@ is_out_of_memory() {
 }
 
 # A folder with room for a first look, and not for the rows that an index sorts.
-row_a_full_folder_of_temporary_files() {
+# Indexes a stream while the folder of temporary files is full, and checks what it says.
+index_without_temporary_room() {
   mkdir "$scratch/small"
   mount -t tmpfs -o size=64k tmpfs "$scratch/small" 2> "$scratch/noise" || return 0  # it takes root
-  stream 300000 > "$scratch/stream"
   head -c 49152 /dev/zero > "$scratch/small/filler"
   TMPDIR=$scratch/small SQLITE_TMPDIR=$scratch/small cityseq index --output "$scratch/it.gpkg" "$scratch/stream" \
     > "$scratch/out" 2> "$scratch/said"
   local status=$?
   umount "$scratch/small"
-  same "4 $scratch/small: write fault: No space left on device" "$status $(cat "$scratch/said")"
+  same "4 $scratch/small: write fault: $1" "$status $(cat "$scratch/said")" && ! [ -e "$scratch/it.gpkg" ]
+}
+
+# Boxes are sorted by the package.
+row_a_full_folder_of_temporary_files() {
+  local feature='{"type":"CityJSONFeature","id":"b","CityObjects":{"b":{"type":"Building","geometry":[{"type":"MultiPoint","lod":"1","boundaries":[0]}]}},"vertices":[[0,0,0]]}'
+  stream 70000 > "$scratch/stream"
+  index_without_temporary_room 'No space left on device'
+}
+
+# Ids are sorted by SQLite.
+row_a_full_folder_of_the_temporary_files_of_sqlite() {
+  local id
+  id=$(printf 'b%.0s' {1..400})
+  local feature='{"type":"CityJSONFeature","id":"'$id'","CityObjects":{"'$id'":{"type":"Building"}},"vertices":[]}'
+  stream 40000 > "$scratch/stream"
+  index_without_temporary_room 'no space left for temporary files'
 }
 
 # Runs a row, and counts it.

@@ -2,26 +2,23 @@
 
 A column has no type while rows are written, so each value keeps its own. If texts come after
 numbers, the numbers that are there become texts at the end. A number with an unusual spelling waits
-in a file until then."""
+in a temporary table until then."""
 from __future__ import annotations
 
 import re
 import sqlite3
-import tempfile
-from collections.abc import Iterable, Iterator, Mapping, Sequence
-from contextlib import suppress
+from collections.abc import Iterable, Mapping, Sequence
 from dataclasses import dataclass, field
-from typing import Any, NamedTuple
+from typing import Any
 
-from ..engine.faults import RequestError, write_fault
+from ..engine import RequestError
 from ..engine.records import Column, Same, stored
 from ..indexes import geopackage
-from ..indexes.geopackage import ATTRIBUTES, readable
-from .values import ALL, MOST, Asked, Columns, Spelled, number_of
+from ..indexes.geopackage import ATTRIBUTES, Attribute, quoted, readable
+from . import ALL, MOST, Asked, Columns, Spelled, number_of
 
 LONGEST = 100  # characters of the name of a column
 EXACT = 1 << 53  # whole numbers up to this are floats too
-HELD = 1 << 20  # bytes of spellings that wait in memory
 COLUMNS = ("fid", "geom", "line", "begin", "length", "id", *geopackage.UNIFORM)
 TAKEN = ("bytes", "rowid", "oid", "_rowid_")  # names in GeoJSON, and others that SQLite knows
 BOOL, WHOLE, WIDE, REAL, TEXT = 1, 2, 4, 8, 16  # kinds of values; WIDE is a whole number
@@ -39,12 +36,6 @@ CREATE TABLE {ATTRIBUTES} (
   fid INTEGER PRIMARY KEY NOT NULL, name TEXT NOT NULL, name_exact BLOB,
   column_name TEXT NOT NULL, type TEXT NOT NULL, format TEXT, first_fid INTEGER)
 """
-
-
-def quoted(name: str) -> str:
-    """Returns the name of a column as SQL has it."""
-    escaped = name.replace('"', '""')
-    return f'"{escaped}"'
 
 
 def checked_names(names: str | Iterable[str]) -> Asked:
@@ -189,57 +180,21 @@ class AttributeColumn:
             ]
 
     def column_of(
-        self, values: list[Any], spellings: Spellings, number: int, fids: range
+        self, values: list[Any], base: sqlite3.Connection, number: int, fids: range
     ) -> Column:
         """Returns values as rows have them. Spellings that may be needed at the end are kept."""
         if self.is_text:
             return values if self.kinds == TEXT else list(map(_spelling, values))
         types = set(map(type, values))
         if bool in types and self.kinds != BOOL or Spelled in types:
-            for fid, value in zip(fids, values):
-                if isinstance(value, (bool, Spelled)):
-                    spellings.add(number, fid, str(_spelling(value)))
+            unusual = [
+                (number, fid, _spelling(value))
+                for fid, value in zip(fids, values)
+                if isinstance(value, (bool, Spelled))
+            ]
+            base.executemany("INSERT INTO temp.spellings VALUES (?,?,?)", unusual)
             values = [number_of(each) if isinstance(each, Spelled) else each for each in values]
         return Same(None) if types == {type(None)} else values
-
-
-class Spellings:
-    """How some numbers are spelled, in a file that has no name."""
-
-    def __init__(self) -> None:
-        self._file: Any = None
-
-    def add(self, attribute: int, fid: int, spelled: str) -> None:
-        """Keeps how the value of a feature is spelled.
-
-        Raises:
-            WriteFault: The folder of temporary files takes no more.
-        """
-        try:
-            if self._file is None:
-                self._file = tempfile.SpooledTemporaryFile(HELD, "w+", encoding="ascii")
-            self._file.write(f"{attribute} {fid} {spelled}\n")
-        except OSError as fault:
-            raise write_fault(fault, tempfile.gettempdir()) from fault
-
-    def of(self, attribute: int) -> Iterator[tuple[str, int]]:
-        """Yields how values of an attribute are spelled, and the features."""
-        if self._file is None:
-            return
-        try:
-            self._file.seek(0)
-            for line in self._file:
-                number, fid, spelled = line.split()
-                if int(number) == attribute:
-                    yield spelled, int(fid)
-        except OSError as fault:
-            raise write_fault(fault, tempfile.gettempdir()) from fault
-
-    def close(self) -> None:
-        """Removes the file."""
-        if self._file is not None:
-            with suppress(OSError):  # it writes what waits
-                self._file.close()
 
 
 class AttributeColumns:
@@ -250,7 +205,6 @@ class AttributeColumns:
         self.names = names
         self._columns = ColumnNames([*COLUMNS, *TAKEN])
         self._found: dict[str, AttributeColumn] = {}
-        self._spellings = Spellings()
 
     @property
     def are_last(self) -> bool:
@@ -259,6 +213,7 @@ class AttributeColumns:
 
     def begin(self, base: sqlite3.Connection) -> None:
         """Adds the columns whose names are known."""
+        base.execute("CREATE TEMP TABLE spellings (attribute INTEGER, fid INTEGER, spelled TEXT)")
         for name in () if self.names == ALL else self.names:
             self._add(base, name)
 
@@ -287,7 +242,7 @@ class AttributeColumns:
                 columns.append(Same(None))
                 continue
             attribute.meet(values, fids)
-            columns.append(attribute.column_of(values, self._spellings, number, fids))
+            columns.append(attribute.column_of(values, base, number, fids))
         return columns
 
     def end(self, base: sqlite3.Connection) -> None:
@@ -315,15 +270,12 @@ class AttributeColumns:
         if attribute.first.get(BOOL, attribute.only_bools) < attribute.only_bools:
             base.execute(f"{update}{bools} WHERE fid < ? AND {is_number}", (attribute.only_bools,))
         base.execute(f"{update}spelling({name}) WHERE {is_number}")
-        base.executemany(f"{update}? WHERE fid = ?", self._spellings.of(number))
+        select = "SELECT spelled, fid FROM temp.spellings WHERE attribute = ?"
+        base.executemany(f"{update}? WHERE fid = ?", base.execute(select, (number,)))
 
     def unmet(self) -> list[str]:
         """Returns the names of attributes that no feature has."""
         return [each.name for each in self._found.values() if not each.kinds]
-
-    def close(self) -> None:
-        """Removes what waits in a file."""
-        self._spellings.close()
 
 
 def _set_types(base: sqlite3.Connection, attributes: list[AttributeColumn]) -> None:
@@ -343,24 +295,6 @@ def _set_types(base: sqlite3.Connection, attributes: list[AttributeColumn]) -> N
     types = {row[1]: row[2] for row in base.execute("PRAGMA table_info(features)")}
     if any(types.get(each.column) != each.type for each in attributes):
         raise sqlite3.DatabaseError("the types of columns cannot be written")
-
-
-class Attribute(NamedTuple):
-    """An attribute of an index.
-
-    Attributes:
-        name: Its name in the streams.
-        column: The name of its column.
-        type: The type of its column.
-        format: `boolean`, `date` or `date-time` if all values are so, or None.
-        first: The first feature that shows the type, if any has a value.
-    """
-
-    name: str
-    column: str
-    type: str
-    format: str | None
-    first: int | None
 
 
 def properties_of(told: Mapping[str, Any], known: Mapping[str, Attribute]) -> dict[str, Any]:

@@ -9,7 +9,7 @@ from functools import lru_cache
 from itertools import chain
 from typing import Any, NamedTuple, Union
 
-from ..engine.faults import RequestError, shown
+from ..engine import RequestError, shown
 from .columns import FORMATS
 
 LONGEST = 10_000  # characters

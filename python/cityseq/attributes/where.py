@@ -10,11 +10,11 @@ from functools import lru_cache
 from math import copysign, inf
 from typing import Any, NamedTuple, Union
 
-from ..engine.faults import RequestError
-from ..engine.faults import quoted as in_quotes
-from ..engine.faults import shown
-from ..indexes.geopackage import readable
-from .columns import FORMATS, Attribute, quoted
+from ..engine import RequestError
+from ..engine import quoted as in_quotes
+from ..engine import shown
+from ..indexes.geopackage import Attribute, quoted, readable
+from .columns import FORMATS
 from .cql2 import (
     DEEPEST,
     MOST,
@@ -123,6 +123,13 @@ class Pattern:
             if found is not None:
                 return found.end()
         return -1
+
+
+def is_like(pattern: Any, text: Any, look: Callable[[], object]) -> bool | None:
+    """Returns whether a text is like a pattern. None for other values."""
+    if not isinstance(text, str) or not isinstance(pattern, str):
+        return None
+    return pattern_of(pattern).matches(text, look)
 
 
 @lru_cache(maxsize=256)

@@ -3,8 +3,8 @@ from __future__ import annotations
 
 from ..convert.collecting import collect
 from ..convert.splitting import split
-from ..engine.faults import RequestError, shown
-from ..sources.outputs import refuse_read
+from ..engine import RequestError, shown
+from ..sources import refuse_read
 from .output import put, say
 from .requests import CollectStreams, SplitFile
 from .stream_commands import files_of

@@ -4,25 +4,21 @@ from __future__ import annotations
 import os
 from collections.abc import Iterator, Sequence
 from contextlib import contextmanager, suppress
-from dataclasses import replace
 from functools import partial
 from typing import Any
 
-from .. import __version__
-from ..engine import USUAL_DEPTH, USUAL_LINE
-from ..engine.faults import RequestError, shown
+from ..engine import USUAL_DEPTH, USUAL_LINE, RequestError, shown
 from ..engine.judge import Work
 from ..indexes.cut import cut, cut_each
 from ..indexes.line_reader import IndexedStream
 from ..indexes.lookup import Index
 from ..run import Result
-from ..sources import size_of
-from ..sources.outputs import Limit, Writer, refuse_read
+from ..sources import refuse_read
+from ..sources.outputs import Limit, Writer
 from ..sources.packed import LEVEL
 from .filter_outputs import make_folder, targets_of
-from .json_output import result_object
+from .options import RULES, Filter
 from .output import Bar, printer_for, say
-from .requests import RULES, Filter
 from .stream_commands import ids_of, texts_of, unmatched_of
 
 # Options of `filter` that an index has no answer to, and why.
@@ -56,10 +52,10 @@ def _refuse(request: Filter, index: Index) -> None:
     for name, why in UNFIT.items():
         if getattr(request, name):
             raise RequestError(why)
-    usual = {"line_limit": USUAL_LINE, "depth": USUAL_DEPTH, "tree": False, "keep_going": False}
+    limits = {"line_limit": USUAL_LINE, "depth": USUAL_DEPTH}
     for name in RULES:
         value = getattr(request, name)
-        if value not in (usual[name], getattr(index, name)):
+        if value not in (limits.get(name, False), getattr(index, name)):
             option = f"--{name.replace('_', '-')}"
             raise RequestError(
                 f"{index.path}: its streams were not judged with this {option}: build it with it"
@@ -79,7 +75,7 @@ def _cut(request: Filter, index: Index) -> int:
     if not request.quiet:
         _say_packed(index)
     rules = {name: getattr(index, name) for name in RULES}
-    judged = replace(request, **rules)  # as the lines were judged
+    judged = Filter(**{**vars(request), **rules})  # as the lines were judged
     unmatched = unmatched_of(request, ids)
     see = unmatched.see if unmatched is not None and unmatched.is_exact else None
     worst = features = 0
@@ -88,8 +84,7 @@ def _cut(request: Filter, index: Index) -> int:
         writer = partial(Writer, level=request.level or LEVEL, see=see)
         for result in _results(request, index, work, outputs, writer):
             worst, features = max(worst, result.status), features + result.features
-            made = result_object(result, judged, __version__, size_of(result.file), None)
-            printer.result(result, lambda made=made: made)  # type: ignore[misc]
+            printer.result(result)
     if not request.quiet and not request.json:
         _say_left_out(index)
     if unmatched is not None:

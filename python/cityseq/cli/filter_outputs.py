@@ -4,19 +4,17 @@ from __future__ import annotations
 
 import json
 import os
-import re
 from collections.abc import Sequence
 from typing import Any
 
-from ..engine.faults import RequestError, quoted, shown, write_fault
+from ..engine import RequestError, quoted, shown, write_fault
 from ..engine.reports import USUAL_BEGIN, find_id
 from ..sources.packed import Text
+from .options import Filter
 from .output import put, say
-from .requests import Filter
 
 SHOWN = 5  # ids that are shown
 MOST = 100_000  # ids that are looked for in kept lines
-_BEGIN = re.compile(USUAL_BEGIN)
 
 
 def _name_in(folder: str, file: str, keeps_folders: bool) -> str:
@@ -89,7 +87,7 @@ def ids_in(text: Text) -> set[bytes]:
     while begin < len(lines):
         end = lines.find(b"\n", begin)
         end = len(lines) if end < 0 else end
-        usual = _BEGIN.match(lines, begin, end)
+        usual = USUAL_BEGIN.match(lines, begin, end)
         spelled = None if usual is None else usual.group(1)
         if spelled is not None and b"\\" not in spelled:
             found.add(spelled[1:-1])

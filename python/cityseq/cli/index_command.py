@@ -2,25 +2,20 @@
 from __future__ import annotations
 
 import json
-from collections.abc import Iterator, Sequence
 from functools import partial
 
 from .. import __version__
+from ..attributes import ALL
 from ..attributes.columns import checked_names
-from ..attributes.values import ALL
-from ..engine import keep_room
-from ..engine.faults import RequestError, quoted, shown
-from ..engine.judge import Work, asked
-from ..indexes.builder import Builder
-from ..indexes.details import Wanted
+from ..engine import RequestError, keep_room, quoted, shown
+from ..engine.judge import asked
+from ..indexes.builder import Builder, Wanted
 from ..indexes.index_lines import shown_object
 from ..indexes.index_run import Indexed, by_threads, checked, written
 from ..indexes.lookup import Index
 from ..run import Result
-from ..sources import size_of
-from ..sources.outputs import refuse_same, refuse_standard
-from .json_output import result_object
-from .output import Bar, Printer, printer_for, put, say
+from ..sources import refuse_same, refuse_standard
+from .output import Bar, printer_for, put, say
 from .requests import WriteIndex
 from .stream_commands import files_of, total_of
 
@@ -84,13 +79,7 @@ def _build(request: WriteIndex) -> int:
         raise RequestError("an index is written to a file: name it by --output")
     wanted = _wanted(request)
     files = _files(request, output)
-    work = asked(
-        "check",
-        line_limit=request.line_limit,
-        depth=request.depth,
-        keep_going=request.keep_going,
-        tree=request.tree,
-    )
+    work = asked("check", **request.rules)
     keep_room()
     worst = 0
     with Bar(total_of(files, request.progress), request.progress) as bar:
@@ -99,11 +88,23 @@ def _build(request: WriteIndex) -> int:
         def take(result: Result) -> None:
             nonlocal worst
             worst = max(worst, result.status)
-            size = size_of(result.file)
-            printer.result(result, lambda: result_object(result, request, __version__, size, None))
+            printer.result(result)
 
         builder = Builder(output, wanted)
-        streams = _streams(request, files, work, builder, printer, bar)
+        size, is_elsewhere = request.part_size, request.cluster is not None
+        streams = (
+            Indexed(
+                number,
+                file,
+                work,
+                builder,
+                size,
+                printer.report,
+                partial(bar.add, file),
+                is_elsewhere,
+            )
+            for number, file in enumerate(files, 1)
+        )
         begun: list[Indexed] = []
         noted = (begun.append(each) or each for each in streams)  # type: ignore[func-returns-value]
         if request.cluster is None:
@@ -129,26 +130,4 @@ def _say_slow(packed: list[str]) -> None:
         say(
             f"{shown(packed[0]) if len(packed) == 1 else several}: a cut unpacks all of it;"
             " run 'cityseq-run pack' on it and index it again, to make cuts fast"
-        )
-
-
-def _streams(
-    request: WriteIndex,
-    files: Sequence[str],
-    work: Work,
-    builder: Builder,
-    printer: Printer,
-    bar: Bar,
-) -> Iterator[Indexed]:
-    for number, file in enumerate(files, 1):
-        progress = partial(bar.add, file)
-        yield Indexed(
-            number,
-            file,
-            work,
-            builder,
-            request.part_size,
-            printer.report,
-            progress,
-            request.cluster is not None,
         )

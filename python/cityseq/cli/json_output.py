@@ -4,16 +4,15 @@ from __future__ import annotations
 import json
 import os
 from collections import Counter
-from collections.abc import Callable
 from typing import TYPE_CHECKING, Any
 from urllib.parse import quote
 
 from .. import __version__
-from ..engine.faults import RequestError, quoted, shown
+from ..engine import RequestError, quoted, shown
 from ..engine.reports import Report, explain
 from ..run import Info, Result
+from .options import Check, Request
 from .output import Bar, Object, Printer, put
-from .requests import Check, Request
 
 if TYPE_CHECKING:
     from decimal import Decimal
@@ -100,14 +99,12 @@ def _of_info(info: Info) -> Object:
     }
 
 
-def result_object(
-    result: Result, request: Request, program: str, size: int | None, sha256: str | None
-) -> Object:
+def result_object(result: Result, request: Request, size: int | None, sha256: str | None) -> Object:
     """Returns the object of a file's result, without the reports."""
     members = {
         "file": result.file,
         "command": request.command,
-        "cityseq": program,
+        "cityseq": __version__,
         "options": request.options,
         "size": size,
         "sha256": sha256,
@@ -135,9 +132,7 @@ def reasons_object(codes: Counter[int]) -> Object:
     )
 
 
-def record_object(
-    result: Result, request: Request, program: str, invalid: Reports, state: Object
-) -> Object:
+def record_object(result: Result, request: Request, invalid: Reports, state: Object) -> Object:
     """Returns a line of a record: the state of a file, its result, and its invalid lines."""
     first = invalid.first
     return object_of(
@@ -146,7 +141,7 @@ def record_object(
             "file": result.file,
             **state,
             "command": request.command,
-            "cityseq": program,
+            "cityseq": __version__,
             "options": request.options,
             **_counts(result),
             "line": None if first is None else first.line,
@@ -202,7 +197,7 @@ class SarifPrinter(Printer):
     """Prints one SARIF log to standard output, piece by piece. It keeps no report in memory."""
 
     def __init__(self, request: Check, bar: Bar) -> None:
-        super().__init__(request, bar)
+        super().__init__(request, bar, False)
         if request.json or request.summary or request.quiet or request.resume:
             raise RequestError(
                 "--format prints all: leave --json, --summary, --quiet and --resume out"
@@ -228,7 +223,7 @@ class SarifPrinter(Printer):
         text = f"{file}: {self._count} lines are invalid, and --max-reports left out {count}"
         self._notifications.append(_notification("warning", text, file))
 
-    def print_result(self, result: Result, extra: Callable[[], Object]) -> None:
+    def print_result(self, result: Result, sha256: str | None) -> None:
         if result.fault is not None:
             file = result.fault_file or result.file
             self._is_successful = False

@@ -9,24 +9,26 @@ import os
 import sys
 import time
 from collections import Counter
-from collections.abc import Callable, Iterator
+from collections.abc import Iterator
 from contextlib import suppress
 from dataclasses import dataclass, field
 from importlib import import_module
 from typing import TYPE_CHECKING, Any, TextIO
 
-from ..engine.faults import fitting, quoted, shown, write_fault
+from ..engine import fitting, quoted, shown, write_fault
 from ..run import Info, Result
-from ..sources.outputs import write_all
-from .requests import Check, Filter
-from .requests import Info as InfoRequest
-from .requests import WriteIndex
+from ..sources import size_of, write_all
+from .options import Check
 
 if TYPE_CHECKING:
     from ..engine.reports import Report
+    from .options import Filter
+    from .options import Info as InfoRequest
+    from .requests import WriteIndex
+
+    PrintRequest = Check | Filter | InfoRequest | WriteIndex
 
 Object = dict[str, Any]
-PrintRequest = Check | Filter | InfoRequest | WriteIndex
 ON_A_TERMINAL = 1_000  # reports of one file that are printed there
 MORE = "more lines may be invalid: use --keep-going"
 BOLD, RED, GREEN, PLAIN = "\x1b[1m", "\x1b[31m", "\x1b[32m", "\x1b[0m"
@@ -252,16 +254,22 @@ class Reports:
 
 class Printer:
     """Prints each report as it comes, up to the wanted number, and the result of each file. A
-    report that ends a run is printed with the result, so after all output before it."""
+    report that ends a run is printed with the result, so after all output before it. This class
+    prints text: for standard input only what the program writes, for files also some help."""
 
-    def __init__(self, request: PrintRequest, bar: Bar) -> None:
-        self._request, self._bar = request, bar
+    def __init__(self, request: PrintRequest, bar: Bar, has_many: bool) -> None:
+        self._request, self._bar, self._has_many = request, bar, has_many
         self._codes: Counter[int] = Counter()
         self._count = 0  # reports of the current file
         self._has_hints = self._has_rest = False
         self._most = request.max_reports
         if self._most is None and self._is_cut_on(sys.stderr):
             self._most = ON_A_TERMINAL
+        self._has_colour = (
+            is_terminal(sys.stderr)
+            and not os.environ.get("NO_COLOR")
+            and os.environ.get("TERM") != "dumb"
+        )
 
     def _is_cut_on(self, output: Any) -> bool:
         """Whether there are fewer reports on this output than on others."""
@@ -281,8 +289,8 @@ class Printer:
     def _are_printed(self) -> bool:
         return not self._request.quiet and not self._request.summary
 
-    def result(self, result: Result, extra: Callable[[], Object]) -> None:
-        """Prints the result of a file. `extra` makes its object."""
+    def result(self, result: Result, sha256: str | None = None) -> None:
+        """Prints the result of a file, with the hash of the file if that is wanted."""
         if result.end is not None and result.fault is None:
             self._has_hints = bool(result.hints)
             self._has_rest = self._has_rest or result.end.line > 1
@@ -290,7 +298,7 @@ class Printer:
         if self._most is not None and self._count > self._most and self._are_printed():
             self.print_more(result.file, self._count - self._most)
         self._count = 0
-        self.print_result(result, extra)
+        self.print_result(result, sha256)
 
     def skipped(self, file: str, recorded: Object) -> None:
         """Prints what a record has about a file that is skipped."""
@@ -300,41 +308,12 @@ class Printer:
 
     def close(self) -> None:
         """Prints how often each reason occurred, if `--summary` asks for it."""
-        if self._request.summary and not self._request.quiet:
+        request = self._request
+        if request.summary and not request.quiet:
             self.print_summary(self._codes)
-
-    def print_report(self, report: Report) -> None:
-        """Prints a report."""
-        raise NotImplementedError
-
-    def print_more(self, file: str, count: int) -> None:
-        """Prints how many more reports there are."""
-        raise NotImplementedError
-
-    def print_result(self, result: Result, extra: Callable[[], Object]) -> None:
-        """Prints the result of a file."""
-        raise NotImplementedError
-
-    def print_skipped(self, file: str, recorded: Object) -> None:
-        """Prints what a record has about a file that is skipped."""
-        raise NotImplementedError
-
-    def print_summary(self, codes: Counter[int]) -> None:
-        """Prints how often each reason occurred."""
-        raise NotImplementedError
-
-
-class TextPrinter(Printer):
-    """Prints text: for standard input only what the program writes, for files also some help."""
-
-    def __init__(self, request: PrintRequest, bar: Bar, has_many: bool) -> None:
-        super().__init__(request, bar)
-        self._has_many = has_many
-        self._has_colour = (
-            is_terminal(sys.stderr)
-            and not os.environ.get("NO_COLOR")
-            and os.environ.get("TERM") != "dumb"
-        )
+        is_wanted = isinstance(request, Check) and not (request.quiet or request.is_plain)
+        if is_wanted and self._has_rest and not request.keep_going and not request.json:
+            self._say(MORE)
 
     def _say(self, *lines: str) -> None:
         self._bar.clear()
@@ -353,6 +332,7 @@ class TextPrinter(Printer):
         return f"{colour}{text}{PLAIN}" if self._has_colour else text
 
     def print_report(self, report: Report) -> None:
+        """Prints a report."""
         if self._request.is_plain:
             self._say(str(report))
         else:
@@ -373,13 +353,15 @@ class TextPrinter(Printer):
             yield f"    Fix: {report.explanation.fix.split('. ')[0].rstrip('.')}."
 
     def print_more(self, file: str, count: int) -> None:
+        """Prints how many more reports there are."""
         lines = "line is" if count == 1 else "lines are"
         self._say(
             f"{self._of(file)}{count:,} more {lines} invalid:"
             " --max-reports sets how many are shown, --summary counts them"
         )
 
-    def print_result(self, result: Result, extra: Callable[[], Object]) -> None:
+    def print_result(self, result: Result, sha256: str | None) -> None:
+        """Prints the result of a file."""
         if result.fault is not None:
             self._say(self._fault(result, result.fault))
             return
@@ -389,7 +371,7 @@ class TextPrinter(Printer):
         if result.end is None and isinstance(result, Info):
             lines = info_lines(result, self._request.is_plain)
             self._put([self._of(result.file) + line for line in lines])
-        elif result.end is None and isinstance(self._request, (Check, WriteIndex)):
+        elif result.end is None and self._request.command != "filter":
             numbers = counts(result.lines, result.features, result.refused)
             self._put([f"{self._of(result.file)}{result.status.verdict} {numbers}"])
 
@@ -400,22 +382,17 @@ class TextPrinter(Printer):
         return f"{shown(result.fault_file or result.file)}: {shown(words)}"
 
     def print_skipped(self, file: str, recorded: Object) -> None:
+        """Prints what a record has about a file that is skipped."""
         numbers = counts(recorded["lines"], recorded["features"], recorded["refused"])
         line = f"{recorded['verdict']} {numbers}, as recorded at {recorded['time']}"
         self._put([self._of(file) + shown(line)])
 
     def print_summary(self, codes: Counter[int]) -> None:
+        """Prints how often each reason occurred."""
         from ..engine.reports import explain  # few runs need it
 
         for code in sorted(codes):
             self._say(f"{codes[code]:7} {code} {explain(code).text}")
-
-    def close(self) -> None:
-        super().close()
-        request = self._request
-        is_wanted = isinstance(request, Check) and not (request.quiet or request.is_plain)
-        if is_wanted and self._has_rest and not request.keep_going:
-            self._say(MORE)
 
 
 class JsonPrinter(Printer):
@@ -425,7 +402,7 @@ class JsonPrinter(Printer):
     def _print(self, value: Object) -> None:
         self._bar.clear()
         text = json.dumps(value)
-        if isinstance(self._request, Filter) and self._request.writes_to_standard_output:
+        if self._request.writes_to_standard_output:
             say(text)
         else:
             put(text)
@@ -438,8 +415,10 @@ class JsonPrinter(Printer):
     def print_more(self, file: str, count: int) -> None:
         """Prints nothing: the result has the counts."""
 
-    def print_result(self, result: Result, extra: Callable[[], Object]) -> None:
-        self._print(extra())
+    def print_result(self, result: Result, sha256: str | None) -> None:
+        from .json_output import result_object
+
+        self._print(result_object(result, self._request, size_of(result.file), sha256))
 
     def print_skipped(self, file: str, recorded: Object) -> None:
         self._print(recorded)
@@ -456,4 +435,4 @@ def printer_for(request: PrintRequest, bar: Bar, has_many: bool) -> Printer:
         from .json_output import SarifPrinter  # few runs need it
 
         return SarifPrinter(request, bar)
-    return JsonPrinter(request, bar) if request.json else TextPrinter(request, bar, has_many)
+    return (JsonPrinter if request.json else Printer)(request, bar, has_many)

@@ -8,11 +8,11 @@ from collections.abc import Callable, Iterator, Sequence
 from dataclasses import dataclass, field
 from functools import partial
 
-from ..engine.faults import READ_FAULTS, CityseqError, ReadFault, RequestError, read_fault, shown
+from ..engine import READ_FAULTS, CityseqError, ReadFault, RequestError, read_fault, shown
 from ..run import number_of_jobs
 from ..run.streams import Job, Pool
-from ..sources import CHANGED, PIECE, Reader, Watch, opened, watch_of
-from ..sources.outputs import Writer, refuse_standard
+from ..sources import CHANGED, PIECE, Reader, Watch, opened, refuse_standard, watch_of
+from ..sources.outputs import Writer
 from ..sources.packed import (
     BLOCK,
     HEAD,

@@ -10,11 +10,10 @@ from collections.abc import Iterable
 from contextlib import suppress
 from typing import Any
 
-from ..engine.faults import RequestError, write_fault
-from ..sources import is_path
+from ..engine import RequestError, write_fault
+from ..sources import is_path, write_all
 from ..sources.hashes import state_now
-from ..sources.outputs import write_all
-from .requests import Check, Filter
+from .options import Check, Filter
 
 Object = dict[str, Any]
 LONGEST = 1 << 20  # bytes of a line that is read

@@ -4,20 +4,20 @@ from __future__ import annotations
 import json
 import shlex
 
-from ..delivery.report import How, checked, report
-from ..engine import keep_room
-from ..engine.faults import RequestError, shown
+from ..delivery import How, checked, report
+from ..engine import RequestError, keep_room, shown
 from ..engine.judge import asked
 from ..run import Result
-from ..sources.outputs import refuse_same, refuse_standard
-from .options import COMMANDS
+from ..sources import refuse_same, refuse_standard
+from . import program_name
+from .options import options_of
 from .output import Bar, counts, put, say
 from .requests import WriteReport
 from .stream_commands import files_of, total_of
 
 
-def run(request: WriteReport, program: str) -> int:
-    """Runs the command, and returns the status. `program` is the name that it was called with."""
+def run(request: WriteReport) -> int:
+    """Runs the command, and returns the status."""
     output = None if request.output == "-" else request.output
     if output is None and not request.json:
         raise RequestError("a report is written to a file: name it by --output")
@@ -28,13 +28,7 @@ def run(request: WriteReport, program: str) -> int:
     refuse_standard([*named, *lists])
     files, _ = checked(named, output)
     refuse_same(lists, [] if output is None else [output])
-    work = asked(
-        "check",
-        line_limit=request.line_limit,
-        depth=request.depth,
-        keep_going=True,
-        tree=request.tree,
-    )
+    work = asked("check", **{**request.rules, "keep_going": True})
     keep_room()
     with Bar(total_of(files, request.progress), request.progress) as bar:
 
@@ -42,7 +36,7 @@ def run(request: WriteReport, program: str) -> int:
             bar.clear()
             _print(result, request)
 
-        words = _words(request, program)
+        words = _words(request)
         whole = request.whole or None
         how = How(request.jobs, request.part_size, request.title, words, bar.add, take, whole)
         delivery = report(files, output, work, how)
@@ -51,12 +45,12 @@ def run(request: WriteReport, program: str) -> int:
     return delivery.status
 
 
-def _words(request: WriteReport, program: str) -> str:
+def _words(request: WriteReport) -> str:
     """Returns a command line that has the same effect."""
-    words = [program, "report"]
-    for option in COMMANDS["report"].options:
+    words = [program_name(), "report"]
+    for option in options_of(WriteReport):
         value = getattr(request, option.field)
-        if value != getattr(WriteReport, option.field):
+        if value != option.usual:
             words += [f"--{option.name}", *([] if option.value is None else [str(value)])]
     return shlex.join([*words, *request.files])
 

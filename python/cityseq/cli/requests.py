@@ -1,88 +1,57 @@
-"""What a command line asks for: one class for each command, and how values are read.
-
-The fields have the names of the options, and their usual values. The classes have no method that
-nothing calls, because each method takes time at the start."""
+"""What a command line for any other command asks for, and the table of all commands."""
 from __future__ import annotations
 
 import re
-from collections.abc import Callable
-from dataclasses import dataclass, field
-from typing import Any, ClassVar
+from argparse import ArgumentTypeError
 
-from ..engine import USUAL_DEPTH, USUAL_LINE
+from .options import (
+    CLUSTER,
+    DEPTH,
+    EXTENSIONS,
+    FILES_FROM,
+    JOBS,
+    JSON,
+    KEEP_GOING,
+    LEVEL,
+    LINE_LIMIT,
+    MAX_REPORTS,
+    MOST_BYTES,
+    NULL,
+    OUTPUT,
+    PROGRESS,
+    QUIET,
+    RUNS,
+    SUMMARY,
+    TREE,
+    WHOLE,
+    Check,
+    Filter,
+    Info,
+    Option,
+    Request,
+    flag,
+    size,
+    wanted,
+    whole_number,
+)
 
 NAME = re.compile(r'\s*(?:"((?:[^"]|"")*)"\s*|([^",][^,]*))(,|\Z)')
-UNITS = {"K": 10, "M": 20, "G": 30}  # each is a power of two
-SPELLED = re.compile(r"(\d{1,10})\s*([KMG])(?:i?B)?", re.IGNORECASE | re.ASCII)
-NUMBER = re.compile(r"\+?[0-9]+")
-MOST_DIGITS = 20
-RULES = ("line_limit", "depth", "tree", "keep_going")
-SELECTION = ("exclude", "id", "ids_from", "type", "lod", "bbox", "limit")
-
-
-def whole_number(least: int, greatest: int) -> Callable[[str], int]:
-    """Returns a function that reads a whole number between two. It raises `ValueError`."""
-
-    def read(text: str) -> int:
-        digits = text[1:] if text[:1] == "+" else text
-        if not NUMBER.fullmatch(text):
-            raise ValueError(f"{text!r} is not a whole number")
-        if len(digits.lstrip("0")) > MOST_DIGITS or not least <= int(digits) <= greatest:
-            raise ValueError(f"{digits} is not from {least} to {greatest}")
-        return int(digits)
-
-    return read
-
-
-def size(least: int, greatest: int) -> Callable[[str], int]:
-    """Returns a function that reads a number of bytes between two, such as 8M. K, M and G stand for
-    powers of 1,024. It raises `ValueError`."""
-    read_number = whole_number(0, greatest)
-
-    def read(text: str) -> int:
-        bits = UNITS.get(text[-1:].upper(), 0)
-        digits = text[:-1] if bits else text
-        if not NUMBER.fullmatch(digits):
-            raise ValueError(f"{text!r} is no number of bytes{_advice(text, least, greatest)}")
-        number = read_number(digits) << bits
-        if not least <= number <= greatest:
-            raise ValueError(f"{text} is not from {least} to {greatest}")
-        return number
-
-    return read
-
-
-def _advice(text: str, least: int, greatest: int) -> str:
-    """Returns the end of a sentence: how to write the number of bytes that is meant. If that cannot
-    be read, or is not between two, it is another number."""
-    found = SPELLED.fullmatch(text)
-    if found:
-        count, unit = int(found[1]), found[2].upper()
-        if least <= count << UNITS[unit] <= greatest:
-            return f": write it as {count}{unit} or {count << UNITS[unit]}"
-    return f", such as 8M or {8 << UNITS['M']}"
-
-
-def one_of(*words: str) -> Callable[[str], str]:
-    """Returns a function that reads one of these words. It raises `ValueError`."""
-
-    def read(text: str) -> str:
-        if text not in words:
-            raise ValueError(f"{text!r} is not {' or '.join(words)}")
-        return text
-
-    return read
+MOST_SECONDS = 1_000_000
 
 
 def names(text: str) -> list[str | None]:
     """Returns names that have commas between them. A name with a comma is in double quotes, and a
-    quote in it is doubled. None stands for the word `all` without quotes. Raises `ValueError`."""
+    quote in it is doubled. None stands for the word `all` without quotes.
+
+    Raises:
+        ArgumentTypeError: The text has other names.
+    """
     found: list[str | None] = []
     at, more = 0, ","
     while more:
         name = NAME.match(text, at)
         if name is None:
-            raise ValueError(f"{text!r} has no name from character {at + 1} on")
+            raise ArgumentTypeError(f"{text!r} has no name from character {at + 1} on")
         at, more = name.end(), name[3]
         plain = (name[2] or "").strip()
         found.append(name[1].replace('""', '"') if name[1] is not None else plain)
@@ -91,230 +60,240 @@ def names(text: str) -> list[str | None]:
     return found
 
 
-@dataclass(repr=False, eq=False)
-class Rules:
-    """How lines are judged."""
+class WriteIndex(Request):
+    """Write an index of streams as a GeoPackage; `filter` cuts streams by it
 
-    line_limit: int = USUAL_LINE
-    depth: int = USUAL_DEPTH
-    tree: bool = False
-    keep_going: bool = False
+    Examples:
+      {0} index --output region.gpkg region.city.jsonl more.city.jsonl
+      {0} filter --index region.gpkg --bbox 84000,447000,85000,448000 > tile.city.jsonl
+      {0} index --show region.gpkg
+      {0} index --refresh region.gpkg
 
-
-@dataclass(repr=False, eq=False)
-class Files:
-    """Which files are read, and by how many threads or by which cluster."""
-
-    files: list[str] = field(default_factory=list)
-    files_from: str | None = None
-    null: bool = False
-    jobs: int | None = None
-    part_size: int | None = None
-    cluster: str | None = None
-
-
-@dataclass(repr=False, eq=False)
-class Printing:
-    """What is printed."""
-
-    json: bool = False
-    quiet: bool = False
-    progress: bool = False
-    max_reports: int | None = None
-    summary: bool = False
-    sha256: bool = False
-
-
-@dataclass(repr=False, eq=False)
-class Recording:
-    """Which file records the results."""
-
-    record: str | None = None
-    resume: bool = False
-
-
-class Request:
-    """What a command line asks for.
-
-    Attributes:
-        command: The name of the command.
-        recorded: The fields that affect the result of a file, as a record and JSON have them.
+    The command judges each FILE as `check` does. OUTPUT is a GeoPackage with the extent of each
+    feature, which maps show, and the place of its line. If a stream is invalid, no index is made.
+    With --keep-going the index leaves out invalid lines, and lists them in the table `reports`.
+    An index describes the files as they are: build it again if one changes. If only their times
+    changed, as by a copy, --refresh reads the files and writes the new times.
+    See '{0} --help' for the exit status.
     """
 
-    command: ClassVar[str]
-    recorded: ClassVar[tuple[str, ...]] = RULES
-
-    @property
-    def options(self) -> dict[str, Any]:
-        """The options that affect the result of a file."""
-        return {name: getattr(self, name) for name in self.recorded}
-
-    @property
-    def is_plain(self) -> bool:
-        """Whether only standard input is read. Then all output is as the program's."""
-        return False
-
-
-class StreamRequest(Request, Rules, Files, Printing, Recording):
-    """Checks, filters or summarises streams."""
-
-    whole: ClassVar[bool] = False  # of requests without this option
-
-    @property
-    def is_plain(self) -> bool:
-        return not self.files and self.files_from is None and not self.whole
-
-    @property
-    def options(self) -> dict[str, Any]:
-        return {**super().options, **({"whole": True} if self.whole else {})}
+    command = "index"
+    runner = ".index_command:run"
+    line_limit, depth = LINE_LIMIT, DEPTH
+    keep_going, tree, extensions = KEEP_GOING, TREE, EXTENSIONS
+    output = wanted("Write the index to this file when all streams were read", "OUTPUT", str, "o")
+    footprints = flag("Add a layer with the ground of each feature, which takes longer")
+    attributes = wanted(
+        "Add a column for each of these attributes, or for `all`; write a name with a comma in"
+        " double quotes; the option may be repeated",
+        "NAMES",
+        names,
+    )
+    attributes.repeats = True
+    show = wanted(
+        "Describe an index, and list the ids that more than one feature has", "INDEX", str
+    )
+    refresh = wanted(
+        "Write the new times of streams into an index if their content is the same", "INDEX", str
+    )
+    files_from, null, jobs, part_size = RUNS
+    cluster = CLUSTER
+    json, max_reports, summary, progress, quiet = JSON, MAX_REPORTS, SUMMARY, PROGRESS, QUIET
 
 
-@dataclass(repr=False, eq=False)
-class Check(StreamRequest):
-    """Checks streams."""
-
-    command: ClassVar[str] = "check"
-    format: str | None = None
-    whole: bool = False  # type: ignore[misc]
-
-
-@dataclass(repr=False, eq=False)
-class Filter(StreamRequest):
-    """Copies the selected features of streams, which an index may find."""
-
-    command: ClassVar[str] = "filter"
-    recorded: ClassVar[tuple[str, ...]] = (*RULES, *SELECTION)
-    exclude: bool = False
-    id: str | None = None
-    ids_from: str | None = None
-    type: str | None = None
-    lod: str | None = None
-    bbox: str | None = None
-    limit: int | None = None
-    index: str | None = None
-    where: str | None = None
-    base: str | None = None
-    output: str = "-"
-    output_dir: str | None = None
-    keep_folders: bool = False
-    keep_partial: bool = False
-    level: int | None = None
-
-    @property
-    def is_plain(self) -> bool:
-        return super().is_plain and self.index is None
-
-    @property
-    def options(self) -> dict[str, Any]:
-        return {**super().options, **({} if self.where is None else {"where": self.where})}
-
-    @property
-    def writes_to_standard_output(self) -> bool:
-        """Whether kept lines go to standard output."""
-        return self.output == "-" and self.output_dir is None
-
-
-@dataclass(repr=False, eq=False)
-class Info(StreamRequest):
-    """Summarises streams."""
-
-    command: ClassVar[str] = "info"
-    lods: bool = False
-    whole: bool = False  # type: ignore[misc]
-
-
-@dataclass(repr=False, eq=False)
-class WriteIndex(Request, Rules, Files, Printing):
-    """Writes, shows or refreshes an index."""
-
-    command: ClassVar[str] = "index"
-    output: str | None = None
-    footprints: bool = False
-    attributes: list[str | None] | None = None
-    show: str | None = None
-    refresh: str | None = None
-
-
-@dataclass(repr=False, eq=False)
 class Pack(Request):
-    """Packs files so that they can be cut, or verifies archives."""
+    """Pack files so that a cut by an index reads only a part of them
 
-    command: ClassVar[str] = "pack"
-    files: list[str] = field(default_factory=list)
-    files_from: str | None = None
-    null: bool = False
-    output: str | None = None
-    verify: bool = False
-    level: int | None = None
-    jobs: int | None = None
-    progress: bool = False
-    quiet: bool = False
+    Examples:
+      {0} pack delivery/*.city.jsonl
+      {0} pack --output small.city.jsonl.gz large.city.jsonl.gz
+      {0} pack --verify delivery/*.gz
+
+    The command packs each FILE in blocks of 64 KB, each with its checksum (BGZF). gzip unpacks such
+    an archive as any other. `index` notes where its blocks are, and `filter --index` unpacks only
+    those that have selected features. The archive of FILE is FILE.gz, which must not be there yet.
+    A FILE that other programs packed is unpacked first. If its name ends in .gz, the archive takes
+    its place.
+    With --verify the command reads whole archives and compares all checksums. If the empty last
+    block is missing, an archive of blocks is cut short, and the status is 3.
+    See '{0} --help' for the exit status.
+    """
+
+    command = "pack"
+    runner = ".pack_command:run"
+    output = wanted("Write the archive of one FILE to this file", "OUTPUT", str, "o")
+    verify = flag("Read archives, report those that are broken or cut short, and pack nothing")
+    level = LEVEL
+    files_from, null, jobs = FILES_FROM, NULL, JOBS
+    progress, quiet = PROGRESS, QUIET
 
 
-@dataclass(repr=False, eq=False)
-class WriteReport(Request, Rules, Files, Printing):
-    """Writes a page about a delivery."""
+class WriteReport(Request):
+    """Write a page about a delivery: verdicts, contents, a map and invalid lines
 
-    command: ClassVar[str] = "report"
-    output: str | None = None
-    title: str | None = None
-    whole: bool = False
+    Examples:
+      {0} report --output delivery.html north.city.jsonl.gz south.city.jsonl.gz
+      {0} report --json delivery/*.gz > delivery.json
+
+    The command judges each FILE as `check --keep-going` does. OUTPUT is one page of HTML that loads
+    nothing. It shows whether each FILE is valid, what is in it, a map, the invalid lines with their
+    fixes, and the ids that more than one feature has. The page needs Jinja2 and matplotlib. The
+    status is that of `check`.
+    See '{0} --help' for the exit status.
+    """
+
+    command = "report"
+    runner = ".report_command:run"
+    line_limit, depth = LINE_LIMIT, DEPTH
+    tree, extensions, whole = TREE, EXTENSIONS, WHOLE
+    output = wanted(
+        "Write the page to this file, and all reports to NAME.reports.csv and .jsonl next to it",
+        "OUTPUT",
+        str,
+        "o",
+    )
+    title = wanted("The heading of the page [default: the name of OUTPUT]", "TITLE", str)
+    files_from, null, jobs, part_size = RUNS
+    json = flag("Write all facts as one object (see docs/report.schema.json)")
+    progress, quiet = PROGRESS, QUIET
 
 
-@dataclass(repr=False, eq=False)
 class SplitFile(Request):
-    """Makes a stream of a whole file."""
+    """Make a stream of a whole CityJSON file, with a feature for each main city object
 
-    command: ClassVar[str] = "split"
-    files: list[str] = field(default_factory=list)
-    output: str = "-"
-    line_limit: int = USUAL_LINE
-    quiet: bool = False
+    Examples:
+      {0} split town.city.json --output town.city.jsonl
+      {0} split town.city.json.gz | {0} check
+
+    OUTPUT is a stream: a header, and a feature for each main city object with all that its
+    `children` reach. Each part keeps its spelling, and only indices change. The command judges no
+    geometry: use `check` for that. If the file has a fault, the status is 1, standard error gives
+    its path in the file, and OUTPUT is not made.
+    See '{0} --help' for the exit status.
+    """
+
+    command, operands = "split", "[FILE]"
+    runner = ".convert_commands:run_split"
+    line_limit, output, quiet = LINE_LIMIT, OUTPUT, QUIET
 
 
-@dataclass(repr=False, eq=False)
 class CollectStreams(Request):
-    """Makes one CityJSON object of streams."""
+    """Make one whole CityJSON file of streams
 
-    command: ClassVar[str] = "collect"
-    files: list[str] = field(default_factory=list)
-    files_from: str | None = None
-    null: bool = False
-    output: str = "-"
-    line_limit: int = USUAL_LINE
-    depth: int = USUAL_DEPTH
-    quiet: bool = False
+    Examples:
+      {0} collect town.city.jsonl --output town.city.json
+      {0} collect north.city.jsonl.gz south.city.jsonl.gz --output region.city.json.gz
 
+    OUTPUT is one CityJSON object with the city objects of each STREAM, in order. Equal vertices are
+    there once. The transforms must be equal, or shift by whole multiples of the scale. Two features
+    may have one id only if they are equal.
+    See '{0} --help' for the exit status.
+    """
 
-@dataclass(repr=False, eq=False)
-class Explain(Request):
-    """Explains the code of a reason."""
-
-    command: ClassVar[str] = "explain"
-    files: list[str] = field(default_factory=list)
+    command, operands = "collect", "[STREAM]..."
+    runner = ".convert_commands:run_collect"
+    line_limit, depth = LINE_LIMIT, DEPTH
+    output, files_from, null, quiet = OUTPUT, FILES_FROM, NULL, QUIET
 
 
-@dataclass(repr=False, eq=False)
 class Serve(Request):
-    """Serves streams by their indexes, and a page to check files on."""
+    """Serve streams by their indexes, and a page that checks files
 
-    command: ClassVar[str] = "serve"
-    files: list[str] = field(default_factory=list)
-    host: str = "127.0.0.1"
-    port: int = 8080
-    url: str | None = None
-    cors: str | None = None
-    base: str | None = None
-    jobs: int | None = None
-    max_requests: int = 100
-    max_bodies: int = 32
-    max_body: int = 16 << 30
-    max_whole: int = 64 << 20
-    max_features: int = 100_000
-    max_seconds: int = 3_600
-    idle_seconds: int = 30
-    min_rate: int = 1_000
-    stop_seconds: int = 10
-    line_limit: int = USUAL_LINE
-    depth: int = USUAL_DEPTH
-    quiet: bool = False
+    Examples:
+      {0} serve region.gpkg
+      {0} serve --host 0.0.0.0 --url https://city.example.org/ region.gpkg
+      curl --data-binary @delivery.city.jsonl.gz http://127.0.0.1:8080/check
+      ogrinfo -al -oo PAGE_SIZE=1000 OAPIF:http://127.0.0.1:8080/
+
+    The command serves the streams of each INDEX as OGC API - Features, and a page that checks
+    files. It judges a body as it comes, and stores nothing. Without INDEX there is only the page.
+    Standard output has a line for each request. Ctrl-C or a signal stops the server, with status 0.
+    It needs aiohttp and Jinja2 for Python.
+    """
+
+    command, operands = "serve", "[INDEX]..."
+    runner = "..serve:run"
+    host = Option(
+        "Listen at this address, or at all addresses of this name", "HOST", str, "127.0.0.1"
+    )
+    port = Option("Listen at this port; 0 is a free one", "PORT", whole_number(0, 65_535), 8080)
+    url = wanted("Begin links with this URL, which clients use", "URL", str)
+    cors = wanted("Let the pages of this origin read the answers; * is any origin", "ORIGIN", str)
+    base = wanted("Read the streams from a web server, below this URL", "URL", str)
+    jobs = JOBS
+    max_requests = Option(
+        "Answer at most this many requests without a body at once",
+        "N",
+        whole_number(1, 100_000),
+        100,
+    )
+    max_bodies = Option("Take at most this many bodies at once", "N", whole_number(1, 100_000), 32)
+    max_body = Option(
+        "Reject a body of more bytes, also after it is unpacked",
+        "BYTES",
+        size(1, MOST_BYTES),
+        16 << 30,
+    )
+    max_whole = Option(
+        "Reject a whole CityJSON file of more bytes; each takes up to 4 times as many in memory",
+        "BYTES",
+        size(1, MOST_BYTES),
+        64 << 20,
+    )
+    max_features = Option(
+        "Write at most this many features in an answer", "N", whole_number(1, 10_000_000), 100_000
+    )
+    max_seconds = Option(
+        "End a request that takes longer", "SECONDS", whole_number(1, MOST_SECONDS), 3_600
+    )
+    idle_seconds = Option(
+        "End a request whose client is silent for longer",
+        "SECONDS",
+        whole_number(1, MOST_SECONDS),
+        30,
+    )
+    min_rate = Option(
+        "End a request whose client sends or takes fewer bytes a second",
+        "BYTES",
+        size(1, MOST_BYTES),
+        1_000,
+    )
+    stop_seconds = Option(
+        "Give open answers this long to end when the server stops",
+        "SECONDS",
+        whole_number(0, MOST_SECONDS),
+        10,
+    )
+    line_limit, depth = LINE_LIMIT, DEPTH
+    quiet = flag("Log no requests", "q")
+
+
+class Explain(Request):
+    """Explain the code of a reason, and how to fix the line
+
+    Examples:
+      {0} explain
+      {0} explain 25
+
+    Without CODE it lists all codes.
+    """
+
+    command, operands = "explain", "[CODE]"
+    runner = ".stream_commands:explain_code"
+
+
+COMMANDS: dict[str, type[Request]] = {
+    each.command: each
+    for each in (
+        Check,
+        Filter,
+        Info,
+        WriteIndex,
+        Pack,
+        WriteReport,
+        SplitFile,
+        CollectStreams,
+        Serve,
+        Explain,
+    )
+}

@@ -8,37 +8,30 @@ from collections.abc import Iterable, Iterator, Sequence
 from contextlib import closing, contextmanager
 from dataclasses import dataclass, field
 from functools import cached_property, partial
-from typing import TYPE_CHECKING, Any, Protocol
+from typing import TYPE_CHECKING, Any
 
 from .. import __version__
-from ..engine import keep_room, library
-from ..engine.faults import RequestError
+from ..engine import RequestError, keep_room, library
 from ..engine.judge import Work, asked
 from ..run import Result
 from ..run.streams import Results, Stream, results
-from ..sources import is_path, size_of, stream_of
-from ..sources.outputs import Limit, Writer, refuse_read
+from ..sources import is_path, refuse_read, size_of, stream_of
 from ..sources.packed import LEVEL
+from .options import Check, Filter, Info
+from .options import Request as AnyRequest
 from .output import Bar, Reports, is_terminal, printer_for, put, say
-from .requests import Check, Explain, Filter, Info
 
 if TYPE_CHECKING:
     from ..engine.reports import Report
+    from ..sources.outputs import Writer
     from .filter_outputs import UnmatchedIds
+    from .requests import Explain
 
 
 MARK = b"\xef\xbb\xbf"  # a byte order mark
 HASHES = 2  # files that are hashed at once
 UNKNOWN_OBJECT_TYPE = 19  # the code of this reason
 Request = Check | Filter | Info
-
-
-class _Listing(Protocol):
-    """A request that reads files, which may be in a list."""
-
-    files: list[str]
-    files_from: str | None
-    null: bool
 
 
 def _read(path: str, what: str) -> bytes:
@@ -77,7 +70,7 @@ def _names(text: bytes, null: bool) -> list[str]:
     return [os.fsdecode(name) for name in names if name]
 
 
-def files_of(request: _Listing, ids_from: str | None = None) -> tuple[str, ...]:
+def files_of(request: AnyRequest, ids_from: str | None = None) -> tuple[str, ...]:
     """Returns the files to read. Without any FILE and without a list it is standard input.
 
     Raises:
@@ -133,15 +126,9 @@ class _Begun:
 
 def _work_of(request: Request, ids: list[str] | bytes | None) -> Work:
     """Returns the work that the options ask for, checked."""
-    common: dict[str, Any] = dict(
-        line_limit=request.line_limit,
-        depth=request.depth,
-        keep_going=request.keep_going,
-        tree=request.tree,
-    )
     if not isinstance(request, Filter):
         exact_lods = isinstance(request, Info) and request.lods
-        return asked(request.command, exact_lods=exact_lods, **common)
+        return asked(request.command, exact_lods=exact_lods, **request.rules)
     return asked(
         "filter",
         exclude=request.exclude,
@@ -149,7 +136,7 @@ def _work_of(request: Request, ids: list[str] | bytes | None) -> Work:
         types=texts_of(request.type),
         lods=texts_of(request.lod),
         box=request.bbox,
-        **common,
+        **request.rules,
     )
 
 
@@ -256,17 +243,10 @@ class Run:
         """Prints the result of a file, records it, and returns its status."""
         begun = self._begun.popleft()
         sha256 = None if begun.digest is None else begun.digest.result()
-        self._printer.result(result, lambda: self._object(result, sha256))
+        self._printer.result(result, sha256 if self._request.sha256 else None)
         if self._record is not None:
             self._record.append(self._line(result, begun, sha256))
         return result.status
-
-    def _object(self, result: Result, sha256: str | None) -> dict[str, Any]:
-        from .json_output import result_object
-
-        size = size_of(result.file)
-        sha256 = sha256 if self._request.sha256 else None
-        return result_object(result, self._request, __version__, size, sha256)
 
     def _line(self, result: Result, begun: _Begun, sha256: str | None) -> dict[str, Any]:
         """Returns the line of a record for a file."""
@@ -286,7 +266,7 @@ class Run:
             "ids_sha256": self._ids_sha256,
             **output_state(begun.output if is_whole else None),
         }
-        line = record_object(result, self._request, __version__, begun.reports, state)
+        line = record_object(result, self._request, begun.reports, state)
         return {**line, "file": os.path.abspath(result.file)}
 
     def close(self) -> None:
@@ -298,7 +278,8 @@ def _writers(request: Request, files: Sequence[str], see: Any) -> list[Writer | 
     """Returns the writer of each file's output. Only `filter` has outputs."""
     if not isinstance(request, Filter):
         return [None] * len(files)
-    from .filter_outputs import targets_of  # `check` and `info` do without
+    from ..sources.outputs import Limit, Writer  # `check` and `info` do without
+    from .filter_outputs import targets_of
 
     writers: list[Writer | None] = []
     limit = Limit.of(request.limit)
@@ -404,6 +385,10 @@ def _judge_all(request: Request, work: Work, files: Sequence[str], see: Any) -> 
 def run(request: Request) -> int:
     """Does the work on each file, in order, and returns the greatest status."""
     query = request if isinstance(request, Filter) else None
+    if query is not None and (query.index, query.where, query.base) != (None, None, None):
+        from .cut_command import run as cut  # few runs need it
+
+        return cut(query)
     files = files_of(request, None if query is None else query.ids_from)
     ids = None if query is None else ids_of(query.id, query.ids_from, query.null)
     work = _work_of(request, ids)

@@ -11,8 +11,7 @@ from functools import partial
 from typing import Any
 
 from .. import __version__
-from ..engine import CallStatus
-from ..engine.faults import CityseqError, WriteFault, read_fault, write_fault
+from ..engine import CallStatus, CityseqError, WriteFault, read_fault, write_fault
 from ..engine.judge import Answer, Work, judge
 from ..run import Result
 from ..run.streams import Stream

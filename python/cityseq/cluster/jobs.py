@@ -14,7 +14,7 @@ from functools import partial
 from importlib import import_module
 from typing import Any
 
-from ..engine.faults import CityseqError, MemoryFault, ReadFault, RequestError, read_fault, why
+from ..engine import CityseqError, MemoryFault, ReadFault, RequestError, read_fault, why
 from ..engine.judge import Answer, Work
 from ..sources.ranges import RangeChunk
 from .tasks import Answered, engine, guard, judge_all

@@ -8,7 +8,7 @@ from dataclasses import dataclass, replace
 from functools import partial
 from typing import Any
 
-from ..engine.faults import CityseqError, ReadFault, RequestError
+from ..engine import CityseqError, ReadFault, RequestError
 from ..engine.judge import Answer
 from ..run.streams import Results, Stream, results_by
 from ..sources import is_path, is_url, name_of

@@ -12,15 +12,14 @@ from hashlib import blake2b
 from itertools import islice
 from typing import Any
 
-from ..engine import USUAL_DEPTH, USUAL_LINE, CallStatus, library
-from ..engine.faults import InvalidStream, RequestError
+from ..engine import USUAL_DEPTH, USUAL_LINE, CallStatus, InvalidStream, RequestError, library
 from ..engine.judge import Limits, Options, Work, held, work_of
 from ..engine.world import transform_of, units_of
 from ..run.features import fault_of
-from ..sources import Source, bytes_of, name_of
+from ..sources import Source, bytes_of, name_of, refuse_same
 from ..sources.chunks import Chunks
-from ..sources.outputs import Target, Whole, Writer, refuse_same
-from .spans import (
+from ..sources.outputs import Target, Whole, Writer
+from . import (
     DECODER,
     LIMIT,
     TOO_DEEP,

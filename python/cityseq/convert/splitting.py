@@ -17,11 +17,10 @@ from functools import partial
 from itertools import islice
 from typing import Any
 
-from ..engine import LINE_LIMITS, USUAL_LINE, library
-from ..engine.faults import InvalidStream
-from ..sources import Source, name_of
-from ..sources.outputs import Target, Writer, refuse_same
-from .spans import (
+from ..engine import LINE_LIMITS, USUAL_LINE, InvalidStream, library
+from ..sources import Source, name_of, refuse_same
+from ..sources.outputs import Target, Writer
+from . import (
     NAME,
     TOO_DEEP,
     Index,

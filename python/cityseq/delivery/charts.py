@@ -12,6 +12,7 @@ from typing import Any
 from xml.etree import ElementTree
 from xml.sax.saxutils import escape
 
+from ..coordinates import around
 from . import needed
 from .areas import rectangles
 from .facts import Area, Point, Rectangle
@@ -178,7 +179,7 @@ def coarse(area: Area) -> Area:
     """Returns an area with all features in few cells."""
     found = rectangles_of(area)
     counts = [1] * len(found) if area.extents else list(area.cells.values())
-    xmin, ymin, xmax, ymax = _around(found) if found else (0.0, 0.0, 0.0, 0.0)
+    xmin, ymin, xmax, ymax = around(found) if found else (0.0, 0.0, 0.0, 0.0)
     greatest = max(abs(edge) for edge in (xmin, ymin, xmax, ymax))
     side = max(xmax - xmin, ymax - ymin, greatest * 1e-9, 1e-300) / (COARSE - 1)
     size, cells = 2.0 ** math.ceil(math.log2(side)), {}  # type: tuple[float, dict[Any, int]]
@@ -188,15 +189,10 @@ def coarse(area: Area) -> Area:
     return replace(area, size=size, cells=cells, extents=[])
 
 
-def _around(found: Sequence[Rectangle]) -> Rectangle:
-    xmin, ymin, xmax, ymax = zip(*found)
-    return min(xmin), min(ymin), max(xmax), max(ymax)
-
-
 def view_of(area: Area) -> View:
     """Returns the part of the world with all features of an area, and invalid ones near them."""
     found = rectangles_of(area) or [(x, y, x, y) for x, y in area.spots]
-    xmin, ymin, xmax, ymax = _around(found)
+    xmin, ymin, xmax, ymax = around(found)
     reach = max(xmax - xmin, ymax - ymin) / 4
     near = [
         (x, y)
@@ -208,7 +204,7 @@ def view_of(area: Area) -> View:
 
 def _view(found: Sequence[Rectangle]) -> View:
     """Returns the part of the world with all these rectangles."""
-    xmin, ymin, xmax, ymax = _around(found)
+    xmin, ymin, xmax, ymax = around(found)
     least = max(1e-9, max(abs(edge) for edge in (xmin, xmax, ymin, ymax)) * 1e-12)
     wide, high = max(xmax - xmin, least), max(ymax - ymin, least)
     width = max(wide, high / STEEPEST) * (1 + 2 * MARGIN)
@@ -245,7 +241,7 @@ def map_of(area: Area, name: str) -> Map:
 
 def _overview(area: Area, name: str) -> str:
     """Draws where the features of a map are, and those that are far from them."""
-    near = _around(rectangles_of(area))
+    near = around(rectangles_of(area))
     view = _view([near, *area.places])
     made, axes = _blank(view)
     _fill(axes, [_box_of(near, view, LEAST * view.pixel)], "extent")

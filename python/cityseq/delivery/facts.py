@@ -8,7 +8,7 @@ from decimal import Decimal
 from typing import TYPE_CHECKING, Any, TypeVar
 
 from ..cli.json_output import exact, report_object
-from ..engine.faults import Status
+from ..engine import Status
 from ..engine.records import Range
 from ..engine.reports import Explanation, Report, explain
 
@@ -222,6 +222,7 @@ class Run:
     line_limit: int
     depth: int
     tree: bool
+    extensions: bool
 
 
 @dataclass
@@ -297,7 +298,9 @@ def delivery_object(delivery: Delivery) -> Object:
         "title": delivery.title,
         "cityseq": run.program,
         "command": run.words,
-        "options": {"line_limit": run.line_limit, "depth": run.depth, "tree": run.tree},
+        "options": {
+            name: getattr(run, name) for name in ("line_limit", "depth", "tree", "extensions")
+        },
         "time": run.time,
         "seconds": round(run.seconds, 3),
         "jobs": run.jobs,

@@ -8,7 +8,7 @@ import os
 from collections.abc import Iterator, Sequence
 from typing import Any
 
-from ..engine.faults import shown
+from ..engine import shown
 from ..engine.reports import Report, explain
 from ..engine.world import plain
 from . import needed

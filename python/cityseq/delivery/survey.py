@@ -3,41 +3,46 @@ up."""
 from __future__ import annotations
 
 import json
-from bisect import bisect_right
+import sqlite3
 from collections.abc import Callable, Iterable, Iterator, Sequence
-from contextlib import ExitStack, suppress
+from contextlib import ExitStack, contextmanager, suppress
 from dataclasses import dataclass, field, replace
 from decimal import DecimalException
 from functools import partial
-from itertools import chain, groupby
+from hashlib import blake2b
+from itertools import chain, groupby, islice
+from operator import itemgetter
 from typing import TYPE_CHECKING, Any
 
-from ..engine import LOD_CLASSES, Text, library
+from ..engine import LOD_CLASSES, Text, library, write_fault
 from ..engine.judge import Answer, Work, judge, refused_memory
-from ..engine.records import IdsOf, Range, Records, spelled_ids
+from ..engine.records import IdsOf, Range, Records, spelled_ids, unescaped
 from ..engine.reports import TOO_LONG, Invalid, Report
 from ..engine.world import box_of, extent_of, read_json
+from ..indexes.builder import temporary_folder
+from ..indexes.bulk import insert
 from ..indexes.geopackage import system_of
 from ..indexes.vectors import AXES, RECORD
 from ..run import Result
 from ..run.streams import Stream
 from ..sources import stream_of
 from ..sources.chunks import TAIL, Chunk
-from . import needed
+from . import Lists, needed
 from .areas import Place
-from .facts import Area, Contents, File, Named, Point, Reasons, Repeated
-from .repeated import Hash, Hashed, Ids, text_of
-from .report import Lists
+from .facts import Area, Contents, File, Named, Point, Reasons, Repeated, RepeatedId
 
 if TYPE_CHECKING:
-    from .report import How
+    from . import How
 
 np: Any = needed("numpy")
 
 TOGETHER = 8_192  # records that are taken at once: a part may have only a few
-MANY = 256  # features of a part whose ids are hashed by the thread that judges it
 MOST_REPORTS = 10_000  # reports that are kept for the table in the page
 NEAR_THE_END = 16 << 20  # bytes at the end of an invalid line that are searched for vertices
+LONGEST = 256  # bytes of an id that are kept
+MOST_IDS = 100  # ids that are listed
+MOST_PLACES = 10  # places of each id
+LINES = 40  # bits of a line in a place, which begins with the number of the file
 Ranges = tuple[Range, Range, Range]
 
 
@@ -150,7 +155,7 @@ class Entry:
 
     def contents(self) -> Contents:
         """Returns the contents of the features."""
-        types, lods = library().type_names(), LOD_CLASSES
+        types, lods = library().count_names(), LOD_CLASSES
         return Contents(
             self.features,
             {name: int(count) for name, count in zip(types, self.types) if count},
@@ -175,6 +180,93 @@ def _wider(before: Range, records: Any, axis: str) -> Range:
     )
 
 
+# ---- ids that several features have
+
+
+def ids_of(part: Text, raw: bytes) -> list[bytes]:
+    """Returns the ids of the features of a part, from its records. Of a long one it is the
+    beginning and a hash."""
+    ids = spelled_ids(part, raw)
+    if b"\\" in b"".join(ids):
+        ids = [unescaped(id).encode("utf-8", "surrogatepass") for id in ids]
+    if max(map(len, ids), default=0) < LONGEST:
+        return ids
+    return [id if len(id) < LONGEST else id[:LONGEST] + blake2b(id).digest() for id in ids]
+
+
+def text_of(id: bytes) -> str:
+    """Returns the text of an id, or its beginning if it is long."""
+    if len(id) < LONGEST:
+        return id.decode("utf-8", "surrogatepass")
+    return id[:LONGEST].decode("utf-8", "ignore") + "\u2026"
+
+
+@contextmanager
+def _writing() -> Iterator[None]:
+    """Turns an error of SQLite into a write fault."""
+    try:
+        yield
+    except sqlite3.Error as fault:
+        raise write_fault(fault, temporary_folder()) from fault
+
+
+class Ids:
+    """The ids of a delivery, in a temporary database. Leaving a `with` block removes it."""
+
+    def __init__(self) -> None:
+        self._base = sqlite3.connect("", isolation_level=None)
+        with _writing():
+            self._base.execute("PRAGMA journal_mode = OFF")
+            self._base.execute("CREATE TABLE ids (id BLOB NOT NULL, place INTEGER NOT NULL)")
+            self._base.execute("BEGIN")
+
+    def __enter__(self) -> Ids:
+        return self
+
+    def __exit__(self, *_: Any) -> None:
+        self._base.close()
+
+    def add(self, file: int, lines: Any, ids: list[bytes]) -> None:
+        """Takes the ids of features of a file, and an array of their lines.
+
+        Raises:
+            WriteFault: The temporary folder is full.
+        """
+        with _writing():
+            insert(self._base, "ids", ids, (lines + (file << LINES)).tolist())
+
+    def repeated(self, names: Sequence[str]) -> Repeated:
+        """Returns the ids that appear twice or more. `names` has the names of the files by number.
+
+        Raises:
+            WriteFault: The temporary folder is full.
+        """
+        with _writing():
+            self._base.execute(
+                "CREATE TEMP TABLE twice AS SELECT id, count(*) AS features, min(place) AS first"
+                " FROM ids GROUP BY id HAVING count(*) > 1"
+            )
+            select = "SELECT count(*), total(features) FROM twice"
+            ids, features = self._base.execute(select).fetchone()
+            first = f"FROM twice ORDER BY first LIMIT {MOST_IDS}"
+            places = self._base.execute(
+                f"SELECT id, place FROM ids WHERE id IN (SELECT id {first}) ORDER BY id, place"
+            )
+            placed = {
+                id: [_place(names, place) for _, place in islice(group, MOST_PLACES)]
+                for id, group in groupby(places, itemgetter(0))
+            }
+            listed = self._base.execute(f"SELECT id, features {first}")
+            told = [RepeatedId(text_of(id), count, placed[id]) for id, count in listed]
+        return Repeated(ids, int(features), told)
+
+
+def _place(names: Sequence[str], place: int) -> tuple[str, int]:
+    """Returns the file and the line of a feature."""
+    file, line = divmod(place, 1 << LINES)
+    return names[file], line
+
+
 # ---- the delivery
 
 
@@ -188,22 +280,13 @@ class Survey:
         self._lists = lists
         self._places: dict[str | None, Place] = {}
         self._stack = ExitStack()
-        self._ids, self._hash = self._stack.enter_context(Ids()), Hash()
+        self._ids = self._stack.enter_context(Ids())
 
     def __enter__(self) -> Survey:
         return self
 
     def __exit__(self, *_: Any) -> None:
         self._stack.close()
-
-    def ids_of(self, part: Text, raw: bytes) -> Any:
-        """Returns the ids of the features of a part, from its records: with their hashes if they
-        are many, otherwise as they are spelled. Any thread may call this."""
-        if len(raw) < MANY * RECORD.itemsize:
-            return spelled_ids(part, raw)
-        records = np.frombuffer(raw, RECORD)
-        begins = records["begin"] + records["id_begin"] + 1  # after the quote
-        return self._hash.of(part, begins, records["id_length"] - 2)
 
     def begin(self, number: int, header: bytes) -> Entry:
         """Begins a file, by its number from 0. The header is valid."""
@@ -236,29 +319,14 @@ class Survey:
         found = np.frombuffer(b"".join([records.raw for records, _ in waiting]), RECORD)
         counts = [len(records.ids) for records, _ in waiting]
         lines = found["line"] + np.repeat(np.array([lines for _, lines in waiting], "i8"), counts)
-        ends: list[int] = []
-        groups = list(self._hashed([records.ids for records, _ in waiting]))
-        for ids in groups:
-            begin = ends[-1] if ends else 0
-            ends.append(begin + len(ids))
-            self._ids.add(entry.number, lines[begin : ends[-1]], ids)
+        ids = list(chain.from_iterable(records.ids for records, _ in waiting))
+        self._ids.add(entry.number, lines, ids)
         name = self.files[entry.number].name
 
         def named(number: int, middle: Point) -> Named:
-            group = bisect_right(ends, number)
-            text = groups[group].text(number - ends[group])  # from the end
-            return Named(name, int(lines[number]), text_of(text), middle)
+            return Named(name, int(lines[number]), text_of(ids[number]), middle)
 
         entry.add(found, named)
-
-    def _hashed(self, parts: Sequence[Any]) -> Iterator[Hashed]:
-        """Yields the ids of parts with their hashes, those of many small parts together."""
-        for is_made, group in groupby(parts, lambda ids: isinstance(ids, Hashed)):
-            if is_made:
-                yield from group
-            else:
-                spellings = list(chain.from_iterable(group))
-                yield self._hash.of_spellings(spellings)
 
     def mark(self, entry: Entry, middles: list[Point]) -> None:
         """Takes the middles of invalid features, as vertices of the file."""
@@ -326,7 +394,7 @@ class Surveyed:
                 marked,
                 work=records,
                 size=how.size,
-                ids_of=survey.ids_of,
+                ids_of=ids_of,
                 is_marked=self._is_marked,
             ),
         )

@@ -1,27 +1,172 @@
 """The library `libcityseq.so`, called by `ctypes`: the structs, constants and functions of
-`c/cityseq.h`. A call runs without the interpreter's lock."""
+`c/cityseq.h`. A call runs without the interpreter's lock.
+
+Faults: what ends a run without a verdict, or without a valid stream. Each has the status that the
+program `cityseq` ends with. Its text is made safe for a terminal: streams and names of files can
+have characters that move the cursor or begin a new line."""
 from __future__ import annotations
 
 import ctypes
 import enum
+import json
 import os
 import resource
 import threading
 from collections.abc import Sequence
 from ctypes import POINTER, c_bool, c_char_p, c_int32, c_int64, c_size_t, c_uint32, c_uint64
-from typing import Any
+from typing import Any, TypeVar
 
-from .faults import LibraryMissing
-
+Fault = TypeVar("Fault", bound="CityseqError")
+READ_FAULTS = (OSError, EOFError, ValueError)  # what a read may raise
+MOST_SHOWN = 200  # characters of a text that are shown
 INTERFACE = 3
 LINE_LIMITS, DEPTH_LIMITS = (1, 1_073_741_824), (1, 1_024)
 USUAL_LINE, USUAL_DEPTH = 8_388_608, 64
-TYPES, LOD_CLASSES = 33, ("0", "1", "2", "3", "4", "other")
+TYPES, LOD_CLASSES = 34, ("0", "1", "2", "3", "4", "other")
 # Settings of `mallopt` in glibc (malloc.h). The first is how many free bytes make it return some
 # to the system. The second is how many bytes make it ask the system for a block. The third is how
 # many arenas there are. Each arena after the first reserves 64 MB of addresses, and has no room for
 # a longer block, as for a line of 6 MB. Many threads need less memory if each has an arena.
 _TRIM_THRESHOLD, _MMAP_THRESHOLD, _ARENA_MAX = -1, -3, -8
+
+
+class Status(enum.IntEnum):
+    """How a run ended. The number is the status that the program or the command ends with."""
+
+    VALID = 0
+    INVALID = 1
+    BAD_REQUEST = 2
+    READ_FAULT = 3
+    WRITE_FAULT = 4
+    NO_MEMORY = 5
+    UNEXPECTED = 70
+
+    __str__ = int.__repr__
+
+    @property
+    def verdict(self) -> str:
+        """`valid`, `invalid` or `fault`."""
+        return self.name.lower() if self <= Status.INVALID else "fault"
+
+
+class CityseqError(Exception):
+    """Any fault of this package. `words` say what it is, and `file` names its file, if there is
+    one. `result` is the result for the stream up to the fault. `__cause__` is the system's error,
+    if there is one."""
+
+    status = Status.BAD_REQUEST
+
+    def __init__(self, words: str, result: Any | None = None, file: str | None = None) -> None:
+        super().__init__(words)
+        self.words, self.result, self.file = words, result, file
+
+    def __str__(self) -> str:
+        return self.words if self.file is None else f"{self.file}: {self.words}"
+
+    def __reduce__(self) -> Any:
+        return type(self), (self.words, self.result, self.file), {"__cause__": self.__cause__}
+
+    @classmethod
+    def of(cls: type[Fault], what: str, cause: BaseException, file: str | None) -> Fault:
+        """Returns the fault for an error of the system: what failed, and why."""
+        fault = cls(f"{what}: {why(cause)}", None, file)
+        fault.__cause__ = cause
+        if isinstance(fault, OSError) and isinstance(cause, OSError):
+            fault.errno, fault.strerror, fault.filename = cause.errno, cause.strerror, file
+        return fault
+
+
+class RequestError(CityseqError, ValueError):
+    """A request that is not possible. Nothing was read."""
+
+
+class LibraryMissing(CityseqError, ImportError):
+    """`libcityseq.so` is missing, or is another library or version."""
+
+
+class InvalidStream(CityseqError, ValueError):
+    """A stream is invalid, so there is no whole output. If there is a `result`, its `end` is the
+    report."""
+
+    status = Status.INVALID
+
+
+class ReadFault(CityseqError, OSError):
+    """A source could not be opened, or a read failed."""
+
+    status = Status.READ_FAULT
+
+
+class MissingFile(ReadFault, FileNotFoundError):
+    """There is no file of this name."""
+
+
+class OutOfDate(ReadFault):
+    """An index does not match the current state of a stream. It must be built again."""
+
+    @classmethod
+    def because(cls, why: str, file: str) -> OutOfDate:
+        """Returns the fault with this reason, for this stream."""
+        return cls(f"index is out of date: {why}, build it again", None, file)
+
+
+class WriteFault(CityseqError, OSError):
+    """An output could not be opened, or a write failed."""
+
+    status = Status.WRITE_FAULT
+
+
+class MemoryFault(CityseqError, MemoryError):
+    """Memory was refused."""
+
+    status = Status.NO_MEMORY
+
+
+def why(fault: BaseException) -> str:
+    """Returns the text of an error, in one line."""
+    told = getattr(fault, "strerror", None) or str(fault) or type(fault).__name__
+    return " ".join(str(told).split())
+
+
+def read_fault(cause: BaseException, file: str | None) -> ReadFault:
+    """Returns the fault of a read with this cause."""
+    if isinstance(cause, ReadFault):
+        return cause
+    kind = MissingFile if isinstance(cause, FileNotFoundError) else ReadFault
+    return kind.of("read fault", cause, file)
+
+
+def write_fault(cause: BaseException, file: str | None) -> WriteFault:
+    """Returns the fault of a write with this cause."""
+    return cause if isinstance(cause, WriteFault) else WriteFault.of("write fault", cause, file)
+
+
+def _escaped(sign: str) -> str:
+    """Returns a character, escaped if it cannot be printed."""
+    if sign.isprintable():
+        return sign
+    return sign.encode("unicode_escape").decode() if sign > "\uffff" else f"\\u{ord(sign):04x}"
+
+
+def shown(text: str) -> str:
+    """Returns a text with each character escaped that cannot be printed: controls, marks of
+    direction, lone surrogates."""
+    return text if text.isprintable() else "".join(map(_escaped, text))
+
+
+def quoted(text: str) -> str:
+    """Returns a text as a JSON string. Characters that can be printed are not escaped. A long text
+    is cut after its beginning."""
+    return shown(
+        json.dumps(
+            text if len(text) <= MOST_SHOWN else f"{text[:MOST_SHOWN]}\u2026", ensure_ascii=False
+        )
+    )
+
+
+def fitting(text: str, encoding: str) -> str:
+    """Returns a text with a replacement for each character that the encoding lacks."""
+    return text.encode(encoding, "replace").decode(encoding)
 
 
 class CallStatus(enum.IntEnum):
@@ -48,59 +193,39 @@ FAULTS = {
 }
 
 
+def _members(kind: Any, names: str) -> list[tuple[str, Any]]:
+    """Returns the members of a struct that have one type."""
+    return [(name, kind) for name in names.split()]
+
+
 class RawRequest(ctypes.Structure):
     """`struct cityseq_request`."""
 
     _fields_ = [
-        ("line_limit", c_uint64),
-        ("depth_limit", c_uint64),
-        ("keep_going", c_bool),
-        ("tree", c_bool),
-        ("exclude", c_bool),
-        ("asks_ids", c_bool),
-        ("asks_types", c_bool),
-        ("asks_lods", c_bool),
-        ("asks_box", c_bool),
-        ("ids", c_char_p),
-        ("ids_length", c_size_t),
-        ("types", c_char_p),
-        ("types_length", c_size_t),
-        ("lods", c_char_p),
-        ("lods_length", c_size_t),
-        ("box", c_char_p),
-        ("box_length", c_size_t),
+        *_members(c_uint64, "line_limit depth_limit"),
+        *_members(c_bool, "keep_going tree exclude extensions"),
+        *_members(c_bool, "asks_ids asks_types asks_lods asks_box"),
+        *[
+            member
+            for name in ("ids", "types", "lods", "box")
+            for member in ((name, c_char_p), (f"{name}_length", c_size_t))
+        ],
     ]
 
 
 class RawReport(ctypes.Structure):
     """`struct cityseq_report`."""
 
-    _fields_ = [
-        ("line", c_uint64),
-        ("begin", c_uint64),
-        ("place", c_uint64),
-        ("code", c_uint64),
-    ]
+    _fields_ = _members(c_uint64, "line begin place code")
 
 
 class RawAnswer(ctypes.Structure):
     """`struct cityseq_answer`."""
 
-    _fields_ = [("status", c_uint32), ("code", c_uint32)] + [
-        (name, c_uint64)
-        for name in (
-            "line",
-            "place",
-            "lines",
-            "kept",
-            "refused",
-            "peak_bytes",
-            "peak_tokens",
-            "peak_depth",
-            "written",
-            "list",
-            "item",
-        )
+    _fields_ = [
+        *_members(c_uint32, "status code"),
+        *_members(c_uint64, "line place lines kept refused"),
+        *_members(c_uint64, "peak_bytes peak_tokens peak_depth written list item"),
     ]
 
 
@@ -134,17 +259,8 @@ class RawFeature(ctypes.Structure):
     """`struct cityseq_feature`."""
 
     _fields_ = [
-        ("line", c_uint64),
-        ("begin", c_uint64),
-        ("length", c_uint64),
-        ("id_begin", c_uint64),
-        ("id_length", c_uint64),
-        ("attributes_begin", c_uint64),
-        ("attributes_length", c_uint64),
-        ("objects", c_uint64),
-        ("geometries", c_uint64),
-        ("types", c_uint64),
-        ("lods", c_uint64),
+        *_members(c_uint64, "line begin length id_begin id_length"),
+        *_members(c_uint64, "attributes_begin attributes_length objects geometries types lods"),
         ("ranges", RawRange * 3),
     ]
 
@@ -230,20 +346,6 @@ def searchable(text: Text) -> tuple[bytes | bytearray, int, int]:
     return whole, begin, begin + len(text)
 
 
-class _Reports:
-    """Memory for the reports of one call."""
-
-    def __init__(self, room: int) -> None:
-        self._room = room
-        self._memory = _reports_room.of(room * REPORT)
-        first = ctypes.byref(RawReport.from_buffer(self._memory)) if room else None
-        self.given = first, room
-
-    def written(self, answer: RawAnswer) -> bytes:
-        """Returns the reports that the call wrote, one after another."""
-        return bytes(self._memory[: min(answer.refused, self._room) * REPORT])
-
-
 class Library:
     """The calls of the library. Any number of threads may make them at once. `room` is how many
     reports a call may write. They are returned as the library writes them."""
@@ -256,38 +358,33 @@ class Library:
         self, header: bytes, part: Text, request: RawRequest, room: int
     ) -> tuple[RawAnswer, bytes]:
         """Judges a header and a part. Returns the answer, and the first reports."""
-        reports = _Reports(room)
-        answer = self._calls.cityseq_check(*self._given(header, part, request), *reports.given)
-        return answer, reports.written(answer)
+        return self._judged(self._calls.cityseq_check, header, part, request, room)
 
     def filter(
         self, header: bytes, part: Text, request: RawRequest, room: int
     ) -> tuple[RawAnswer, bytes, bytearray]:
         """Does the same as `check`, and also returns the output."""
-        reports = _Reports(room)
-        output = bytearray(len(header) + len(part) + 1)
-        given = (*self._given(header, part, request), _pointed(output), len(output))
-        answer = self._calls.cityseq_filter(*given, *reports.given)
+        call, output = self._calls.cityseq_filter, bytearray(len(header) + len(part) + 1)
+        given = _pointed(output), len(output)
+        answer, reports = self._judged(call, header, part, request, room, *given)
         del given, output[answer.written :]
-        return answer, reports.written(answer), output
+        return answer, reports, output
 
     def tally(
         self, header: bytes, part: Text, request: RawRequest, room: int
     ) -> tuple[RawAnswer, bytes, RawTally]:
         """Does the same as `check`, and also returns the tally of the selected features."""
-        reports, tally = _Reports(room), RawTally()
-        given = (*self._given(header, part, request), ctypes.byref(tally))
-        answer = self._calls.cityseq_info(*given, *reports.given)
-        return answer, reports.written(answer), tally
+        call, tally = self._calls.cityseq_info, RawTally()
+        given = ctypes.byref(tally)
+        return *self._judged(call, header, part, request, room, given), tally
 
     def features(
         self, header: bytes, part: Text, request: RawRequest, room: int
     ) -> tuple[RawAnswer, bytes, RawFeatures]:
         """Does the same as `check`, and also returns the records of the kept features, at most
         `room` of them. It returns no reports."""
-        records = (RawFeature * max(room, 1))()
-        given = (*self._given(header, part, request), records, room)
-        answer = self._calls.cityseq_features(*given, None, 0)
+        call, records = self._calls.cityseq_features, (RawFeature * max(room, 1))()
+        answer, _ = self._judged(call, header, part, request, 0, records, room)
         return answer, b"", records[: min(answer.kept, room)]
 
     def records(
@@ -295,12 +392,10 @@ class Library:
     ) -> tuple[RawAnswer, bytes, bytes]:
         """Does the same as `features`, but writes the records to this memory, and returns reports.
         The last value has the bytes of the records that fit."""
-        reports, most = _Reports(room), len(memory) // FEATURE
-        first = ctypes.byref(RawFeature.from_buffer(memory))
-        given = (*self._given(header, part, request), first, most)
-        answer = self._calls.cityseq_features(*given, *reports.given)
-        records = bytes(memory[: min(answer.kept, most) * FEATURE])
-        return answer, reports.written(answer), records
+        call, most = self._calls.cityseq_features, len(memory) // FEATURE
+        given = ctypes.byref(RawFeature.from_buffer(memory)), most
+        answer, reports = self._judged(call, header, part, request, room, *given)
+        return answer, reports, bytes(memory[: min(answer.kept, most) * FEATURE])
 
     def answer_then(self, first: RawAnswer, after: RawAnswer, header_length: int) -> RawAnswer:
         """Returns the answer for a header with two parts, by those for the header with each."""
@@ -330,7 +425,12 @@ class Library:
         return self._text(self._calls.cityseq_reason_text, code)
 
     def type_names(self) -> tuple[str, ...]:
-        """Returns the names of the types of city objects, in their order. Asks for them once."""
+        """Returns the names of the types of city objects that CityJSON has, in their order."""
+        return self.count_names()[:-1]
+
+    def count_names(self) -> tuple[str, ...]:
+        """Returns the names of the counts of types: those of the types, and the last for all types
+        of extensions. Asks for them once."""
         if not self._type_names:
             self._type_names = tuple(
                 self._text(self._calls.cityseq_type_name, number) for number in range(TYPES)
@@ -338,8 +438,16 @@ class Library:
         return self._type_names
 
     @staticmethod
-    def _given(header: bytes, part: Text, request: RawRequest) -> tuple[Any, ...]:
-        return header, len(header), _pointed(part), len(part), ctypes.byref(request)
+    def _judged(
+        call: Any, header: bytes, part: Text, request: RawRequest, room: int, *given: Any
+    ) -> tuple[RawAnswer, bytes]:
+        """Makes a call with room for reports. Returns the answer, and the reports that it wrote,
+        one after another."""
+        memory = _reports_room.of(room * REPORT)
+        first = ctypes.byref(RawReport.from_buffer(memory)) if room else None
+        asked = header, len(header), _pointed(part), len(part), ctypes.byref(request)
+        answer = call(*asked, *given, first, room)
+        return answer, bytes(memory[: min(answer.refused, room) * REPORT])
 
     @staticmethod
     def _text(call: Any, number: int) -> str:

@@ -7,7 +7,7 @@ import re
 from collections.abc import Callable, Iterator
 from typing import Any
 
-from .faults import quoted
+from . import quoted
 from .reports import Report
 
 LONGEST = 1 << 20  # longer lines are not read as JSON
@@ -27,6 +27,7 @@ SECOND_HEADER = (
 Needs = tuple[
     str, dict[str, Any], tuple[str, ...]
 ]  # what an object is, the object, and the members that it needs
+Hint = Callable[[bytes, int, bool], "str | None"]
 HEAD = 65_536  # bytes that are read for a hint
 TYPING_ERROR = 0.9  # how similar a text is to a type that is misspelled
 NO_HEADER, NOT_EMPTY, SYNTAX = 1, 16, 4
@@ -168,32 +169,12 @@ def _kind(line: bytes, place: int, _: bool) -> str | None:
     return f"{what} is {KINDS.get(sign, 'a number')}"
 
 
-def _string(words: str) -> Callable[[bytes, int, bool], str | None]:
-    """Returns a function that describes the string at a place with these words."""
+def _told(read: Callable[[bytes, int], str | None], words: str, quote: bool = True) -> Hint:
+    """Returns a function that describes with these words what is read at a place."""
 
     def told(line: bytes, place: int, _: bool) -> str | None:
-        text = _string_at(line, place)
-        return None if text is None else words.format(quoted(text))
-
-    return told
-
-
-def _value(words: str) -> Callable[[bytes, int, bool], str | None]:
-    """Returns a function that describes the number at a place with these words."""
-
-    def told(line: bytes, place: int, _: bool) -> str | None:
-        word = _word_at(line, place)
-        return None if word is None else words.format(word)
-
-    return told
-
-
-def _owner(words: str) -> Callable[[bytes, int, bool], str | None]:
-    """Returns a function that describes the city object at a place with these words."""
-
-    def told(line: bytes, place: int, _: bool) -> str | None:
-        name = _name_before(line, place)
-        return None if name is None else words.format(quoted(name))
+        text = read(line, place)
+        return None if text is None else words.format(quoted(text) if quote else text)
 
     return told
 
@@ -218,24 +199,24 @@ def _object_type(line: bytes, place: int, _: bool) -> str | None:
     return f"the type is {quoted(text)}" + (f": {near} may be meant" if near else "")
 
 
-READERS: dict[int, Callable[[bytes, int, bool], str | None]] = {
+READERS: dict[int, Hint] = {
     10: _missing,
-    11: _string("the name is {}"),
+    11: _told(_string_at, "the name is {}"),
     12: _kind,
-    13: _value("the number begins with {}"),
-    14: _string("the type is {}"),
-    15: _string("the version is {}"),
-    18: _value("the number is {}"),
+    13: _told(_word_at, "the number begins with {}", False),
+    14: _told(_string_at, "the type is {}"),
+    15: _told(_string_at, "the version is {}"),
+    18: _told(_word_at, "the number is {}", False),
     19: _object_type,
-    20: _string("the id is {}"),
-    21: _string("the child is {}"),
-    22: _string("the id in the list is {}"),
-    23: _owner("the city object is {}"),
-    24: _string("the type is {}"),
-    25: _value("the index is {}"),
-    27: _value("the index is {}"),
-    28: _value("the template is {}"),
-    31: _owner("the city object is {}"),
+    20: _told(_string_at, "the id is {}"),
+    21: _told(_string_at, "the child is {}"),
+    22: _told(_string_at, "the id in the list is {}"),
+    23: _told(_name_before, "the city object is {}"),
+    24: _told(_string_at, "the type is {}"),
+    25: _told(_word_at, "the index is {}", False),
+    27: _told(_word_at, "the index is {}", False),
+    28: _told(_word_at, "the template is {}", False),
+    31: _told(_name_before, "the city object is {}"),
 }
 
 

@@ -18,6 +18,7 @@ from operator import itemgetter, le
 from typing import TypeVar
 
 from . import Text
+from .reports import UP_TO_ID
 
 MANY = 2_000  # bytes of ids for which this is worthwhile
 LONGER = 32  # if a part is this many times as long as the ids, they take little of the time
@@ -26,26 +27,7 @@ SPACE = rb"[ \t\r]*"
 VALUE = SPACE + b":" + SPACE + rb'("(?:[^"\\\x00-\x1f]|\\.)*")'
 ANYWHERE = re.compile(rb'"id"' + VALUE)
 ESCAPED = re.compile(rb'"(?:i|\\u0069)(?:d|\\u0064)"' + VALUE)
-# How most features begin, up to the id.
-BEGINNING = re.compile(
-    SPACE
-    + rb"\{"
-    + SPACE
-    + rb'(?:"type"'
-    + SPACE
-    + b":"
-    + SPACE
-    + b'"CityJSONFeature"'
-    + SPACE
-    + b","
-    + SPACE
-    + b")?"
-    + b'"id"'
-    + SPACE
-    + b":"
-    + SPACE
-    + b'"'
-)
+BEGINNING = re.compile(UP_TO_ID + b'"')
 UP_TO_QUOTE = re.compile(b"[\x00-!]")  # the signs that are less than a quote
 MORE = 4  # times as many ids as lines are not too many for a part
 FIRST = 20  # lines whose order is looked at before that of all

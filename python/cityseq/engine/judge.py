@@ -20,12 +20,14 @@ from . import (
     USUAL_DEPTH,
     USUAL_LINE,
     CallStatus,
+    CityseqError,
     RawAnswer,
     RawRequest,
+    RequestError,
     Text,
     library,
+    read_fault,
 )
-from .faults import CityseqError, RequestError, read_fault
 
 if TYPE_CHECKING:
     from decimal import Decimal
@@ -87,6 +89,7 @@ class Options:
         tree: Whether the main city object has to reach each other one of its feature.
         jobs: How many threads judge parts of the stream. None is one for each processor.
         part_size: How many bytes a part has. None is 4 MiB or less.
+        extensions: Whether types of city objects that begin with `+` are known, as extensions have.
     """
 
     limits: Limits = Limits()
@@ -94,6 +97,7 @@ class Options:
     tree: bool = False
     jobs: int | None = None
     part_size: int | None = None
+    extensions: bool = False
 
 
 def lines_of(texts: Iterable[str]) -> bytes:
@@ -156,6 +160,7 @@ class Work:
     depth: int = USUAL_DEPTH
     keep_going: bool = False
     tree: bool = False
+    extensions: bool = False
     exclude: bool = False
     ids: bytes | None = None
     types: bytes | None = None
@@ -195,6 +200,7 @@ def _request(work: Work, ids: bytes | None, line_limit: int) -> RawRequest:
         work.keep_going,
         work.tree,
         work.exclude,
+        work.extensions,
         *(text is not None for text in texts),
         *(given for text in texts for given in (text or b"", len(text or b""))),
     )
@@ -207,16 +213,14 @@ def asked(
     depth: int = USUAL_DEPTH,
     keep_going: bool = False,
     tree: bool = False,
-    exclude: bool = False,
-    ids: Texts | bytes | None = None,
-    types: Texts | None = None,
-    lods: Texts | None = None,
-    box: Box | None = None,
+    extensions: bool = False,
     exact_lods: bool = False,
+    **query: Any,
 ) -> Work:
-    """Returns the work for these options. Raises `RequestError` if they are not allowed."""
-    options = Options(Limits(line_limit, depth), keep_going, tree)
-    return work_of(kind, options, Query(ids, types, lods, box, exclude), exact_lods)
+    """Returns the work for these options and for a query with these conditions. Raises
+    `RequestError` if they are not allowed."""
+    options = Options(Limits(line_limit, depth), keep_going, tree, extensions=extensions)
+    return work_of(kind, options, Query(**query), exact_lods)
 
 
 def work_of(kind: str, options: Options, query: Query = Query(), exact_lods: bool = False) -> Work:
@@ -235,6 +239,7 @@ def work_of(kind: str, options: Options, query: Query = Query(), exact_lods: boo
         _limit(options.limits.depth, *DEPTH_LIMITS, "depth"),
         bool(options.keep_going),
         bool(options.tree),
+        bool(options.extensions),
         bool(query.exclude),
         _ids_of(query),
         _asked_lines(query.types, "types"),

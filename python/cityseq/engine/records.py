@@ -8,9 +8,7 @@ from collections import Counter
 from collections.abc import Callable, Iterable, Iterator, Sequence
 from dataclasses import dataclass, field, replace
 from functools import lru_cache
-from itertools import starmap
 from typing import Any, NamedTuple
-from zlib import crc32
 
 from . import FEATURE, LOD_CLASSES, RawAnswer, RawTally, Room, Text, library, searchable
 from .judge import Work, lines_of
@@ -56,7 +54,7 @@ class Tally:
     @property
     def types(self) -> dict[str, int]:
         """City objects by type, in the order of the table. Types without any are there too."""
-        return dict(zip(library().type_names(), self.told.types))
+        return dict(zip(library().count_names(), self.told.types))
 
     @property
     def classes(self) -> dict[str, int]:
@@ -71,7 +69,9 @@ class Tally:
 
     def joined(self, after: Tally) -> Tally:
         """Returns the tally of both. Python joins the texts of LoDs: the library has none."""
-        lods = None if self.lods is None or after.lods is None else _added(self.lods, after.lods)
+        lods = None
+        if self.lods is not None and after.lods is not None:
+            lods = dict(Counter(self.lods) + Counter(after.lods))
         lods = None if lods is not None and len(lods) > MOST_TEXTS else lods
         is_full = len(self.unasked) > MOST_UNASKED
         return Tally(
@@ -79,13 +79,6 @@ class Tally:
             lods,
             self.unasked if is_full else self.unasked | after.unasked,
         )
-
-
-def _added(one: dict[str, int], other: dict[str, int]) -> dict[str, int]:
-    both = dict(one)
-    for name, count in other.items():
-        both[name] = both.get(name, 0) + count
-    return both
 
 
 class Same(NamedTuple):
@@ -180,29 +173,27 @@ def stored_as_spelled(spelling: bytes) -> Id:
     return stored(unescaped(spelling))
 
 
-def hash_of(text: str, exact: bytes | None) -> int:
-    """Returns the hash of the id that is stored in these two columns: the CRC-32 of its UTF-8."""
-    return crc32(text.encode("utf-8") if exact is None else exact)
-
-
-def stored_as_columns(
-    spellings: list[bytes],
-) -> tuple[Sequence[str], Column, list[int]]:
-    """Returns ids, from the JSON strings that spell them, as two columns and the hash of each."""
+def stored_as_columns(spellings: list[bytes]) -> tuple[Sequence[str], Column]:
+    """Returns ids, from the JSON strings that spell them, as two columns."""
     if b"\\" not in b"".join(spellings) and max(map(len, spellings)) <= LONGEST:
         texts = b"\n".join(spellings).decode("utf-8").split("\n")  # no valid string has an LF
-        return texts, Same(None), list(map(crc32, spellings))
+        return texts, Same(None)
     both = list(map(stored_as_spelled, spellings))
     exact = same_if_equal([exact for _, exact in both])
-    return [text for text, _ in both], exact, list(starmap(hash_of, both))
+    return [text for text, _ in both], exact
+
+
+def cut_fast(part: Text, raw: bytes) -> Text:
+    """Returns a part as bytes if it has many features, as to cut bytes takes a fourth of the time
+    that to cut another buffer takes."""
+    return bytes(part) if len(raw) // RECORD.size * COPIED > len(part) else part
 
 
 def spelled_ids(part: Text, raw: bytes) -> list[bytes]:
     """Returns the ids of the features of a part, as the JSON strings spell them, without quotes."""
     numbers = memoryview(raw).cast("q")
     places = (numbers[member::MEMBERS].tolist() for member in (1, 3, 4))
-    # to cut bytes takes a fourth of the time that to cut another buffer takes
-    text = bytes(part) if len(raw) // RECORD.size * COPIED > len(part) else part
+    text = cut_fast(part, raw)
     ids = [
         text[line + begin + 1 : line + begin + length - 1] for line, begin, length in zip(*places)
     ]
@@ -228,13 +219,6 @@ def call(work: Work, header: bytes, part: Text, room: int) -> tuple[RawAnswer, b
         if answer.kept <= most:
             return answer, reports, raw
         most = answer.kept
-
-
-def _decoded(spelling: bytes) -> str:
-    """Returns the text of a JSON string, from its spelling without quotes. Raises `ValueError` if
-    it is not JSON."""
-    text: str = json.loads(b'"' + spelling + b'"')
-    return text
 
 
 def _can_be_asked(text: str) -> bool:
@@ -294,7 +278,7 @@ def _in_one_pass(text: Any, begin: int, end: int) -> Found | None:
         if value not in texts:
             if len(texts) == MOST_TEXTS:
                 return None
-            texts[value] = _decoded(value[value.index(b'"') + 1 : -1])
+            texts[value] = unescaped(value[value.index(b'"') + 1 : -1])
         read = texts[value]
         if counted_at.get(read) != line_end:
             counted_at[read] = line_end
@@ -339,7 +323,7 @@ def texts_of(spellings: dict[bytes, int]) -> tuple[list[str], frozenset[str]]:
     counts: Counter[str] = Counter()
     for spelling, count in spellings.items():
         try:
-            counts[_decoded(spelling)] += count
+            counts[unescaped(spelling)] += count
         except ValueError:
             continue  # not JSON, so in no valid line
     texts = [text for text, _ in counts.most_common()]

@@ -20,10 +20,11 @@ KEPT = 1_024  # bytes: a report keeps a line that is not longer, and describes i
 RAW = struct.Struct("=4Q")  # `struct cityseq_report`: line, begin, place, code
 DETAILS = ("id", "excerpt", "column", "met")
 # The usual beginning of a feature: its id, or its type and then its id.
-USUAL_BEGIN = re.compile(
+UP_TO_ID = (
     rb'[ \t\r]*\{[ \t\r]*(?:"type"[ \t\r]*:[ \t\r]*"CityJSONFeature"[ \t\r]*,[ \t\r]*)?'
-    rb'"id"[ \t\r]*:[ \t\r]*("(?:[^"\\\x00-\x1f]|\\.)*")'
+    rb'"id"[ \t\r]*:[ \t\r]*'
 )
+USUAL_BEGIN = re.compile(UP_TO_ID + rb'("(?:[^"\\\x00-\x1f]|\\.)*")')
 
 
 @dataclass(frozen=True)

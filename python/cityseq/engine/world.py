@@ -151,11 +151,9 @@ class World:
 
 def intervals_of(text: str) -> tuple[Interval, Interval] | None:
     """Returns a box `minx,miny,maxx,maxy` as two intervals, rounded outward, or None."""
-    from decimal import Decimal, InvalidOperation
-
     try:
         edges = [units_of(Decimal(edge)) for edge in text.split(",")]
-    except (InvalidOperation, ValueError, OverflowError):
+    except (decimal.InvalidOperation, ValueError, OverflowError):
         return None
     if len(edges) != 4 or None in edges:
         return None

@@ -8,36 +8,46 @@ import sqlite3
 from collections.abc import Callable, Iterable, Iterator, Sequence
 from contextlib import contextmanager, suppress
 from dataclasses import dataclass, field
-from functools import lru_cache
+from functools import lru_cache, partial
 from itertools import repeat
 from typing import Any, NamedTuple
 
+from ..attributes import Asked, Columns, columns_of, texts_of
 from ..attributes.columns import AttributeColumns
-from ..attributes.values import Columns
-from ..engine import LOD_CLASSES, library
-from ..engine.faults import WriteFault, write_fault
-from ..engine.judge import Work
-from ..engine.records import Column, Records, Same, same_if_equal, stored, stored_as_columns
+from ..engine import LOD_CLASSES, Text, WriteFault, library, write_fault
+from ..engine.judge import Answer, Work, judge
+from ..engine.records import (
+    Column,
+    Records,
+    Same,
+    cut_fast,
+    same_if_equal,
+    spelled_ids,
+    stored,
+    stored_as_columns,
+)
 from ..engine.reports import Report
 from ..engine.world import World, read_json, wider
 from ..run import Result
-from ..sources import State, is_url
-from ..sources.outputs import Part, checked_output, target_of
-from . import bulk, candidates, footprints, geopackage
-from .bulk import NOWHERE, ROW, Ranges, Sorter, Tree, insert, vectors_for
-from .database import database_fault, replaceable
-from .details import Details, Wanted
+from ..sources import State, is_url, target_of
+from ..sources.chunks import Chunk
+from ..sources.outputs import Part, checked_output
+from . import bulk, footprints, geopackage
+from .bulk import NOWHERE, Ranges, Sorter, Tree, insert, vectors_for
+from .database import replaceable
 from .geopackage import MOST_FEATURES, TREE, UNDEFINED, geometry_start, readable, system_of
 from .line_reader import Blocks
 
 PAGE = 1 << 14  # bytes of a page of the database: small ones leave more of them unused
 CACHE = 8 << 20  # bytes of the database that are in memory
+FULL = 1 << 20  # bytes: a disk with less than this is full
+FOLDERS = ("/var/tmp", "/usr/tmp", "/tmp")  # where SQLite has temporary files if no variable is set
 
 
 @lru_cache(maxsize=4_096)
 def names_of_types(bits: int) -> str:
     """Returns the names of a set of types, with commas between them."""
-    return ",".join(name for n, name in enumerate(library().type_names()) if bits >> n & 1)
+    return ",".join(name for n, name in enumerate(library().count_names()) if bits >> n & 1)
 
 
 @lru_cache(maxsize=64)
@@ -106,6 +116,75 @@ class Entry:
         )
 
 
+class Wanted(NamedTuple):
+    """What an index takes from the lines of features, in addition to their records.
+
+    Attributes:
+        footprints: Whether footprints are.
+        attributes: The names of attributes, or `all`. None for none.
+    """
+
+    footprints: bool = False
+    attributes: Asked | None = None
+
+
+class Details(NamedTuple):
+    """What was taken from the lines of a part.
+
+    Attributes:
+        ids: The ids of the features, as the lines spell them.
+        footprints: Their footprints, if these are wanted.
+        attributes: The values of their attributes, if these are wanted.
+    """
+
+    ids: list[bytes]
+    footprints: list[bytes | None] | None = None
+    attributes: Columns | None = None
+
+
+def _details(header: bytes, wanted: Wanted, part: Text, raw: bytes) -> Details:
+    """Returns the details of the features of a part, by their records."""
+    names, text = wanted.attributes, cut_fast(part, raw)
+    return Details(
+        spelled_ids(text, raw),
+        footprints.in_part(header, part, raw) if wanted.footprints else None,
+        None if names is None else columns_of(texts_of(text, raw), names),
+    )
+
+
+def judge_details(chunk: Chunk, work: Work, size: int | None, wanted: Wanted) -> Answer:
+    """Judges a chunk. Its records have the details of the features in place of their ids."""
+    return judge(chunk, work, size, partial(_details, chunk.header, wanted))
+
+
+def temporary_folder() -> str:
+    """Returns the folder in which SQLite makes temporary files."""
+    named = (os.environ.get(name) for name in ("SQLITE_TMPDIR", "TMPDIR"))
+    for folder in (*filter(None, named), *FOLDERS):
+        if os.path.isdir(folder) and os.access(folder, os.W_OK | os.X_OK):
+            return folder
+    return os.curdir
+
+
+def is_full(folder: str) -> bool:
+    """Whether the disk of a folder is full."""
+    try:
+        state = os.statvfs(folder)
+    except OSError:
+        return False
+    return state.f_bavail * state.f_frsize < FULL
+
+
+def database_fault(fault: sqlite3.Error, name: str) -> WriteFault:
+    """Returns the fault for an error of SQLite while it writes a database. It names the folder of
+    temporary files if that is full and the folder of the database is not."""
+    folder = temporary_folder()
+    beside = os.path.dirname(os.path.realpath(name))
+    if "full" in str(fault) and is_full(folder) and not is_full(beside):
+        return WriteFault("write fault: no space left for temporary files", None, folder)
+    return write_fault(fault, name)
+
+
 @contextmanager
 def telling_of(name: str) -> Iterator[None]:
     """Turns an error of SQLite into a write fault."""
@@ -158,7 +237,7 @@ class Builder:
         self._opened: sqlite3.Connection | None = None
         self._usual: tuple[Any, ...] | None = None  # the uniform columns of the first feature
         self._count = 0  # of the uniform columns that rows have
-        self._cells, self._ids = Sorter(ROW), Sorter(candidates.WHOLE)
+        self._cells = Sorter()
         self.digests: Any = None  # makes the hashes of the streams
         target = target_of(path)
         if target is None:
@@ -221,7 +300,7 @@ class Builder:
             records, lines, numbers, entry.world, geometry_start(entry.system)
         )
         entry.widen(made.ranges)
-        names, exact, hashes = stored_as_columns(details.ids)
+        names, exact = stored_as_columns(details.ids)
         geometry, zmin, zmax = (
             _filled(column, made.has_place) for column in (made.geometry, made.zmin, made.zmax)
         )
@@ -245,7 +324,6 @@ class Builder:
             last = (*kept, *values) if self._are_last else (*values, *kept)
             insert(self._base, "features", *others, *last)
         self._cells.add(made.cells)
-        self._ids.add(candidates.id_rows(hashes, numbers))
 
     def _add_footprints(
         self, numbers: range, grounds: Sequence[bytes | None], geometry: Column
@@ -334,17 +412,17 @@ class Builder:
         base = self._base
         with telling_of(self.name):
             system = self._one_system()
-            candidates.write_ids(base, self._ids.rows())
+            base.execute(geopackage.IDS)
             self._add_columns(len(geopackage.UNIFORM))
             count = self._cells.count
             Tree(base, TREE).write(self._cells.rows(), count, self._fid)
             if self._attributes is not None:
                 self._attributes.end(base)
             geopackage.describe(base, system)
-            options = (work.tree, work.keep_going, work.line_limit, work.depth)
+            rules = (work.tree, work.extensions, work.keep_going, work.line_limit, work.depth)
             base.execute(
-                "INSERT INTO cityseq_index VALUES (?,?,?,?,?,?,0,?)",
-                (geopackage.VERSION, program, *options, count),
+                "INSERT INTO cityseq_index VALUES (?,?,?,?,?,?,?,0,?)",
+                (geopackage.VERSION, program, *rules, count),
             )
             base.execute("COMMIT")
             base.close()
@@ -377,9 +455,6 @@ class Builder:
             with suppress(sqlite3.Error):
                 self._opened.close()
         self._cells.close()
-        self._ids.close()
-        if self._attributes is not None:
-            self._attributes.close()
         self._part.discard()
 
 

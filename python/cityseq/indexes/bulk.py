@@ -9,6 +9,7 @@ cell has a 64-bit number, then the least and the greatest x and y as 32-bit floa
 """
 from __future__ import annotations
 
+import heapq
 import sqlite3
 import struct
 import tempfile
@@ -16,10 +17,10 @@ from array import array
 from collections.abc import Callable, Iterable, Iterator, Sequence
 from contextlib import suppress
 from functools import lru_cache
-from itertools import chain, compress, islice
+from itertools import chain, compress, islice, pairwise
 from typing import IO, TYPE_CHECKING, Any, NamedTuple
 
-from ..engine.faults import write_fault
+from ..engine import write_fault
 from ..engine.records import Column, Range, Same, same_if_equal
 from ..engine.world import World
 from .geopackage import polygons
@@ -31,14 +32,15 @@ if TYPE_CHECKING:
 MANY = 512  # rows, from which numpy takes less time
 VALUES = 700  # of one statement: older versions of SQLite take at most 999
 BLOCK = 1 << 16  # rows that are sorted at once
-MERGED = 1 << 22  # bytes of all blocks that are merged at once
-LEAST = 64  # rows of a piece
+PIECE = 1 << 9  # rows of a block that are read at once
+TOGETHER = 1 << 12  # rows that are merged at once
 ROOT = 1
 CELL = struct.Struct(">q4f")
 # A 32-bit float differs by less than this from the number that is rounded to it.
 INWARD, OUTWARD = 1 - 2.0**-23, 1 + 2.0**-23
 KEY = 8  # bytes
 ROW = KEY + CELL.size  # bytes of a key and its cell
+_ROW = struct.Struct(f"{ROW}s")
 # Each half of a byte as a byte, with a zero between each two bits.
 _SPREAD = bytes(sum((half >> bit & 1) << 2 * bit for bit in range(4)) for half in range(16))
 UPPER, LOWER = bytes(_SPREAD[byte >> 4] for byte in range(256)), _SPREAD * 16
@@ -89,75 +91,33 @@ def insert(base: sqlite3.Connection, table: str, *columns: Column) -> None:
         base.execute(_statement(table, pattern, len(part) // width), same + part)
 
 
-def in_order(rows: bytes, width: int) -> bytes:
-    """Returns rows sorted by their bytes.
-
-    Args:
-        rows: The rows, one after another. Those that begin with the same eight bytes are in order.
-        width: How many bytes each has: a multiple of eight.
-    """
-    vectors = vectors_for(len(rows) // width)
+def in_order(rows: bytes) -> bytes:
+    """Returns rows sorted by their bytes. Those with one key come in order."""
+    vectors = vectors_for(len(rows) // ROW)
     if vectors is not None:
-        ordered: bytes = vectors.in_order(rows, width)
+        ordered: bytes = vectors.in_order(rows)
         return ordered
-    return b"".join(sorted(rows[at : at + width] for at in range(0, len(rows), width)))
+    return b"".join(sorted(_each(rows)))
 
 
-class _Block:
-    """Sorted rows in a file, from one place to another. They are read piece by piece."""
-
-    def __init__(self, file: IO[bytes], begin: int, end: int, width: int) -> None:
-        self._file, self._begin, self._end, self._width = file, begin, end, width
-        self.rows = b""  # that were read, and not taken
-
-    @property
-    def is_read(self) -> bool:
-        """Whether all its rows were read."""
-        return self._begin == self._end
-
-    @property
-    def last(self) -> bytes:
-        """The last row that was read."""
-        return self.rows[-self._width :]
-
-    def fill(self, size: int) -> None:
-        """Reads the next piece of so many bytes, if all rows before it were taken."""
-        if not self.rows and not self.is_read:
-            self._file.seek(self._begin)
-            self.rows = self._file.read(min(size, self._end - self._begin))
-            self._begin += len(self.rows)
-
-    def take(self, limit: bytes | None) -> bytes:
-        """Takes the rows that were read and are not greater than a limit."""
-        width, rows = self._width, self.rows
-        low, high = 0, len(rows) // width
-        if limit is None or rows[-width:] <= limit:
-            low = high
-        while low < high:
-            middle = (low + high) // 2
-            if rows[middle * width : (middle + 1) * width] <= limit:  # type: ignore[operator]
-                low = middle + 1
-            else:
-                high = middle
-        self.rows = rows[low * width :]
-        return rows[: low * width]
+def _each(rows: bytes) -> Iterator[bytes]:
+    """Yields rows one by one."""
+    return chain.from_iterable(_ROW.iter_unpack(rows))
 
 
 class Sorter:
-    """Takes rows in any order, and returns them sorted by their bytes. No two rows are equal. Those
-    that begin with the same eight bytes come in order. Leaving a `with` block closes it.
+    """Takes keys with their cells in any order, and returns them sorted. No two rows are equal.
+    Those with one key come in order. Leaving a `with` block closes it.
 
     Attributes:
         count: How many rows it has.
     """
 
-    def __init__(self, width: int) -> None:
-        """Takes how many bytes a row has: a multiple of eight."""
+    def __init__(self) -> None:
         self.count = 0
-        self._width = width
         self._file: IO[bytes] | None = None
         self._waiting: list[bytes] = []  # rows that are in no block yet
-        self._waits = 0  # their bytes
+        self._waits = 0
         self._ends = [0]  # of the blocks in the file
 
     def __enter__(self) -> Sorter:
@@ -178,10 +138,10 @@ class Sorter:
         Raises:
             WriteFault: The temporary folder is full.
         """
-        self.count += len(rows) // self._width
+        self.count += len(rows) // ROW
         self._waiting.append(rows)
-        self._waits += len(rows)
-        if self._waits >= BLOCK * self._width:
+        self._waits += len(rows) // ROW
+        if self._waits >= BLOCK:
             try:
                 self._write()
             except OSError as fault:
@@ -199,7 +159,15 @@ class Sorter:
     def _sorted_waiting(self) -> bytes:
         rows = b"".join(self._waiting)
         self._waiting, self._waits = [], 0
-        return in_order(rows, self._width)
+        return in_order(rows)
+
+    def _block(self, file: IO[bytes], begin: int, end: int) -> Iterator[bytes]:
+        """Yields the rows of the file from one place to another. They are read piece by piece."""
+        while begin < end:
+            file.seek(begin)
+            rows = file.read(min(PIECE * ROW, end - begin))
+            begin += len(rows)
+            yield from _each(rows)
 
     def rows(self) -> Iterator[bytes]:
         """Yields all rows in order, many together. No row is added after this.
@@ -212,20 +180,12 @@ class Sorter:
             return
         try:
             self._write()
-            yield from self._merged(self._file)
+            blocks = (self._block(self._file, *ends) for ends in pairwise(self._ends))
+            merged = heapq.merge(*blocks)
+            while rows := b"".join(islice(merged, TOGETHER)):
+                yield rows
         except OSError as fault:
             raise write_fault(fault, tempfile.gettempdir()) from fault
-
-    def _merged(self, file: IO[bytes]) -> Iterator[bytes]:
-        ends = zip(self._ends, self._ends[1:])
-        blocks = [_Block(file, begin, end, self._width) for begin, end in ends]
-        size = max(LEAST, MERGED // self._width // len(blocks)) * self._width
-        while blocks:
-            for block in blocks:
-                block.fill(size)
-            limit = min((block.last for block in blocks if not block.is_read), default=None)
-            yield in_order(b"".join([block.take(limit) for block in blocks]), self._width)
-            blocks = [block for block in blocks if block.rows or not block.is_read]
 
 
 def _down(numbers: Iterable[float]) -> list[float]:

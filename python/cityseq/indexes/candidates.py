@@ -1,60 +1,29 @@
-"""Which features of an index a query may keep, and about how many.
-
-The table `feature_ids` finds features by the hash of their ids. A row has the features whose hashes
-have the same upper half, and whose numbers have the same upper byte. Both are its key. For each
-feature it has an entry of five bytes: the lower half of the hash, then the other bytes of the
-number, both big-endian. Entries ascend. So a feature takes less than six bytes where there are
-many."""
+"""Which features of an index a query may keep, and about how many."""
 from __future__ import annotations
 
-import struct
-from collections.abc import Iterable, Iterator, Sequence
-from itertools import chain, groupby
-from operator import itemgetter
-from typing import Any
+import os
+from collections.abc import Mapping
+from functools import partial
+from typing import TYPE_CHECKING, Any
 
-from ..engine import LOD_CLASSES
-from ..engine.faults import OutOfDate
+from ..engine import LOD_CLASSES, OutOfDate, quoted, shown
 from ..engine.judge import Work
-from ..engine.records import hash_of, stored
+from ..engine.records import id_of, stored
 from ..engine.world import intervals_of
-from .bulk import insert
-from .geopackage import TREE
+from .database import INDEX_CHANGED, Database
+from .geopackage import TREE, Attribute
+from .geopackage import quoted as named
 
-HALF = 16  # bits of a hash
-LOWER = (1 << HALF) - 1
-BLOCK = 24  # bits of a number in an entry: features with the same other bits are a block
-BLOCKS = 1 << 8  # at most
-ENTRY = struct.Struct(">HBH")  # with a number in two pieces
-WHOLE = 8  # bytes of a hash and a number
-_SPLIT = struct.Struct(f">3s{ENTRY.size}s")  # the key of a row, and the entry
-_HASH, _NUMBER = 0, 1
-# Where each byte of a key and its entry comes from: which byte of the hash or of the number.
-_FROM = (
-    (_HASH, 0),
-    (_HASH, 1),
-    (_NUMBER, 0),
-    (_HASH, 2),
-    (_HASH, 3),
-    (_NUMBER, 1),
-    (_NUMBER, 2),
-    (_NUMBER, 3),
-)
-CREATE_WANTED = "CREATE TEMP TABLE wanted (fid INTEGER, id TEXT, exact BLOB)"
-CREATE_ALIKE = "CREATE TEMP TABLE alike (hash INTEGER, fid INTEGER)"
+if TYPE_CHECKING:
+    from ..attributes.cql2 import Filter
+    from ..attributes.where import Condition
+
+CREATE_WANTED = "CREATE TEMP TABLE wanted (id TEXT, exact BLOB)"
 # The features that have an id of `temp.wanted`.
 WANTED = (
-    "SELECT features.fid FROM temp.wanted CROSS JOIN features ON features.fid = wanted.fid"
-    " WHERE features.id = wanted.id AND features.id_exact IS wanted.exact"
+    "SELECT features.fid FROM temp.wanted CROSS JOIN features ON features.id = wanted.id"
+    " WHERE features.id_exact IS wanted.exact"
 )
-# The features of `temp.alike` that have an id, by its hash.
-SAME_ID = (
-    "temp.alike CROSS JOIN features ON features.fid = alike.fid"
-    " WHERE alike.hash = ? AND features.id = ? AND features.id_exact IS ?"
-)
-
-
-# ---- writing
 LINE = 2_048  # bytes of a stream that are judged in the time that it takes to find and read a line
 SMALL = 16 << 20  # bytes of streams that are not worth an estimate
 SAMPLE = 500  # features that show how many of all a query selects
@@ -64,107 +33,11 @@ WITH_ID = f"fid IN ({WANTED})"
 Terms = tuple[list[str], list[Any]]  # conditions, and the values in them
 
 
-def id_rows(hashes: Sequence[int], numbers: Sequence[int]) -> bytes:
-    """Returns the key and the entry of each feature, as rows that are sorted before `write_ids`."""
-    four = struct.Struct(f">{len(numbers)}I")
-    given = four.pack(*hashes), four.pack(*numbers)
-    rows = bytearray(WHOLE * len(numbers))
-    for place, (which, byte) in enumerate(_FROM):
-        rows[place::WHOLE] = given[which][byte::4]
-    return bytes(rows)
-
-
-def write_ids(base: Any, pieces: Iterable[bytes]) -> None:
-    """Writes the table, from sorted rows. Each piece has many."""
-    split = chain.from_iterable(map(_SPLIT.iter_unpack, pieces))
-    for key, group in groupby(split, itemgetter(0)):
-        entries = b"".join([entry for _, entry in group])
-        row = int.from_bytes(key, "big"), entries
-        base.execute("INSERT INTO feature_ids VALUES (?,?)", row)
-
-
-# ---- reading: `base` is a `Database`
-
-
-def want(base: Any, ids: bytes) -> None:
-    """Writes the ids of a query, one a line, to `temp.wanted`: once for each feature whose id has
-    the same hash.
-
-    Raises:
-        OutOfDate: The table has a value that cityseq never writes.
-    """
-    texts = [stored(text.decode("utf-8")) for text in ids.split(b"\n")]
+def want(base: Database, ids: bytes) -> None:
+    """Writes the ids of a query, one a line, to `temp.wanted`."""
     base.execute("DROP TABLE IF EXISTS temp.wanted")
     base.execute(CREATE_WANTED)
-    hashes = sorted((hash_of(*text), place) for place, text in enumerate(texts))
-    rows = [(fid, *texts[place]) for fid, place in _found(base, hashes)]
-    if rows:
-        insert(base, "temp.wanted", *zip(*rows))
-
-
-def _found(base: Any, hashes: Sequence[tuple[int, int]]) -> Iterator[tuple[int, int]]:
-    """Yields each feature that has one of some hashes, with what comes with the hash."""
-    select = "SELECT key, entries FROM feature_ids WHERE key BETWEEN ? AND ?"
-    for upper, group in groupby(hashes, lambda each: each[0] >> HALF):
-        some, keys = list(group), (upper * BLOCKS, upper * BLOCKS + BLOCKS - 1)
-        for key, text in base.execute(select, keys).fetchall():
-            first, entries = _first(key), _checked(base, text)
-            for id_hash, told in some:
-                for number in _numbers(entries, id_hash & LOWER):
-                    yield first | number, told
-
-
-def _upper(row: Sequence[Any]) -> int:
-    """Returns the upper half of the hashes of a row."""
-    key: int = row[0]
-    return key // BLOCKS
-
-
-def _first(key: int) -> int:
-    """Returns the first number of the block that a row is of."""
-    return key % BLOCKS << BLOCK
-
-
-def _checked(base: Any, entries: Any) -> bytes:
-    if not isinstance(entries, bytes) or len(entries) % ENTRY.size:
-        raise OutOfDate.because("the index was changed", base.path)
-    return entries
-
-
-def _numbers(entries: bytes, lower: int) -> Iterator[int]:
-    """Yields the features whose hash has this lower half, by their numbers in the block."""
-    wanted, at = struct.pack(">H", lower), -1
-    while True:
-        at = entries.find(wanted, at + 1)
-        if at < 0:
-            return
-        if at % ENTRY.size == 0:
-            _, high, low = ENTRY.unpack_from(entries, at)
-            yield high << HALF | low
-
-
-def find_alike(base: Any) -> None:
-    """Writes each feature whose id has the same hash as that of another one to `temp.alike`.
-
-    Raises:
-        OutOfDate: The table has a value that cityseq never writes.
-    """
-    base.execute("DROP TABLE IF EXISTS temp.alike")
-    base.execute(CREATE_ALIKE)
-    rows: list[tuple[int, int]] = []
-    select = "SELECT key, entries FROM feature_ids ORDER BY key"
-    for upper, group in groupby(base.execute(select), _upper):
-        fids: dict[int, list[int]] = {}
-        for key, text in group:
-            first = _first(key)
-            for lower, high, low in ENTRY.iter_unpack(_checked(base, text)):
-                fids.setdefault(lower, []).append(first | high << HALF | low)
-        for lower, alike in fids.items():
-            if len(alike) > 1:
-                rows += [(upper << HALF | lower, fid) for fid in alike]
-    if rows:
-        insert(base, "temp.alike", *zip(*rows))
-    base.execute("CREATE INDEX temp.alike_hash ON alike (hash, fid)")
+    base.executemany("INSERT INTO temp.wanted VALUES (?,?)", map(stored, ids.decode().split("\n")))
 
 
 def terms_of(work: Work) -> Terms:
@@ -211,7 +84,7 @@ def _classes(lods: bytes | None) -> bytes | None:
     return "\n".join(sorted(names)).encode("ascii")
 
 
-def has_more(base: Any, work: Work, fids: range, most: int) -> bool:
+def has_more(base: Database, work: Work, fids: range, most: int) -> bool:
     """Returns whether a query may keep more than `most` of the features with these numbers."""
     conditions, values = _of_names(work)
     edges = _edges(work)
@@ -233,7 +106,7 @@ def has_more(base: Any, work: Work, fids: range, most: int) -> bool:
     return bool(count > most)
 
 
-def reads_all(base: Any, work: Work, features: int, size: int) -> bool:
+def reads_all(base: Database, work: Work, features: int, size: int) -> bool:
     """Whether to read streams of so many features and bytes takes less time than to read the lines
     that a query may keep, by an estimate. False for small streams."""
     most = size * features // (size + LINE * features)  # lines that take as much time
@@ -259,3 +132,52 @@ def reads_all(base: Any, work: Work, features: int, size: int) -> bool:
         (count,) = base.execute(f"SELECT count(*) FROM ({which})", edges).fetchone()
         return bool(count == most)
     return True
+
+
+# ---- attributes
+
+
+def condition_of(
+    base: Database, known: Mapping[str, Attribute], paths: Mapping[int, str], where: str | Filter
+) -> Condition:
+    """Returns the condition of SQL for a filter, which names known attributes. A fault names one of
+    the paths, which are those of the streams by their numbers.
+
+    Raises:
+        RequestError: It is no filter, or has no meaning for these attributes.
+    """
+    from ..attributes.cql2 import parsed  # few runs need it
+    from ..attributes.where import Translation
+
+    base.know_filters()
+    filter = parsed(where) if isinstance(where, str) else where
+    return Translation(known, partial(_in_the_way, base, paths)).condition(filter)
+
+
+def _in_the_way(
+    base: Database, paths: Mapping[int, str], attribute: Attribute, kind: str | None
+) -> str | None:
+    """Returns words on the first feature that shows the type of an attribute, or whose text is not
+    of a kind. None if there is none."""
+    from ..attributes.columns import FORMATS
+
+    column, fid = named(attribute.column), attribute.first
+    with base.reading():
+        if kind is not None:
+            texts = base.search(
+                f"SELECT fid, {column} FROM features WHERE {column} NOT NULL ORDER BY fid"
+            )
+            is_kind = FORMATS[kind].fullmatch
+            fid = next((fid for fid, text in texts if not is_kind(str(text))), None)
+        row = base.execute(
+            f"SELECT id, id_exact, line, stream, {column} FROM features WHERE fid = ?", (fid,)
+        ).fetchone()
+    if row is None:
+        return None
+    name, exact, line, stream, value = row
+    try:
+        told = quoted(value) if isinstance(value, str) else f"{value}"
+        where = f"line {int(line)} of {shown(os.path.basename(paths[stream]))}"
+        return f"feature {quoted(id_of(name, exact))}, in {where}, has {told}"
+    except (AttributeError, KeyError, TypeError, ValueError):
+        raise OutOfDate.because(INDEX_CHANGED, base.path) from None

@@ -8,7 +8,7 @@ from dataclasses import dataclass, replace
 from itertools import chain
 from typing import TYPE_CHECKING, Any
 
-from ..engine.faults import OutOfDate, RequestError, Status, write_fault
+from ..engine import OutOfDate, RequestError, Status, write_fault
 from ..engine.judge import Work
 from ..run import Result
 from ..run.streams import Stream, results

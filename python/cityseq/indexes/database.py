@@ -11,12 +11,20 @@ import sqlite3
 import stat
 from collections.abc import Callable, Iterable, Iterator, Sequence
 from contextlib import contextmanager
+from math import inf
 from time import monotonic
 from typing import Any
 
-from ..attributes.where import INSTANT, LIKE, instant, pattern_of
-from ..engine import DEPTH_LIMITS, LINE_LIMITS
-from ..engine.faults import OutOfDate, ReadFault, RequestError, WriteFault, read_fault, write_fault
+from ..engine import (
+    DEPTH_LIMITS,
+    LINE_LIMITS,
+    OutOfDate,
+    ReadFault,
+    RequestError,
+    WriteFault,
+    read_fault,
+    write_fault,
+)
 from . import geopackage
 
 SECONDS = 60  # of a search
@@ -29,15 +37,13 @@ UNFINISHED = "read fault: another program ended while it changed the index: buil
 CANNOT_OPEN, NO_DATABASE = "unable to open database file", "file is not a database"
 READ_ONLY, MALFORMED = "readonly database", "malformed"
 R_TREE = re.compile(r"CREATE\s+VIRTUAL\s+TABLE\b.*\bUSING\s+rtree\s*\(", re.IGNORECASE | re.DOTALL)
-TABLES = ("cityseq_index", "features", "feature_ids", "streams", "reports")
+TABLES = ("cityseq_index", "features", "streams", "reports")
 LONGEST = 4_096  # bytes of a path that a system can open
 DECIMAL = re.compile(r"-?\d+(?:\.\d+)?(?:[eE][+-]?\d+)?")
 SHA256, CONTENT = re.compile(r"[0-9a-f]{64}"), re.compile(r"[0-9a-f]{32}")
 Test = Callable[[Any], bool]
 WAIT = 1.0  # seconds for a lock of another program
 IN_USE = "write fault: another program has it open: close it there, and build the index again"
-FULL = 1 << 20  # bytes: a disk with less than this is full
-FOLDERS = ("/var/tmp", "/usr/tmp", "/tmp")  # where SQLite has temporary files if no variable is set
 
 
 def connected(path: str, how: str, wait: float = 5.0) -> sqlite3.Connection:
@@ -94,7 +100,7 @@ class Database:
         self._stop: BaseException | None = None
         self._end: float | None = None  # of a search, by the clock
         self._state: Any = None  # of a file that is read without locks
-        self._is_counted = False
+        self._is_counted = self._has_filters = False
         self.tables: set[str] = set()  # after `check_tables`
         try:
             state = os.stat(self._file)
@@ -105,6 +111,11 @@ class Database:
         if not stat.S_ISREG(state.st_mode):
             raise ReadFault(NO_INDEX, None, path)
         self._base = self._opened()
+        with self.reading():
+            (page,) = self.execute("PRAGMA page_size").fetchone()
+        if state.st_size % page:  # SQLite would read zeros there
+            self.close()
+            raise ReadFault("read fault: the file is cut short", None, path)
 
     def _opened(self) -> sqlite3.Connection:
         """Returns the database, of which something was read.
@@ -131,8 +142,6 @@ class Database:
             turns = self._turns()
             next(turns)
             base.set_progress_handler(turns.__next__, STEPS)
-            base.create_function(LIKE, 2, self._is_like, deterministic=True)
-            base.create_function(INSTANT, 1, instant, deterministic=True)
             if not is_index(base):
                 raise ReadFault(NO_INDEX, None, self.path)
             return base
@@ -161,15 +170,21 @@ class Database:
         if self._end is not None and monotonic() > self._end:
             raise RequestError(f"the filter takes more than {SECONDS} seconds to find features")
 
-    def _is_like(self, pattern: Any, text: Any) -> bool | None:
-        """Whether a text is like a pattern."""
-        if not isinstance(text, str) or not isinstance(pattern, str):
-            return None
-        try:
-            return pattern_of(pattern).matches(text, self._look)
-        except BaseException as stop:
-            self._stop = stop
-            raise
+    def know_filters(self) -> None:
+        """Gives SQL the functions that filters call."""
+        from ..attributes.where import INSTANT, LIKE, instant, is_like  # few runs need it
+
+        def is_like_soon(pattern: Any, text: Any) -> bool | None:
+            try:
+                return is_like(pattern, text, self._look)
+            except BaseException as stop:
+                self._stop = stop
+                raise
+
+        if not self._has_filters:
+            self._base.create_function(LIKE, 2, is_like_soon, deterministic=True)
+            self._base.create_function(INSTANT, 1, instant, deterministic=True)
+        self._has_filters = True
 
     def search(self, select: str, given: Iterable[Any] = ()) -> Iterator[Any]:
         """Yields the rows of a query. The caller asks for them in a block of `reading`.
@@ -306,16 +321,11 @@ class Database:
         self._is_counted = True
 
 
-def _is_count(value: Any) -> bool:
-    return type(value) is int and value >= 0
-
-
-def _is_flag(value: Any) -> bool:
-    return type(value) is int and value in (0, 1)
-
-
-def _is_within(limits: tuple[int, int]) -> Test:
+def _is_within(limits: tuple[int, float]) -> Test:
     return lambda value: type(value) is int and limits[0] <= value <= limits[1]
+
+
+_is_count, _is_flag = _is_within((0, inf)), _is_within((0, 1))
 
 
 def _is_text(value: Any) -> bool:
@@ -355,6 +365,7 @@ def _or_null(test: Test) -> Test:
 
 OPTIONS: dict[str, Test] = {
     "tree": _is_flag,
+    "extensions": _is_flag,
     "keep_going": _is_flag,
     "line_limit": _is_within(LINE_LIMITS),
     "depth": _is_within(DEPTH_LIMITS),
@@ -496,31 +507,3 @@ def replaceable(name: str) -> Iterator[None]:
     finally:
         if base is not None:
             base.close()
-
-
-def temporary_folder() -> str:
-    """Returns the folder in which SQLite makes temporary files."""
-    named = (os.environ.get(name) for name in ("SQLITE_TMPDIR", "TMPDIR"))
-    for folder in (*filter(None, named), *FOLDERS):
-        if os.path.isdir(folder) and os.access(folder, os.W_OK | os.X_OK):
-            return folder
-    return os.curdir
-
-
-def is_full(folder: str) -> bool:
-    """Whether the disk of a folder is full."""
-    try:
-        state = os.statvfs(folder)
-    except OSError:
-        return False
-    return state.f_bavail * state.f_frsize < FULL
-
-
-def database_fault(fault: sqlite3.Error, name: str) -> WriteFault:
-    """Returns the fault for an error of SQLite while it writes a database. It names the folder of
-    temporary files if that is full and the folder of the database is not."""
-    folder = temporary_folder()
-    beside = os.path.dirname(os.path.realpath(name))
-    if "full" in str(fault) and is_full(folder) and not is_full(beside):
-        return WriteFault("write fault: no space left for temporary files", None, folder)
-    return write_fault(fault, name)

@@ -14,12 +14,12 @@ import struct
 from collections.abc import Container, Iterator, Sequence
 from contextlib import suppress
 from itertools import repeat
-from typing import Any
+from typing import Any, NamedTuple
 
-VERSION = 4  # of the tables: it changes if a column is removed, renamed or changes its meaning
+VERSION = 5  # of the tables: it changes if a column is removed, renamed or changes its meaning
 APPLICATION = 0x47504B47  # "GPKG"
 GEOPACKAGE = 10_300  # GeoPackage 1.3
-MOST_FEATURES = (1 << 32) - 1  # whose numbers fit in `feature_ids`
+MOST_FEATURES = (1 << 32) - 1
 UNDEFINED = -1  # the coordinate system is not known
 TABLE, COLUMN = "features", "geom"
 FOOTPRINTS = "footprints"  # another layer, which not all indexes have
@@ -63,7 +63,6 @@ OURS = """
 CREATE TABLE features (
   fid INTEGER PRIMARY KEY NOT NULL, geom POLYGON, line INTEGER NOT NULL, begin INTEGER NOT NULL,
   length INTEGER NOT NULL, id TEXT NOT NULL);
-CREATE TABLE feature_ids (key INTEGER PRIMARY KEY NOT NULL, entries BLOB NOT NULL);
 CREATE TABLE streams (
   fid INTEGER PRIMARY KEY NOT NULL, path TEXT NOT NULL, path_exact BLOB, packing TEXT,
   size INTEGER NOT NULL, mtime_ns INTEGER NOT NULL, content TEXT NOT NULL,
@@ -77,9 +76,12 @@ CREATE TABLE reports (
   byte INTEGER NOT NULL, code INTEGER NOT NULL, text TEXT NOT NULL, id TEXT, excerpt TEXT);
 CREATE TABLE cityseq_index (
   version INTEGER NOT NULL, program TEXT NOT NULL, tree INTEGER NOT NULL,
-  keep_going INTEGER NOT NULL, line_limit INTEGER NOT NULL, depth INTEGER NOT NULL,
+  extensions INTEGER NOT NULL, keep_going INTEGER NOT NULL, line_limit INTEGER NOT NULL,
+  depth INTEGER NOT NULL,
   changed INTEGER NOT NULL, places INTEGER NOT NULL);
 """
+
+IDS = "CREATE INDEX features_id ON features (id)"  # it finds the features of an id
 
 # The other columns of `features`, whose last ones often have one value in all rows.
 UNIFORM = {
@@ -102,7 +104,7 @@ BEGIN
 END
 """
 ATTRIBUTES = "cityseq_attributes"  # a table that not all indexes have
-GUARDED = ("features", "feature_ids", "streams", "blocks", ATTRIBUTES)
+GUARDED = ("features", "streams", "blocks", ATTRIBUTES)
 EVENTS = {
     f"cityseq_{table}_{event.lower()}": (event, table)
     for table in GUARDED
@@ -161,6 +163,30 @@ CONTENTS = (
     ("streams", "The streams that were indexed"),
     ("reports", "The invalid lines, which are left out"),
 )
+
+
+class Attribute(NamedTuple):
+    """An attribute of an index.
+
+    Attributes:
+        name: Its name in the streams.
+        column: The name of its column.
+        type: The type of its column.
+        format: `boolean`, `date` or `date-time` if all values are so, or None.
+        first: The first feature that shows the type, if any has a value.
+    """
+
+    name: str
+    column: str
+    type: str
+    format: str | None
+    first: int | None
+
+
+def quoted(name: str) -> str:
+    """Returns the name of a column as SQL has it."""
+    escaped = name.replace('"', '""')
+    return f'"{escaped}"'
 
 
 def system_of(metadata: Any) -> tuple[str | None, int]:
@@ -274,7 +300,7 @@ def describe(base: sqlite3.Connection, system: int) -> None:
             (TABLE, COLUMN, "gpkg_rtree_index", extension, "write-only"),
             *(
                 (table, None, "cityseq_index", "docs/geopackage.md of cityseq", "read-write")
-                for table in ("cityseq_index", "feature_ids", "blocks", ATTRIBUTES)
+                for table in ("cityseq_index", "blocks", ATTRIBUTES)
                 if table in tables
             ),
         ),

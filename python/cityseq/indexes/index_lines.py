@@ -5,7 +5,8 @@ from collections.abc import Iterator, Sequence
 from decimal import Decimal
 from typing import TYPE_CHECKING, Any
 
-from ..engine.faults import OutOfDate, ReadFault, quoted, shown
+from ..coordinates import around
+from ..engine import OutOfDate, ReadFault, quoted, shown
 from ..engine.world import plain
 from .database import INDEX_CHANGED
 from .line_reader import IndexedStream, check_file
@@ -14,6 +15,8 @@ if TYPE_CHECKING:
     from .lookup import Index
 
 Extent = list[float] | None
+# members of the JSON of a stream that have the names of its columns
+MEMBERS = ("packing", "size", "mtime_ns", "lines", "features", "refused", "reference_system")
 
 
 def _extent(streams: Sequence[IndexedStream]) -> Extent:
@@ -23,10 +26,7 @@ def _extent(streams: Sequence[IndexedStream]) -> Extent:
         for stream in streams
         if stream.xmin is not None and stream.ymin is not None
     ]
-    if not boxes:
-        return None
-    least_x, least_y, most_x, most_y = zip(*boxes)
-    return [min(least_x), min(least_y), max(most_x), max(most_y)]
+    return list(around(boxes)) if boxes else None
 
 
 def _fault(index: Index) -> str | None:
@@ -97,24 +97,13 @@ def shown_object(index: Index, program: str) -> dict[str, Any]:
             "bbox": _extent(index.streams),
             "fault": _fault(index),
             "attributes": [
-                {
-                    "name": each.name,
-                    "column": each.column,
-                    "type": each.type,
-                    "format": each.format,
-                }
+                {name: getattr(each, name) for name in ("name", "column", "type", "format")}
                 for each in index.attributes.values()
             ],
             "streams": [
                 {
                     "file": stream.path,
-                    "packing": stream.packing,
-                    "size": stream.size,
-                    "mtime_ns": stream.mtime_ns,
-                    "lines": stream.lines,
-                    "features": stream.features,
-                    "refused": stream.refused,
-                    "reference_system": stream.reference_system,
+                    **{name: getattr(stream, name) for name in MEMBERS},
                     "bbox": _extent([stream]),
                     "fault": _state(index, stream),
                     "reports": [

@@ -6,31 +6,28 @@ so pages stay right if features are equal in everything else. A page has the kep
 next candidates. It is only empty if no feature follows."""
 from __future__ import annotations
 
-import json
 import os
 from collections.abc import Callable, Generator, Iterator
 from contextlib import contextmanager, suppress
 from dataclasses import dataclass, replace
-from decimal import Decimal
 from functools import cached_property
 from itertools import chain
 from queue import Empty, LifoQueue
 from typing import Any, NamedTuple
 
-from ..attributes.columns import Attribute, properties_of
-from ..attributes.values import told
+from ..attributes import told
+from ..attributes.columns import properties_of
 from ..coordinates import Extent
-from ..engine import CallStatus, RawFeature, library
-from ..engine.faults import OutOfDate, ReadFault
+from ..engine import OutOfDate, RawFeature, ReadFault
 from ..engine.judge import Work
 from ..engine.records import unescaped
 from ..engine.world import World
-from ..run.features import fault_of
 from .builder import names_of_lods, names_of_types
 from .database import INDEX_CHANGED
 from .footprints import Polygon, polygons_of
+from .geopackage import Attribute
 from .line_reader import IndexedStream, Row, header_of, lines_of, placed
-from .lookup import Index
+from .lookup import Index, judged
 
 TOGETHER = 1 << 18  # bytes of lines that are judged together
 
@@ -116,9 +113,7 @@ class OpenStream:
     @cached_property
     def world(self) -> World:
         """The map from its vertices to world coordinates."""
-        told = (json.loads(text) for text in (self.stream.scale, self.stream.translate))
-        scale, translate = (list(map(Decimal, texts)) for texts in told)
-        return World(scale, translate)
+        return self.stream.world()
 
     @property
     def extent(self) -> Extent | None:
@@ -326,11 +321,7 @@ class Page:
 
     def _judged(self, part: bytes, numbers: list[int]) -> Block:
         """Returns the kept features of some lines."""
-        request = self._work.request(self.header, part)
-        answer, _, raws = library().features(self.header, part, request, len(numbers))
-        if answer.status == CallStatus.REFUSED and answer.line > 1:
-            raise OutOfDate.because("the stream has other lines", self._source.stream.path)
-        if answer.status != CallStatus.COMPLETE:
-            raise fault_of(answer, self.header, part, 0, self._source.stream.path)
-        block = Block(self._source, part, list(raws), numbers, self._fids)
+        path = self._source.stream.path
+        raws = judged(self._work, path, self.header, part, len(numbers))
+        block = Block(self._source, part, raws, numbers, self._fids)
         return block if self._reaches is None else block.within(self._reaches)

@@ -10,7 +10,7 @@ from dataclasses import replace
 from functools import partial
 from typing import Any, Protocol
 
-from ..engine.faults import (
+from ..engine import (
     CityseqError,
     MemoryFault,
     OutOfDate,
@@ -23,14 +23,12 @@ from ..engine.judge import Answer, Work
 from ..engine.reports import Report
 from ..run import Result, usual_jobs
 from ..run.streams import Job, Judge, Pool, Results, Stream, results
-from ..sources import CHANGED, State, is_packed, is_path, is_url, refuse_whole
+from ..sources import CHANGED, State, is_packed, is_path, is_url, refuse_same, refuse_whole
 from ..sources.chunks import Chunks
 from ..sources.hashes import Digest, HashedFile, digest_of
-from ..sources.outputs import refuse_same
 from ..sources.parts import expanded
-from .builder import Builder, Entry, File
+from .builder import Builder, Entry, File, Wanted, judge_details
 from .database import INDEX_CHANGED
-from .details import Wanted, judge_details
 from .line_reader import Blocks, IndexedStream
 from .lookup import Index
 

@@ -13,13 +13,15 @@ from array import array
 from collections.abc import Callable, Iterable, Iterator
 from contextlib import contextmanager
 from dataclasses import dataclass
+from decimal import Decimal, InvalidOperation
 from itertools import pairwise, repeat
 from typing import Any, NamedTuple
 
-from ..engine import LINE_LIMITS
-from ..engine.faults import READ_FAULTS, OutOfDate, ReadFault, read_fault
-from ..sources import CHANGED, Reader, RegularFile, is_url, open_raw, opened, remote_of, state_of
+from ..engine import LINE_LIMITS, READ_FAULTS, OutOfDate, ReadFault, read_fault
+from ..engine.world import World
+from ..sources import CHANGED, Reader, is_url, open_raw, opened, remote_of, state_of
 from ..sources.packed import Packing, Unpacker
+from ..sources.regular import RegularFile
 from ..sources.remote import RangePlace
 from .database import INDEX_CHANGED
 
@@ -175,19 +177,20 @@ class IndexedStream:
             return
         raise OutOfDate.because(f"the stream is {told}", self.path)
 
+    def world(self) -> World:
+        """Returns the map from its vertices to world coordinates. Raises `decimal.InvalidOperation`
+        for a number with a greater exponent than Python takes."""
+        told = (json.loads(text) for text in (self.scale, self.translate))
+        scale, translate = (list(map(Decimal, texts)) for texts in told)
+        return World(scale, translate)
+
     @property
     def is_flat(self) -> bool:
         """Whether a query may have a box: x and y of the transform are fixed numbers."""
-        from decimal import Decimal, InvalidOperation  # few runs need it
-
-        from ..engine.world import World
-
         try:
-            told = (json.loads(text) for text in (self.scale, self.translate))
-            scale, translate = (list(map(Decimal, texts)) for texts in told)
-        except InvalidOperation:  # a number with a greater exponent than Python takes
+            return self.world().is_flat
+        except InvalidOperation:
             return False
-        return World(scale, translate).is_flat
 
 
 def _confirm(stream: IndexedStream, file: Any) -> None:
@@ -200,46 +203,25 @@ def _confirm(stream: IndexedStream, file: Any) -> None:
         raise ReadFault(f"read fault: {CHANGED}", None, stream.path)
 
 
-class FilePlace:
-    """The bytes of a file."""
-
-    near = NEAR
-
-    def __init__(self, stream: IndexedStream, reader: Reader) -> None:
-        self._stream, self._file = stream, reader.file
-        stream.compare(*state_of(reader.file))
-        self._placed = RegularFile(reader.file.fileno())
-
-    def read(self, begin: int, end: int) -> bytes:
-        """Returns the bytes from one place to another, or as many as there are."""
-        room = bytearray(max(min(end, self._stream.size) - begin, 0))
-        count, fault = self._placed.fill(memoryview(room), begin)
-        if fault is not None:
-            raise read_fault(fault, self._stream.path)
-        return bytes(room[:count])
-
-    def confirm(self) -> None:
-        """Raises `ReadFault` if the file has changed since it was opened."""
-        _confirm(self._stream, self._file)
-
-
-class RemotePlace(RangePlace):
-    """A plain file by its URL."""
+class FilePlace(RangePlace):
+    """The bytes of a plain file, or of one by its URL."""
 
     def __init__(self, stream: IndexedStream, reader: Reader) -> None:
         super().__init__(stream.size)
         self._stream, self._file = stream, reader.file
         remote: Any = remote_of(reader.file)
-        self._placed = RegularFile(remote)
-        stream.compare(*remote.state)
+        if remote is None:
+            self.near = NEAR
+        stream.compare(*(state_of(reader.file) if remote is None else remote.state))
+        self._placed = RegularFile(reader.file.fileno() if remote is None else remote)
 
     def asked(self, begin: int, end: int) -> bytes:
         """Returns the bytes of a range. Raises `ReadFault` if they cannot be read."""
         room = bytearray(end - begin)
-        _, fault = self._placed.fill(memoryview(room), begin)
+        count, fault = self._placed.fill(memoryview(room), begin)
         if fault is not None:
             raise read_fault(fault, self._stream.path)
-        return bytes(room)
+        return bytes(room[:count])
 
     def confirm(self) -> None:
         """Raises `ReadFault` if the file has changed since it was opened."""
@@ -309,8 +291,7 @@ def placed(stream: IndexedStream, base: str | None, find: Find) -> Iterator[Any]
         return
     check_file(stream)  # a pipe would wait for a writer when it is opened
     with opened(stream.path) as reader:
-        plain: Any = RemotePlace if is_url(stream.path) else FilePlace
-        kind: Any = PackedPlace if stream.is_slow else plain
+        kind: Any = PackedPlace if stream.is_slow else FilePlace
         try:
             of_file = kind(stream, reader)
         except READ_FAULTS as fault:

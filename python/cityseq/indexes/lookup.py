@@ -5,29 +5,27 @@ import os
 from collections.abc import Iterator, Sequence
 from dataclasses import dataclass, replace
 from itertools import chain, groupby
-from typing import Any
+from operator import itemgetter
+from typing import TYPE_CHECKING, Any
 
-from ..attributes.columns import FORMATS, Attribute
-from ..attributes.columns import quoted as named
-from ..attributes.cql2 import Filter, parsed
-from ..attributes.where import Condition, Translation
-from ..engine import CallStatus, library
-from ..engine.faults import OutOfDate, ReadFault, RequestError, quoted, shown
+from ..engine import CallStatus, OutOfDate, RawFeature, ReadFault, RequestError, library
 from ..engine.judge import Box, Texts, Work, asked
-from ..engine.records import hash_of, id_of
+from ..engine.records import id_of
 from ..run import Result
 from ..run.features import Feature, fault_of, feature_of
 from ..sources import is_url
 from ..sources.outputs import Limit, Target
 from . import geopackage
-from .candidates import SAME_ID, find_alike, has_more, reads_all, terms_of, want
+from .candidates import condition_of, has_more, reads_all, terms_of, want
 from .database import ATTRIBUTES as ATTRIBUTE_ROWS
 from .database import INDEX_CHANGED, OPTIONS, REPORTS, STREAMS, Database, checked
 from .geopackage import ATTRIBUTES
 from .geopackage import FOOTPRINTS as LAYER
+from .geopackage import Attribute
 from .line_reader import (
     BETWEEN,
     NO_RANGES,
+    OTHER_LINES,
     AllLines,
     IndexedStream,
     Row,
@@ -37,11 +35,18 @@ from .line_reader import (
     placed,
 )
 
+if TYPE_CHECKING:
+    from ..attributes.cql2 import Filter
+    from ..attributes.where import Condition
+
 TOGETHER = 500  # footprints of one query: older versions of SQLite take at most 999 values
+REPEATED = (
+    "SELECT id, id_exact, stream, line FROM features WHERE id IN"
+    " (SELECT id FROM features GROUP BY id HAVING count(*) > 1) ORDER BY id, id_exact, fid"
+)
 COLUMNS = {
     "cityseq_index": ("version", *OPTIONS, "changed", "places"),
     "features": ("fid", "stream", "line", "begin", "length", "id", "id_exact", "types", "lods"),
-    "feature_ids": ("key", "entries"),
     "streams": tuple(STREAMS),
     "reports": tuple(REPORTS),
 }
@@ -85,7 +90,8 @@ class Index:
     Attributes:
         path: Its path.
         streams: The streams of the index, in order.
-        tree, keep_going, line_limit, depth: How the streams were judged. Cuts are judged so too.
+        tree, extensions, keep_going, line_limit, depth: How the streams were judged. Cuts are
+            judged so too.
         attributes: The attributes that a filter can name, by their columns.
     """
 
@@ -108,7 +114,8 @@ class Index:
         self._base = Database(self.path)
         try:
             self._check_version()
-            self.tree, self.keep_going, self.line_limit, self.depth = self._options()
+            rules = self._options()
+            self.tree, self.extensions, self.keep_going, self.line_limit, self.depth = rules
             self.streams = list(self._streams())
             self._check_streams()
             self.attributes = self._attributes()
@@ -143,12 +150,13 @@ class Index:
             if missing:
                 raise self._fault(f"its table {table} has no {missing[0]}: build it again")
 
-    def _options(self) -> tuple[bool, bool, int, int]:
+    def _options(self) -> tuple[bool, bool, bool, int, int]:
         with self._base.reading():
             select = f"SELECT {', '.join(OPTIONS)} FROM cityseq_index"
             row = self._base.execute(select).fetchone()
-        tree, keep_going, limit, depth = checked("cityseq_index", OPTIONS, row, self.path)
-        return bool(tree), bool(keep_going), limit, depth
+        *flags, limit, depth = checked("cityseq_index", OPTIONS, row, self.path)
+        tree, extensions, keep_going = map(bool, flags)
+        return tree, extensions, keep_going, limit, depth
 
     def _streams(self) -> Iterator[IndexedStream]:
         folder = os.path.dirname(os.path.realpath(self.path))
@@ -253,40 +261,15 @@ class Index:
             lods=lods,
             box=box,
             tree=self.tree,
+            extensions=self.extensions,
             line_limit=self.line_limit,
             depth=self.depth,
         )
         return work if where is None else replace(work, where=self._condition(where))
 
     def _condition(self, where: str | Filter) -> Condition:
-        """Returns the condition of SQL for a filter."""
-        filter = parsed(where) if isinstance(where, str) else where
-        return Translation(self.attributes, self._in_the_way).condition(filter)
-
-    def _in_the_way(self, attribute: Attribute, kind: str | None) -> str | None:
-        """Returns words on the first feature that shows the type of an attribute, or whose text is
-        not of a kind. None if there is none."""
-        column, fid = named(attribute.column), attribute.first
-        with self._base.reading():
-            if kind is not None:
-                texts = self._base.search(
-                    f"SELECT fid, {column} FROM features WHERE {column} NOT NULL ORDER BY fid"
-                )
-                is_kind = FORMATS[kind].fullmatch
-                fid = next((fid for fid, text in texts if not is_kind(str(text))), None)
-            row = self._base.execute(
-                f"SELECT id, id_exact, line, stream, {column} FROM features WHERE fid = ?", (fid,)
-            ).fetchone()
-        if row is None:
-            return None
-        name, exact, line, stream, value = row
         paths = {each.number: each.path for each in self.streams}
-        try:
-            told = quoted(value) if isinstance(value, str) else f"{value}"
-            where = f"line {int(line)} of {shown(os.path.basename(paths[stream]))}"
-            return f"feature {quoted(id_of(name, exact))}, in {where}, has {told}"
-        except (AttributeError, KeyError, TypeError, ValueError):
-            raise OutOfDate.because(INDEX_CHANGED, self.path) from None
+        return condition_of(self._base, self.attributes, paths, where)
 
     def rows(self, work: Work) -> Iterator[Row]:
         """Yields where the lines are that a query may keep, in order. It misses none."""
@@ -476,21 +459,15 @@ class Index:
         """Yields each id that more than one feature has, in the order of the ids."""
         paths = {stream.number: stream.path for stream in self.streams}
         with self._base.reading():
-            find_alike(self._base)
-            found = self._base.execute(
-                "SELECT id, id_exact FROM features WHERE fid IN (SELECT fid FROM temp.alike)"
-                " GROUP BY id, id_exact HAVING count(*) > 1"
-            )
-            for text, exact in found:
+            found = self._base.execute(REPEATED)
+            for (text, exact), group in groupby(found, itemgetter(0, 1)):
                 try:
-                    places = self._base.execute(
-                        f"SELECT stream, line FROM {SAME_ID} ORDER BY alike.fid",
-                        (hash_of(text, exact), text, exact),
-                    ).fetchall()
-                    told = tuple((paths[number], int(line)) for number, line in places)
-                    yield RepeatedId(id_of(text, exact), told)
+                    places = tuple((paths[number], int(line)) for _, _, number, line in group)
+                    name = id_of(text, exact)
                 except (AttributeError, KeyError, TypeError, ValueError):
                     raise OutOfDate.because(INDEX_CHANGED, self.path) from None
+                if len(places) > 1:
+                    yield RepeatedId(name, places)
 
     def reports(self, stream: IndexedStream) -> Iterator[tuple[int, int, int, str, str | None]]:
         """Yields the invalid lines of a stream, which were left out: line, byte, code, text of the
@@ -519,16 +496,21 @@ class Index:
         return "\n".join(lines(self))
 
 
+def judged(work: Work, path: str, header: bytes, part: bytes, count: int) -> list[RawFeature]:
+    """Returns those of so many features in some lines of a stream that the engine keeps."""
+    answer, _, raws = library().features(header, part, work.request(header, part), count)
+    if answer.status == CallStatus.REFUSED and answer.line > 1:
+        raise OutOfDate.because(OTHER_LINES, path)
+    if answer.status != CallStatus.COMPLETE:
+        raise fault_of(answer, header, part, 0, path)
+    return list(raws)
+
+
 def kept(
     work: Work, stream: IndexedStream, header: bytes, part: bytes, numbers: list[int]
 ) -> Iterator[IndexedFeature]:
     """Yields the features of some lines that the engine keeps."""
-    answer, _, raws = library().features(header, part, work.request(header, part), len(numbers))
-    if answer.status == CallStatus.REFUSED and answer.line > 1:
-        raise OutOfDate.because("the stream has other lines", stream.path)
-    if answer.status != CallStatus.COMPLETE:
-        raise fault_of(answer, header, part, 0, stream.path)
-    for raw in raws:
+    for raw in judged(work, stream.path, header, part, len(numbers)):
         found = feature_of(raw, header, part, 0)
         told = {**vars(found), "line": numbers[raw.line - 2]}
         yield IndexedFeature(**told, file=stream.path)

@@ -44,10 +44,10 @@ _SPREAD = np.array([upper << 8 | lower for upper, lower in zip(UPPER, LOWER)], "
 Interval = tuple[Any, Any]
 
 
-def in_order(rows: bytes, width: int) -> bytes:
-    """Returns rows sorted by their first eight bytes. Others keep their order."""
-    keys: Any = np.ndarray(len(rows) // width, ">u8", rows, strides=(width,))
-    words = np.frombuffer(rows, "u8").reshape(-1, width // 8)
+def in_order(rows: bytes) -> bytes:
+    """Returns rows sorted by their keys. Others keep their order."""
+    words = np.frombuffer(rows, "u8").reshape(-1, ROW.itemsize // 8)
+    keys: Any = np.frombuffer(rows, ROW)["key"]
     ordered: bytes = words.take(keys.astype("u8").argsort(kind="stable"), axis=0).tobytes()
     return ordered
 

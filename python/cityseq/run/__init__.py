@@ -27,8 +27,8 @@ from dataclasses import dataclass, field
 from importlib import import_module
 from typing import TYPE_CHECKING, Any, Protocol
 
-from ..engine import CallStatus
-from ..engine.faults import (
+from ..engine import (
+    CallStatus,
     CityseqError,
     InvalidStream,
     MemoryFault,
@@ -39,7 +39,6 @@ from ..engine.faults import (
 )
 from ..engine.judge import Answer, Options, Query, Work
 from ..sources import CHANGED, size_of
-from ..sources.outputs import Writer
 
 if TYPE_CHECKING:
     from decimal import Decimal
@@ -47,6 +46,7 @@ if TYPE_CHECKING:
     from ..engine.records import Range, Tally
     from ..engine.reports import Report
     from ..engine.world import Extent
+    from ..sources.outputs import Writer
 
 
 Tell = Callable[["Report"], None]

@@ -13,12 +13,20 @@ from itertools import chain
 from math import nan
 from typing import TYPE_CHECKING, Any
 
-from ..engine import LOD_CLASSES, CallStatus, RawAnswer, RawFeature, Text, library
+from ..engine import (
+    LOD_CLASSES,
+    CallStatus,
+    CityseqError,
+    InvalidStream,
+    MemoryFault,
+    RawAnswer,
+    RawFeature,
+    Text,
+    library,
+)
 from ..engine import records as records_of
-from ..engine.faults import CityseqError, InvalidStream, MemoryFault
 from ..engine.judge import Work, held
 from ..engine.records import Range
-from ..engine.reports import report_of_end
 from ..engine.world import Axis, units_of
 from ..sources import Source, name_of
 from ..sources.chunks import Chunks
@@ -26,7 +34,7 @@ from ..sources.chunks import Chunks
 if TYPE_CHECKING:
     from decimal import Decimal
 
-    from ..attributes.values import Asked
+    from ..attributes import Asked
     from ..engine.world import Extent
 
 
@@ -76,7 +84,7 @@ class Feature:
     def attributes(self) -> dict[str, Any]:
         """The attributes of the main city object, as Python reads JSON. There are none if they are
         no object. Of a repeated name the first counts."""
-        from ..attributes.values import told  # few runs need it
+        from ..attributes import told  # few runs need it
 
         begin, length = self.attributes_place
         return told(self.bytes[begin : begin + length])
@@ -109,7 +117,7 @@ def feature_of(raw: RawFeature, header: bytes, part: Text, lines: int) -> Featur
         json.loads(line[raw.id_begin : raw.id_begin + raw.id_length]),
         raw.objects,
         raw.geometries,
-        set_bits(raw.types, library().type_names()),
+        set_bits(raw.types, library().count_names()),
         set_bits(raw.lods, LOD_CLASSES),
         (x, y, z),
         header,
@@ -122,6 +130,8 @@ def fault_of(answer: RawAnswer, header: bytes, part: Text, lines: int, file: str
     if answer.status == CallStatus.NO_MEMORY:
         return MemoryFault("out of memory", None, file)
     if answer.status == CallStatus.REFUSED:
+        from ..engine.reports import report_of_end  # valid streams do without
+
         report = report_of_end(answer, header, held(part), file).moved(lines)
         return InvalidStream(str(report), None, file)
     return CityseqError(f"the library answered {answer.status}, code {answer.code}", None, file)
@@ -153,7 +163,7 @@ def features(source: Source, work: Work) -> Iterator[Feature]:
 
 @lru_cache(maxsize=4_096)
 def _names(column: str, bits: int) -> tuple[str, ...]:
-    return set_bits(bits, library().type_names() if column == "types" else LOD_CLASSES)
+    return set_bits(bits, library().count_names() if column == "types" else LOD_CLASSES)
 
 
 class _World:
@@ -221,7 +231,7 @@ class _Table:
         ids = records_of.all_unescaped(records_of.spelled_ids(part, raw))
         self.columns["id"] += ids
         if self._attributes:
-            from ..attributes.values import rows_of, texts_of  # few runs need it
+            from ..attributes import rows_of, texts_of  # few runs need it
 
             self._rows += rows_of(texts_of(part, raw), self._attributes)
         self._waiting.append((raw, lines))

@@ -7,8 +7,7 @@ from collections.abc import Callable, Iterable, Iterator
 from functools import partial
 from typing import Any
 
-from ..engine import Text
-from ..engine.faults import InvalidStream, ReadFault
+from ..engine import InvalidStream, ReadFault, Text
 from ..engine.judge import SMALL, Answer, Work, judge
 from ..engine.reports import Report
 from ..sources.chunks import Chunk, Cutter

@@ -14,15 +14,17 @@ from functools import partial
 from itertools import chain, islice
 from queue import SimpleQueue
 from threading import Lock
-from typing import Any, Generic, Protocol, TypeVar, cast
+from typing import TYPE_CHECKING, Any, Generic, Protocol, TypeVar, cast
 
 from ..engine import CallStatus
 from ..engine.judge import Answer, Work, judge
 from ..sources import Source, is_packed
 from ..sources.chunks import PART, Chunk, Chunks
-from ..sources.outputs import Writer
 from ..sources.packed import BLOCK, Unpacker
 from . import Fold, Origin, Progress, Result, Take, Tell, number_of_jobs
+
+if TYPE_CHECKING:
+    from ..sources.outputs import Writer
 
 STACK = 4 << 20  # bytes: a call of the library takes up to 2 MB, and its callers in Python the rest
 PATIENCE = 2.0  # seconds that a thread has to begin, and between two looks whether one is alive
@@ -261,14 +263,6 @@ class Stream:
             return answer.size + (len(self.chunks.header) if is_first else 0)
         before, self._taken = self._taken, unpacker.taken
         return self._taken - before
-
-    def judged_here(self) -> Fold:
-        """Judges all chunks in this thread, and returns the fold of their answers."""
-        for chunk in self.chunks:
-            self.add(self.judge(chunk))
-            if self.fold.has_ended:
-                break
-        return self.fold
 
 
 Answers = tuple[list[Answer], bool]  # of the next chunks, and whether the stream has no more

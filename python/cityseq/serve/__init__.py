@@ -18,7 +18,7 @@ from __future__ import annotations
 from collections.abc import Awaitable, Callable
 from typing import TYPE_CHECKING, Any
 
-from ..engine.faults import RequestError
+from ..engine import RequestError
 
 if TYPE_CHECKING:
     from aiohttp import web

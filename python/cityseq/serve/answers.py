@@ -14,7 +14,7 @@ from urllib.parse import quote, quote_plus, urlsplit
 
 from aiohttp import web
 
-from ..engine.faults import (
+from ..engine import (
     CityseqError,
     InvalidStream,
     MemoryFault,

@@ -20,7 +20,7 @@ from aiohttp import web
 from .. import __version__
 from ..cli.output import say
 from ..coordinates import around
-from ..engine.faults import CityseqError, shown
+from ..engine import CityseqError, shown
 from ..engine.world import deep
 from ..indexes.index_pages import Found
 from . import bodies
@@ -40,8 +40,7 @@ from .answers import (
 )
 from .context import Catalogue, Context, Resource, accept_of
 from .documents import table
-from .parameters import Query
-from .queryables import of_attributes
+from .parameters import Query, of_attributes
 from .sending import Calls, Pace, Places, send
 from .settings import Settings
 

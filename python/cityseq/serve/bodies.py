@@ -14,9 +14,8 @@ from typing import Any
 
 from aiohttp import web
 
-from .. import __version__
 from ..cli.json_output import reasons_object, report_object, result_object
-from ..cli.requests import Check, Filter
+from ..cli.options import Check, Filter
 from ..engine import Text
 from ..engine.judge import SMALL, Answer, Work, asked
 from ..run.feed import Fed, OtherPacking, Task, TooLong, Unpacking
@@ -42,6 +41,7 @@ def _asked_of(command: str, query: Query) -> Wanted:
         depth=query.number("depth"),
         keep_going=query.flag("keep_going"),
         tree=query.flag("tree"),
+        extensions=query.flag("extensions"),
         max_reports=0 if only_counts else query.number("max_reports"),
         summary=query.flag("summary"),
     )
@@ -60,6 +60,7 @@ def _work(wanted: Wanted, query: Query) -> Work:
         depth=wanted.depth,
         keep_going=wanted.keep_going,
         tree=wanted.tree,
+        extensions=wanted.extensions,
         exclude=query.flag("exclude"),
         ids=query.texts("id"),
         types=query.texts("type"),
@@ -209,7 +210,7 @@ class Judgement:
         """Returns an object a line: the reports, the result, and with `summary` how often each
         reason occurred."""
         result, fed = self.fed.result(), self.fed
-        told = result_object(result, self._wanted, __version__, self._body.size, None)
+        told = result_object(result, self._wanted, self._body.size, None)
         counts = [reasons_object(fed.codes)] if self._wanted.summary else []
         objects = [*map(report_object, fed.reports), told, *counts]
         return b"".join(json.dumps(each).encode("ascii") + b"\n" for each in objects)

@@ -12,9 +12,9 @@ from typing import TYPE_CHECKING, Any
 
 from aiohttp import web
 
-from ..attributes.columns import Attribute
 from ..coordinates import System
-from ..engine.faults import RequestError
+from ..engine import RequestError
+from ..indexes.geopackage import Attribute
 from ..indexes.index_pages import OpenStream, Pool
 from ..indexes.line_reader import NO_RANGES, IndexedStream
 from .answers import HTML, Format, Link, Links, Problem, choose, dumped, segment

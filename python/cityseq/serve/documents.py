@@ -30,8 +30,22 @@ from .answers import (
 from .bodies import check, filter
 from .context import Catalogue, Collection, Context, Resource
 from .items import item, items
-from .parameters import CRS, QUERY, STRING, SUMMARY, Object, Parameter, of_items, of_judging
-from .queryables import FILTERS, QUERYABLES, RELATION, has_filters, of_all, queryables
+from .parameters import (
+    CRS,
+    FILTERS,
+    QUERY,
+    QUERYABLES,
+    RELATION,
+    STRING,
+    SUMMARY,
+    Object,
+    Parameter,
+    has_filters,
+    of_all,
+    of_items,
+    of_judging,
+    queryables,
+)
 from .settings import Limits
 
 TITLE = "City models by cityseq"

@@ -12,9 +12,9 @@ from typing import Any, NamedTuple
 
 from aiohttp import web
 
-from ..attributes.values import members
+from ..attributes import members
 from ..coordinates import Extent, System, edges, may_be_degrees, pieces, short
-from ..engine.faults import RequestError
+from ..engine import RequestError
 from ..engine.world import plain
 from ..indexes.footprints import Polygon
 from ..indexes.index_pages import Block, Found, Page
@@ -31,8 +31,16 @@ from .answers import (
     header_of,
 )
 from .context import Collection, Context, name_of
-from .parameters import MOST_ON_A_PAGE, ON_A_PAGE, SELECTION, USUAL_LIMIT, Query, unescaped
-from .queryables import filter_of, of_attributes
+from .parameters import (
+    MOST_ON_A_PAGE,
+    ON_A_PAGE,
+    SELECTION,
+    USUAL_LIMIT,
+    Query,
+    filter_of,
+    of_attributes,
+    unescaped,
+)
 from .sending import send_page
 
 LISTS = ("ids", "type", "lod")

@@ -1,18 +1,27 @@
 """The parameters of requests, as OpenAPI has them, and how their texts are read: strictly, so each
-must be known, and appear once."""
+must be known, and appear once. Queryables of a collection, and filters that name them: OGC API -
+Features, Part 3. The language of filters is CQL2 text."""
 from __future__ import annotations
 
 import re
-from collections.abc import Sequence
+from collections.abc import Iterable, Mapping, Sequence
 from dataclasses import dataclass
 from datetime import date
 from decimal import Decimal, InvalidOperation
-from typing import Any
+from importlib.util import find_spec
+from typing import TYPE_CHECKING, Any
 from urllib.parse import unquote_to_bytes
 
+from aiohttp import web
+
+from ..attributes.cql2 import Comparison, Filter, Joined, Literal, parsed
 from ..engine import USUAL_DEPTH, USUAL_LINE
-from .answers import Format, Problem
+from ..indexes.geopackage import Attribute
+from .answers import HTML, SCHEMA, Format, Problem
 from .settings import MOST_REPORTS, REPORTS, Limits
+
+if TYPE_CHECKING:
+    from .context import Catalogue, Context
 
 Object = dict[str, Any]
 USUAL_LIMIT = 1_000
@@ -159,6 +168,7 @@ def of_judging(limits: Limits) -> tuple[Parameter, ...]:
         Parameter(
             "tree", "Reject a feature if its main city object does not reach all others.", FLAG
         ),
+        Parameter("extensions", "Accept types of city objects that begin with `+`.", FLAG),
         Parameter(
             "line_limit",
             "Reject a line with more bytes.",
@@ -320,3 +330,118 @@ def _number(text: str, whole: str) -> Decimal:
     if number != 0 and not (number.is_finite() and abs(number.adjusted()) <= LONGEST_NUMBER):
         raise Problem(400, f"a number of bbox is out of range: {whole}")
     return number
+
+
+# ---- queryables
+
+RELATION = "http://www.opengis.net/def/rel/ogc/1.0/queryables"
+PART, CQL2 = (
+    "http://www.opengis.net/spec/ogcapi-features-3/1.0/conf/",
+    "http://www.opengis.net/spec/cql2/1.0/conf/",
+)
+QUERYABLES = (f"{PART}queryables", f"{PART}queryables-query-parameters")
+FILTERS = (
+    f"{PART}filter",
+    f"{PART}features-filter",
+    f"{CQL2}cql2-text",
+    f"{CQL2}basic-cql2",
+    f"{CQL2}advanced-comparison-operators",
+)
+KINDS = {"INTEGER": "integer", "REAL": "number", "TEXT": "string"}
+BOOLEANS = {"true": True, "false": False}
+LITERAL = re.compile(r"[-+]?(?:\d+\.?\d*|\.\d+)(?:[eE][-+]?\d{1,9})?", re.ASCII)
+LONGEST_LITERAL = 1_000  # digits
+TOGETHER = 200  # parameters in the definition of the API
+
+
+def has_filters() -> bool:
+    """Whether the package is there that reads filters."""
+    return find_spec("lark") is not None
+
+
+def schema_of(attribute: Attribute) -> Object:
+    """Returns the values of an attribute, as JSON Schema has them."""
+    if attribute.format == "boolean":
+        return {"type": "boolean"}
+    told: Object = {"type": KINDS[attribute.type]}
+    return told if attribute.format is None else {**told, "format": attribute.format}
+
+
+def of_attributes(attributes: Iterable[Attribute], known: Sequence[Parameter]) -> list[Parameter]:
+    """Returns the parameters that select features by the value of an attribute. A known one keeps
+    its meaning."""
+    names = {each.name for each in known}
+    return [
+        Parameter(each.column, f"Features with this value of {each.name}.", schema_of(each))
+        for each in attributes
+        if each.column not in names
+    ]
+
+
+def of_all(catalogue: Catalogue, known: Sequence[Parameter]) -> list[Parameter]:
+    """Returns these parameters of all collections, for the definition of the API."""
+    found: dict[str, Parameter] = {}
+    for collection in catalogue:
+        for each in of_attributes(collection.attributes.values(), known):
+            one = found.setdefault(each.name, each)
+            if one.schema != each.schema:
+                found[each.name] = Parameter(each.name, each.description, {})
+    return list(found.values())[:TOGETHER]
+
+
+def _literal(attribute: Attribute, text: str) -> Literal:
+    """Returns the value that a parameter asks for.
+
+    Raises:
+        Problem: It is not of the type of the attribute.
+    """
+    if attribute.format == "boolean":
+        if text not in BOOLEANS:
+            raise Problem(400, f"{attribute.column} is true or false: {text}")
+        return BOOLEANS[text]
+    if attribute.type == "TEXT":
+        return text
+    if len(text) > LONGEST_LITERAL or LITERAL.fullmatch(text) is None:
+        raise Problem(400, f"{attribute.column} is a number: {text}")
+    return Decimal(text)
+
+
+def filter_of(
+    query: Query, attributes: Mapping[str, Attribute], known: Sequence[Parameter]
+) -> Filter | None:
+    """Returns the filter of a request: that of `filter`, and the values of attributes.
+
+    Raises:
+        Problem: A value is not of the type of its attribute, or the language is another one.
+        RequestError: The text is no filter.
+    """
+    text, language = query.text("filter"), query.text("filter-lang")
+    if language not in (None, LANGUAGE):
+        raise Problem(400, f"filter-lang is {LANGUAGE}: {language}")
+    parts: list[Filter] = [] if text is None else [parsed(text)]
+    for each in of_attributes(attributes.values(), known):
+        value = query.text(each.name)
+        if value is not None:
+            parts.append(Comparison(each.name, "=", _literal(attributes[each.name], value)))
+    return Joined("AND", tuple(parts)) if parts else None
+
+
+async def queryables(context: Context) -> web.Response:
+    """Answers `/collections/NAME/queryables`."""
+    collection = context.collection
+    path = f"{collection.path}/queryables"
+    told = {
+        "$schema": "https://json-schema.org/draft/2020-12/schema",
+        "$id": context.links.url(path),
+        "type": "object",
+        "title": f"Queryables of {collection.id}",
+        "properties": {
+            each.column: {"title": each.name, **schema_of(each)}
+            for each in collection.attributes.values()
+        },
+        "additionalProperties": False,
+    }
+    if context.chosen == HTML:
+        links = context.links.formats(path, (SCHEMA, HTML), HTML)
+        return context.document({**told, "links": links}, "queryables.html", collection=collection)
+    return context.document(told, "queryables.html")

@@ -17,8 +17,7 @@ from aiohttp.http_exceptions import HttpProcessingError
 
 from ..cli.output import say
 from ..cli.requests import Serve
-from ..engine import library
-from ..engine.faults import ReadFault, shown, why
+from ..engine import ReadFault, library, shown, why
 from .application import Server, application
 from .sending import SENT
 from .settings import LOOPBACK, Limits, Settings

@@ -13,8 +13,7 @@ from typing import Any, TypeVar
 
 from aiohttp import web
 
-from ..engine import give_back
-from ..engine.faults import MemoryFault
+from ..engine import MemoryFault, give_back
 from ..indexes.index_pages import Page
 from ..run import usual_jobs
 from ..run.streams import Pool

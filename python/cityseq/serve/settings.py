@@ -6,7 +6,7 @@ from typing import Any
 from urllib.parse import urlsplit
 
 from ..cli.requests import Serve
-from ..engine.faults import RequestError
+from ..engine import RequestError
 
 CONNECTIONS = 1_000
 REPORTS, MOST_REPORTS = 1_000, 10_000  # in an answer: the default, and the most

@@ -1,5 +1,5 @@
-"""Sources of streams: paths of files that may be packed, `-`, bytes and file objects. Several
-threads read a regular file at any place."""
+"""Sources of streams: paths of files that may be packed, `-`, bytes and file objects. No output
+destroys a source: files are compared by device and inode, not by name."""
 from __future__ import annotations
 
 import contextlib
@@ -9,19 +9,11 @@ import os
 import select
 import stat
 import sys
-from collections.abc import Iterator
+from collections.abc import Iterable, Iterator
 from typing import IO, TYPE_CHECKING, Any, Protocol, Union
 
-from ..engine import Room, library
-from ..engine.faults import (
-    READ_FAULTS,
-    CityseqError,
-    InvalidStream,
-    ReadFault,
-    RequestError,
-    read_fault,
-)
-from .packed import Packing, Unpacker, may_be_packed, packing_by_mark, packing_of
+from ..engine import READ_FAULTS, CityseqError, InvalidStream, ReadFault, RequestError, read_fault
+from .packed import Packing, Text, Unpacker, may_be_packed, packing_by_mark, packing_of
 
 if TYPE_CHECKING:
     from array import array
@@ -34,13 +26,13 @@ if TYPE_CHECKING:
 Source = Union[str, "os.PathLike[Any]", "Buffer", IO[bytes]]
 
 State = tuple[int, int]  # of a file
+Identity = tuple[int, int]
 ENDINGS = (".city.json", ".city.json.gz")  # of the names of whole CityJSON files
 CHANGED = "changed while it was read"
 PIECE = 1 << 20  # the most bytes of one read
 IDLE = 50  # milliseconds to wait for more bytes before those that are there are judged
+UNFINISHED = ".part"  # the end of a file's name until it is whole
 LONGEST_PATH = 4_096  # bytes: a longer text is no path
-LOOK = 1 << 14  # bytes of the first read for the end of a line
-_room = Room()  # for the parts of a thread, one after another
 
 
 def is_path(source: Any) -> bool:
@@ -264,21 +256,37 @@ class Watch(Protocol):
         """Whether the file is in another state than at the beginning."""
 
 
-class _Watch:
-    """A watch of a regular file of this system."""
+class LocalFile:
+    """A file of this system. It stays open as long as this object exists."""
 
     def __init__(self, descriptor: int) -> None:
         self._descriptor = -1
         self._descriptor = os.dup(descriptor)
-        self.state = state_of(descriptor)
+        self.state = self.state_now()
+        self.size = self.state[0]
 
     def __del__(self) -> None:
         if self._descriptor >= 0:
             os.close(self._descriptor)
 
+    def state_now(self) -> State:
+        """Returns the size, and the time of change in nanoseconds."""
+        return state_of(self._descriptor)
+
     def is_changed(self) -> bool:
         """Whether the file is in another state than at the beginning."""
-        return state_of(self._descriptor) != self.state
+        return self.state_now() != self.state
+
+    def read(self, begin: int, end: int) -> bytes:
+        """Returns the bytes between two places, or those that one read gives."""
+        return os.pread(self._descriptor, end - begin, begin)
+
+    def expect(self, end: int) -> None:
+        """Does nothing: the system reads ahead."""
+
+    def fill(self, room: memoryview, begin: int) -> int:
+        """Fills some of a room from a place on. Returns how many bytes it read."""
+        return os.preadv(self._descriptor, [room], begin)
 
 
 def watch_of(file: Any) -> Watch | None:
@@ -288,7 +296,7 @@ def watch_of(file: Any) -> Watch | None:
         return remote
     try:
         descriptor = file.fileno()
-        return _Watch(descriptor) if stat.S_ISREG(os.fstat(descriptor).st_mode) else None
+        return LocalFile(descriptor) if stat.S_ISREG(os.fstat(descriptor).st_mode) else None
     except (AttributeError, OSError, ValueError):
         return None
 
@@ -315,125 +323,6 @@ def opened(source: Source) -> Iterator[Reader]:
         yield Reader(file, name, is_text=True)
 
 
-class _Descriptor:
-    """A file of this system. It stays open as long as this object exists."""
-
-    def __init__(self, descriptor: int) -> None:
-        self._descriptor = -1
-        self._descriptor = os.dup(descriptor)
-        self.size = os.fstat(descriptor).st_size
-
-    def __del__(self) -> None:
-        if self._descriptor >= 0:
-            os.close(self._descriptor)
-
-    def state_now(self) -> tuple[int, int]:
-        """Returns the size, and the time of change in nanoseconds."""
-        told = os.fstat(self._descriptor)
-        return told.st_size, told.st_mtime_ns
-
-    def read(self, begin: int, end: int) -> bytes:
-        """Returns the bytes between two places, or those that one read gives."""
-        return os.pread(self._descriptor, end - begin, begin)
-
-    def expect(self, end: int) -> None:
-        """Does nothing: the system reads ahead."""
-
-    def fill(self, room: memoryview, begin: int) -> int:
-        """Fills some of a room from a place on. Returns how many bytes it read."""
-        return os.preadv(self._descriptor, [room], begin)
-
-
-class RegularFile:
-    """A regular file, or one by its URL, that is read at any place."""
-
-    def __init__(self, file: int | RemoteFile) -> None:
-        """Takes a descriptor, or the file of a URL."""
-        self._file: Any = _Descriptor(file) if isinstance(file, int) else file
-        self.size = self._file.size
-
-    @property
-    def state(self) -> tuple[int, int]:
-        """The size, and the time of change in nanoseconds, or what stands for it."""
-        state: tuple[int, int] = self._file.state_now()
-        return state
-
-    def look(self, begin: int, end: int) -> bytes:
-        """Returns the bytes between two places, or those that one read gives."""
-        found: bytes = self._file.read(begin, end)
-        return found
-
-    def expect(self, end: int) -> None:
-        """Notes that this thread will read up to a place."""
-        self._file.expect(end)
-
-    def line_end(self, begin: int, last: int) -> int | None:
-        """Returns the place after the first LF between two places. None if there is none."""
-        size = LOOK
-        while begin < last:
-            piece = self.look(begin, min(begin + size, last))
-            if not piece:
-                break
-            found = library().part_end(piece, 1)
-            if found:
-                return begin + found
-            begin += len(piece)
-            size = min(4 * size, PIECE)
-        return None
-
-    def fill(self, room: memoryview, begin: int) -> tuple[int, OSError | None]:
-        """Fills a room from a place on. Returns how many bytes it read, and why a read after them
-        failed, if one did."""
-        count = 0
-        try:
-            while count < len(room):
-                read = self._file.fill(room[count:], begin + count)
-                if read == 0:
-                    break
-                count += read
-        except OSError as error:
-            return count, error
-        return count, None
-
-    def read(self, begin: int, end: int) -> tuple[memoryview, OSError | None]:
-        """Returns the bytes between two places, or those that there are, and why a read after them
-        failed, if one did. They change when this thread reads again."""
-        room = _room.of(end - begin)
-        count, fault = self.fill(room, begin)
-        return room[:count], fault
-
-    def read_own(self, begin: int, end: int) -> tuple[bytes, OSError | None]:
-        """Does the same as `read`, but the bytes are an object of their own, and do not change."""
-        pieces: list[bytes] = []
-        try:
-            while begin < end:
-                piece = self.look(begin, end)
-                if not piece:
-                    break
-                pieces.append(piece)
-                begin += len(piece)
-        except OSError as error:
-            return b"".join(pieces), error
-        return b"".join(pieces), None
-
-
-def regular_file(file: Any, kind: type[RegularFile] = RegularFile) -> RegularFile | None:
-    """Returns the regular file of a file object, as one of this kind. None if it has none."""
-    remote = remote_of(file)
-    if remote is not None:
-        return kind(remote) if isinstance(file, io.BufferedReader) else None
-    try:
-        if (
-            isinstance(file, io.BufferedReader)
-            and hasattr(os, "preadv")
-            and stat.S_ISREG(os.fstat(file.fileno()).st_mode)
-        ):
-            return kind(file.fileno())
-    except OSError:
-        pass
-    return None
-
-
 def is_whole(source: Any, whole: bool | None = None) -> bool:
     """Whether a source is a whole file. If that is not said, the end of its name says it."""
     if whole is None:
@@ -458,3 +347,127 @@ def refuse_whole(paths: list[str]) -> None:
                 f"{path}: by its name it is a whole CityJSON file: make a stream of it, as by"
                 " cityseq-run split"
             )
+
+
+def wait_for(file: Any) -> None:
+    """Waits until a file that does not block may take more."""
+    poll = select.poll()
+    poll.register(file.fileno(), select.POLLOUT)
+    poll.poll()
+
+
+def _write_some(file: Any, text: memoryview) -> int:
+    """Writes some of a text, and returns how many bytes the file took. Waits if it took none.
+
+    A raw file that does not block returns None if it takes nothing, and a buffered one raises
+    `BlockingIOError`. Any other file that returns None has taken all."""
+    try:
+        written = file.write(text)
+    except BlockingIOError as fault:
+        wait_for(file)
+        return int(getattr(fault, "characters_written", 0))
+    if written is None and isinstance(file, io.RawIOBase):
+        wait_for(file)
+        return 0
+    return written if isinstance(written, int) else len(text)
+
+
+def write_all(file: Any, text: Text) -> None:
+    """Writes all of a text to a binary file, which may take only a part of it at a time.
+
+    Raises:
+        OSError: A write failed.
+    """
+    rest = memoryview(text)
+    try:
+        while rest:
+            rest = rest[_write_some(file, rest) :]
+    finally:
+        rest.release()
+
+
+def target_of(path: str) -> str | None:
+    """Returns the file that an output replaces. If the path is a link, that is the file that it
+    leads to. Returns None for a device or a pipe, which is written directly."""
+    try:
+        if not stat.S_ISREG(os.stat(path).st_mode):
+            return None
+    except OSError:
+        pass  # there is nothing yet
+    return os.path.realpath(path)
+
+
+def part_of(path: str) -> str | None:
+    """Returns where an output that is not whole is left if it must be kept. Returns None for a
+    device or a pipe."""
+    target = target_of(path)
+    return None if target is None else target + UNFINISHED
+
+
+def _state(thing: Any, standard: int) -> os.stat_result:
+    """Returns the system's state of a source or an output. `-` is the given standard descriptor."""
+    if is_path(thing):
+        return os.stat(thing)
+    return os.fstat(standard if isinstance(thing, str) else thing.fileno())
+
+
+def identity(thing: Any, standard: int) -> Identity | None:
+    """Returns the device and the inode of the file of a source or an output. None if it does not
+    exist, or is neither a regular file nor a block device."""
+    try:
+        state = _state(thing, standard)
+    except (AttributeError, OSError, ValueError):
+        return None
+    return (
+        (state.st_dev, state.st_ino)
+        if stat.S_ISREG(state.st_mode) or stat.S_ISBLK(state.st_mode)
+        else None
+    )
+
+
+def _written(outputs: Iterable[Any]) -> Iterator[tuple[str, Any]]:
+    """Yields the name of each output, and each file that is written for it."""
+    for output in (
+        os.fsdecode(output) if isinstance(output, bytes) else output for output in outputs
+    ):
+        yield name_of(output), output
+        if is_path(output):
+            part = part_of(os.fsdecode(output))
+            if part is not None:
+                yield part, part
+
+
+def _read(sources: Iterable[Any]) -> set[Identity]:
+    """Returns the identities of the files that are read."""
+    found = (identity(source, 0) for source in sources if not isinstance(source, bytes))
+    return {each for each in found if each}
+
+
+def refuse_same(sources: Iterable[Any], outputs: Iterable[Any]) -> None:
+    """Raises `RequestError` if an output is a file that is read. The output `-` is standard
+    output."""
+    read = _read(sources)
+    for name, output in _written(outputs):
+        if identity(output, 1) in read:
+            raise RequestError(f"{name}: the output is a file that is read")
+
+
+def refuse_standard(sources: Iterable[Any]) -> None:
+    """Raises `RequestError` if standard output or standard error is a file that is read. If that
+    is standard error, nothing is written to it any more, not even this fault."""
+    sources = list(sources)
+    if sys.stderr is not None and identity(sys.stderr, 2) in _read(sources):
+        sys.stderr = None  # type: ignore[assignment]
+        raise RequestError("standard error is a file that is read")
+    refuse_same(sources, ["-"])
+
+
+def refuse_read(read: Iterable[str | None], outputs: Iterable[str | None]) -> None:
+    """Refuses to write to a file that is read, also by standard output or standard error.
+
+    Raises:
+        RequestError: An output is read.
+    """
+    named = [path for path in read if path is not None]
+    refuse_standard(named)
+    refuse_same(named, [output for output in outputs if output is not None])

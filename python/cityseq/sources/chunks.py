@@ -1,28 +1,18 @@
-"""Chunks of a stream: some whole lines, which are judged after its header. They are ranges of a
-regular file, or are cut from pieces in bounded memory."""
+"""Chunks of a stream: some whole lines, which are judged after its header. They are cut from pieces
+in bounded memory, if they are no ranges of a regular file."""
 from __future__ import annotations
 
 from collections.abc import Generator, Iterator
 from dataclasses import dataclass
+from typing import TYPE_CHECKING
 
-from ..engine import Text, library
-from ..engine.faults import CityseqError, MemoryFault, ReadFault
+from ..engine import CityseqError, MemoryFault, ReadFault, Text, library
 from ..engine.judge import SMALL, Work, part_size
-from . import (
-    LOOK,
-    PIECE,
-    Reader,
-    RegularFile,
-    Source,
-    State,
-    Watch,
-    is_path,
-    name_of,
-    opened,
-    regular_file,
-    watch_of,
-)
+from . import PIECE, Reader, Source, State, Watch, is_path, name_of, opened, watch_of
 from .packed import Note, Unpacker
+
+if TYPE_CHECKING:
+    from .regular import RegularFile
 
 TAIL = 1 << 22  # bytes at the end of a line that is too long: a report finds its vertices there
 HEAD = 65_536  # bytes at the beginning of a stream that are kept, to say what it may be
@@ -81,122 +71,6 @@ class Chunk:
             part = self.text if end - begin == length else memoryview(self.text)[begin:end]
             yield self.begin + begin, bytes(part) if is_own else part
             begin += len(part)
-
-
-@dataclass(frozen=True)
-class FileChunk(Chunk):
-    """The lines of a regular file that begin between two places. Any thread may read them.
-
-    Attributes:
-        end: The place before which each line begins.
-        source: The file.
-        line_limit: The most bytes in a line.
-        keep_going: Whether a line that is too long is followed by others.
-        has_tails: Whether a line that is too long is read up to its end, to keep some bytes there.
-    """
-
-    end: int = 0
-    source: RegularFile | None = None
-    line_limit: int = 0
-    keep_going: bool = False
-    has_tails: bool = False
-
-    @property
-    def length(self) -> int:
-        """How many bytes there are between the places."""
-        return self.end - self.begin
-
-    def parts(self, size: int, is_own: bool = False) -> Iterator[tuple[int, Text]]:
-        """Yields parts of about `size` bytes. Raises `OSError` after the last whole line if a read
-        fails."""
-        assert self.source is not None
-        read = self.source.read_own if is_own else self.source.read
-        begin, end, is_cut, fault = self._bounds(self.source)
-        step, is_first, is_over = size, self.is_first, begin >= end
-        self.source.expect(end)
-        while not is_over:
-            wanted = end if end - begin <= step + step // 4 else begin + step
-            part, failed = read(begin, wanted)
-            is_short = begin + len(part) < wanted
-            is_over = is_short or wanted == end
-            is_whole = is_over and failed is None and fault is None
-            length = len(part) if is_whole else whole_lines(part)
-            if not length and not is_over:
-                step *= 4  # for a longer line
-                continue
-            if length or is_first:
-                is_end = is_cut and is_whole
-                yield begin, bytearray(part) + self._tail(end) + b"\n" if is_end else part[:length]
-            fault = failed or fault
-            begin, step, is_first = begin + length, size, False
-        if fault is not None:
-            raise fault
-
-    def _bounds(self, source: RegularFile) -> tuple[int, int, bool, OSError | None]:
-        """Returns where the first line begins and the last one ends, whether the last one is cut
-        short because it is too long, and why the end could not be read, if so."""
-        begin, end, limit = self.begin, self.end, self.line_limit
-        if not self.is_first:
-            begin = source.line_end(begin - 1, end) or end
-        if begin >= end or end >= source.size:
-            return begin, end, False, None
-        last = min(end + limit + 1, source.size)
-        try:
-            found = source.line_end(end - 1, last)
-        except OSError as fault:
-            return begin, end, False, fault
-        if found is not None:
-            return begin, found, False, None
-        return begin, last, self.keep_going and last < source.size, None
-
-    def _tail(self, cut: int) -> bytes:
-        """Returns the end of a line that is too long, after the byte where it was cut."""
-        if not self.has_tails or self.source is None:
-            return b""
-        found = self.source.line_end(cut, self.source.size)
-        end = self.source.size if found is None else found - 1
-        return self.source.look(max(cut, end - TAIL), end)
-
-
-def file_chunks(
-    file: str, header: bytes, source: RegularFile, size: int, work: Work
-) -> Iterator[FileChunk]:
-    """Yields chunks of `size` bytes of a regular file, from the end of its header on."""
-    begin = len(header)
-    for end in _ends(source, begin, size, work.line_limit):
-        yield FileChunk(
-            file,
-            header,
-            begin,
-            is_first=begin == len(header),
-            is_last=end == source.size,
-            end=end,
-            source=source,
-            line_limit=work.line_limit,
-            keep_going=work.keep_going,
-            has_tails=work.kind == "records",
-        )
-        begin = end
-
-
-def _ends(source: RegularFile, begin: int, size: int, line_limit: int) -> Iterator[int]:
-    """Yields where chunks end. Short chunks in which no line begins are joined to the one before,
-    because a chunk takes time of its own. A long chunk without a line is rare."""
-    while begin < source.size:
-        end = begin + size
-        if size < LOOK and end < source.size:
-            last = min(end + line_limit, source.size)
-            try:
-                after = source.line_end(end - 1, last)
-            except OSError:  # who reads the lines finds it too
-                after = end
-            found = after or last
-            joined = found if found == source.size else end + (found - end) // size * size
-            if after is None and end < joined < source.size:  # the line is too long
-                yield end
-            end = joined
-        begin = min(end, source.size)
-        yield begin
 
 
 class Cutter:
@@ -385,7 +259,7 @@ class Chunks:
         source: Source,
         work: Work,
         size: int | None = None,
-        kind: type[RegularFile] = RegularFile,
+        kind: type[RegularFile] | None = None,
         note: Note | None = None,
     ) -> None:
         """Takes the size of chunks, the class of a regular file, and what gets the members of a
@@ -427,8 +301,7 @@ class Chunks:
         header, rest = read_header(reader, work.line_limit)
         self.unpacker = reader.file if isinstance(reader.file, Unpacker) else None
         self.header, self.head = header, header[:HEAD] + bytes(rest[:HEAD])
-        file = regular_file(reader.file, self._kind) if is_path(self._source) else None
-        self.regular = file
+        file = self._regular(reader)
         has_more = file is not None and file.size > len(header) + len(rest)
         if file is not None and has_more and header.endswith(b"\n"):
             yield from self._of_file(file)
@@ -446,7 +319,17 @@ class Chunks:
             yield from cutter.feed(piece)
         yield from cutter.end(reader.fault)
 
+    def _regular(self, reader: Reader) -> RegularFile | None:
+        """Returns the file that threads may read at any place. None if they may not."""
+        if self.unpacker is None and is_path(self._source):
+            from .regular import regular_file  # packed files and pipes do without
+
+            self.regular = regular_file(reader.file, self._kind)
+        return self.regular
+
     def _of_file(self, file: RegularFile) -> Iterator[Chunk]:
+        from .regular import file_chunks
+
         work = self._work
         size = part_size(work, self._usual, self.header, self._size)
         return file_chunks(self.file, self.header, file, size, work)

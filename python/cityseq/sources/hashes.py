@@ -13,7 +13,8 @@ from hashlib import blake2b, sha256
 from typing import Any, NamedTuple
 from zlib import crc32
 
-from . import RegularFile, State, open_raw, state_of
+from . import State, open_raw, state_of
+from .regular import RegularFile
 
 BLOCK = 1 << 16  # bytes that have a CRC-32: most lie in one part
 SIZE = 16  # bytes of a hash

@@ -1,34 +1,30 @@
 """Outputs of kept lines. A file is written as `.NAME.*.part`, and renamed when it is whole. So no
-incomplete file looks like a whole one, and two runs with the same output do not mix. No output
-destroys a source: files are compared by device and inode, not by name."""
+incomplete file looks like a whole one, and two runs with the same output do not mix."""
 from __future__ import annotations
 
 import codecs
 import io
 import os
-import select
 import stat
 import sys
-from collections.abc import Callable, Iterable, Iterator
+from collections.abc import Callable, Iterator
 from contextlib import suppress
 from functools import partial
 from typing import IO, Any, Union
 
-from ..engine.faults import RequestError, WriteFault, write_fault
-from . import is_path, name_of
+from ..engine import RequestError, WriteFault, write_fault
+from . import UNFINISHED, is_path, name_of, target_of, wait_for, write_all
 from .packed import LEVEL, Packer, Packing, Text, pack, packing_by_name, require
 
 Target = Union[str, bytes, "os.PathLike[Any]", IO[bytes]]
 
 OTHER_PACKINGS = (".xz", ".lzma", ".bz2", ".lz4", ".br", ".z", ".zip", ".7z", ".tgz")
-PART = ".part"  # the end of a file's name until it is whole
 LONGEST = 255  # bytes of a file's name
 NEW = os.O_RDWR | os.O_CREAT | os.O_EXCL | getattr(os, "O_CLOEXEC", 0)
 USUAL_MODE = 0o666  # of a new file, before the system's mask
 OWN_MODE = 0o600  # what its owner may do while the file is written
 HELD = 16 << 20  # bytes of an output that are held in memory
 PIECE = 1 << 20  # bytes of such an output that are written at once
-Identity = tuple[int, int]
 
 
 def checked_output(path: str) -> str:
@@ -45,28 +41,10 @@ def checked_output(path: str) -> str:
     return path
 
 
-def target_of(path: str) -> str | None:
-    """Returns the file that an output replaces. If the path is a link, that is the file that it
-    leads to. Returns None for a device or a pipe, which is written directly."""
-    try:
-        if not stat.S_ISREG(os.stat(path).st_mode):
-            return None
-    except OSError:
-        pass  # there is nothing yet
-    return os.path.realpath(path)
-
-
-def part_of(path: str) -> str | None:
-    """Returns where an output that is not whole is left if it must be kept. Returns None for a
-    device or a pipe."""
-    target = target_of(path)
-    return None if target is None else target + PART
-
-
 def _new_name(target: str) -> str:
     """Returns a path next to a file that no other file should have."""
     folder, name = os.path.split(target)
-    end = f".{os.urandom(4).hex()}{PART}"
+    end = f".{os.urandom(4).hex()}{UNFINISHED}"
     while len(os.fsencode(f".{name}{end}")) > LONGEST:
         name = name[:-1]
     return os.path.join(folder, f".{name}{end}")
@@ -129,7 +107,7 @@ class Part:
             OSError: That is not possible.
         """
         if self._path is not None:
-            self._rename(self._target + PART)
+            self._rename(self._target + UNFINISHED)
 
     def _rename(self, name: str) -> None:
         if self._mode is not None:
@@ -176,43 +154,6 @@ class Batch:
                 raise write_fault(fault, name) from fault
 
 
-def _wait(file: Any) -> None:
-    """Waits until a file that does not block may take more."""
-    poll = select.poll()
-    poll.register(file.fileno(), select.POLLOUT)
-    poll.poll()
-
-
-def _write_some(file: Any, text: memoryview) -> int:
-    """Writes some of a text, and returns how many bytes the file took. Waits if it took none.
-
-    A raw file that does not block returns None if it takes nothing, and a buffered one raises
-    `BlockingIOError`. Any other file that returns None has taken all."""
-    try:
-        written = file.write(text)
-    except BlockingIOError as fault:
-        _wait(file)
-        return int(getattr(fault, "characters_written", 0))
-    if written is None and isinstance(file, io.RawIOBase):
-        _wait(file)
-        return 0
-    return written if isinstance(written, int) else len(text)
-
-
-def write_all(file: Any, text: Text) -> None:
-    """Writes all of a text to a binary file, which may take only a part of it at a time.
-
-    Raises:
-        OSError: A write failed.
-    """
-    rest = memoryview(text)
-    try:
-        while rest:
-            rest = rest[_write_some(file, rest) :]
-    finally:
-        rest.release()
-
-
 def flush_all(file: Any) -> None:
     """Flushes a binary file, which may take only a part at a time.
 
@@ -224,7 +165,7 @@ def flush_all(file: Any) -> None:
             file.flush()
             return
         except BlockingIOError:
-            _wait(file)
+            wait_for(file)
 
 
 class _Decoded:
@@ -488,72 +429,3 @@ class Whole:
             with suppress(OSError):
                 self._held.close()
         self._writer.discard()
-
-
-def _state(thing: Any, standard: int) -> os.stat_result:
-    """Returns the system's state of a source or an output. `-` is the given standard descriptor."""
-    if is_path(thing):
-        return os.stat(thing)
-    return os.fstat(standard if isinstance(thing, str) else thing.fileno())
-
-
-def identity(thing: Any, standard: int) -> Identity | None:
-    """Returns the device and the inode of the file of a source or an output. None if it does not
-    exist, or is neither a regular file nor a block device."""
-    try:
-        state = _state(thing, standard)
-    except (AttributeError, OSError, ValueError):
-        return None
-    return (
-        (state.st_dev, state.st_ino)
-        if stat.S_ISREG(state.st_mode) or stat.S_ISBLK(state.st_mode)
-        else None
-    )
-
-
-def _written(outputs: Iterable[Any]) -> Iterator[tuple[str, Any]]:
-    """Yields the name of each output, and each file that is written for it."""
-    for output in (
-        os.fsdecode(output) if isinstance(output, bytes) else output for output in outputs
-    ):
-        yield name_of(output), output
-        if is_path(output):
-            part = part_of(os.fsdecode(output))
-            if part is not None:
-                yield part, part
-
-
-def _read(sources: Iterable[Any]) -> set[Identity]:
-    """Returns the identities of the files that are read."""
-    found = (identity(source, 0) for source in sources if not isinstance(source, bytes))
-    return {each for each in found if each}
-
-
-def refuse_same(sources: Iterable[Any], outputs: Iterable[Any]) -> None:
-    """Raises `RequestError` if an output is a file that is read. The output `-` is standard
-    output."""
-    read = _read(sources)
-    for name, output in _written(outputs):
-        if identity(output, 1) in read:
-            raise RequestError(f"{name}: the output is a file that is read")
-
-
-def refuse_standard(sources: Iterable[Any]) -> None:
-    """Raises `RequestError` if standard output or standard error is a file that is read. If that
-    is standard error, nothing is written to it any more, not even this fault."""
-    sources = list(sources)
-    if sys.stderr is not None and identity(sys.stderr, 2) in _read(sources):
-        sys.stderr = None  # type: ignore[assignment]
-        raise RequestError("standard error is a file that is read")
-    refuse_same(sources, ["-"])
-
-
-def refuse_read(read: Iterable[str | None], outputs: Iterable[str | None]) -> None:
-    """Refuses to write to a file that is read, also by standard output or standard error.
-
-    Raises:
-        RequestError: An output is read.
-    """
-    named = [path for path in read if path is not None]
-    refuse_standard(named)
-    refuse_same(named, [output for output in outputs if output is not None])

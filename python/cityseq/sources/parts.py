@@ -8,7 +8,7 @@ import os
 from dataclasses import asdict, dataclass
 from typing import Any
 
-from ..engine.faults import read_fault
+from ..engine import read_fault
 from . import is_path, is_url, open_raw
 from .hashes import BlockHash
 from .packed import Packing, Unpacker, packing_of

@@ -10,12 +10,12 @@ from contextlib import closing
 from dataclasses import dataclass
 from itertools import chain
 
-from ..engine import CallStatus
-from ..engine.faults import CityseqError, ReadFault, read_fault
+from ..engine import CallStatus, CityseqError, ReadFault, read_fault
 from ..engine.judge import Answer, Work, judge, judge_lines, part_size
-from . import CHANGED, RegularFile, State, is_url, open_raw, remote_of, state_of
-from .chunks import Chunk, Chunks, FileChunk
+from . import CHANGED, State, is_url, open_raw, remote_of, state_of
+from .chunks import Chunk, Chunks
 from .packed import Unpacker
+from .regular import FileChunk, RegularFile
 
 SHORT = 4 << 20  # bytes of a file, or of a chunk, that is not worth a task of its own
 FIRST = 4_096  # bytes at the beginning of a file that show which file it is

@@ -11,7 +11,7 @@ from importlib import import_module
 from typing import Any
 from urllib.parse import urlsplit
 
-from ..engine.faults import CityseqError, RequestError, why
+from ..engine import CityseqError, RequestError, why
 
 BLOCK = 4 << 20  # bytes of one request for lines that follow each other
 BUFFER = 1 << 20  # bytes that are read ahead of what is read once, such as a header

@@ -17,7 +17,7 @@ from urllib.parse import SplitResult, quote, unquote, urljoin, urlsplit, urlunsp
 from urllib.request import getproxies, proxy_bypass
 
 from .. import __version__
-from ..engine.faults import CityseqError, OutOfDate, ReadFault, RequestError, read_fault
+from ..engine import CityseqError, OutOfDate, ReadFault, RequestError, read_fault
 from ..indexes.line_reader import SHORTER, IndexedStream
 from .remote import RangePlace
 

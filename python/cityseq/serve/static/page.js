@@ -167,10 +167,10 @@ function check(file, name) {
   if (file.size > most) {
     return Promise.resolve(unchecked(file, `it has ${bytes(file.size)}, and the server takes ${bytes(most)}`));
   }
-  const tree = document.getElementById("tree").checked;
+  const asked = ["tree", "extensions"].filter((option) => document.getElementById(option).checked);
   return new Promise((done) => {
     request = new XMLHttpRequest();
-    request.open("POST", `${form.dataset.check}?keep_going=true&summary=true&max_reports=${TOLD}${tree ? "&tree=true" : ""}`);
+    request.open("POST", `${form.dataset.check}?keep_going=true&summary=true&max_reports=${TOLD}${asked.map((option) => `&${option}=true`).join("")}`);
     request.setRequestHeader("Content-Type", isWhole ? "application/city+json" : "application/octet-stream");
     request.upload.onprogress = (event) => advance(name, event);
     request.onload = () => {
