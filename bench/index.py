@@ -13,6 +13,8 @@ packed   the same out of archives of blocks, of the time of `filter` over the ar
          square of usual lines, and one with a hundredth of small features that are scattered
 tiny     `index` of tiny lines with four jobs, of the time of `check`, and the bytes of a feature
 hash     `index` with four jobs, of the time of one that makes no hash of the stream
+columns  `index --attributes year,street` with four jobs, of the time of one without, out of usual
+         and of tiny lines
 records  10 million made-up records (RECORDS sets how many): the time to write the index, its size,
          and a box of 1,000 rows
 
@@ -91,8 +93,8 @@ def tiny(megabytes, rounds):
 WITHOUT_HASH = """
 import sys
 from cityseq.indexes import digests
-from cityseq.cli.main import main
-from cityseq.sources import RegularFile
+from cityseq.cli import main
+from cityseq.sources.regular import RegularFile
 digests.HashedFile.read = RegularFile.read
 digests.HashedFile.content = lambda file: ""
 sys.exit(main(sys.argv[1:]))
@@ -104,6 +106,14 @@ def hashed(megabytes, rounds):
     words = ["index", "--jobs", "4", "--output", index, stream]
     base = [sys.executable, "-c", WITHOUT_HASH, *words]
     compared("hash, 4 jobs", [*PACKAGE, *words], {"one without it": (base,)}, rounds)
+
+
+def columns(megabytes, rounds):
+    for shape in ("usual", "tiny"):
+        stream, index = stream_of(shape, megabytes), str(OUT / f"columns-{shape}.gpkg")
+        words = [*PACKAGE, "index", "--jobs", "4", "--output", index, stream]
+        named = [*words, "--attributes", "year,street"]
+        compared(f"columns, {shape}, 4 jobs", named, {"one without them": (words,)}, rounds)
 
 
 def cut(megabytes, rounds):
@@ -244,8 +254,8 @@ def boxes(count, path):
 def main():
     words = sys.argv[1:]
     megabytes, rounds = int((words + ["1000"])[0]), int((words + ["", "3"])[1] or 3)
-    cases = {"build": build, "tiny": tiny, "hash": hashed, "cut": cut, "packed": packed}
-    cases["records"] = records
+    cases = {"build": build, "tiny": tiny, "hash": hashed, "columns": columns}
+    cases |= {"cut": cut, "packed": packed, "records": records}
     measured = chosen(cases, words[2:])
     print(f"{megabytes} MB, {rounds} rounds, {machine()}")
     for measure in measured.values():

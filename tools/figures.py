@@ -146,7 +146,7 @@ class Figures:
     def page(self, text: str) -> str:
         """Returns a document with its tables and paragraphs of figures made anew."""
         text = TABLE.sub(lambda it: f"{it[1]}{self.table(it[2])}\n{it[3]}", text)
-        return CITED.sub(lambda it: f"{it[1]}{self.cited(it[3], it[2])}\n{it[4]}", text)
+        return CITED.sub(lambda it: f"{it[1]}\n{self.cited(it[3], it[2])}\n{it[4]}", text)
 
 
 def number_of(text: str) -> float:

@@ -26,29 +26,57 @@ from tests.browser import CHROMIUM, Browser, browser  # noqa: E402
 EXAMPLES, FOLDER = ROOT / "examples", ROOT / "docs" / "pictures"
 PAGE = ROOT / "docs" / "PICTURES.md"
 TAKEN = re.compile(r"(<!-- taken: made by tools/pictures\.py -->\n).*\n(<!-- taken: end -->)")
+ATTRIBUTES = "use", "oorspronkelijkbouwjaar"  # of the sample: a text, and a year
 WIDTH, MOST_BYTES = 1000, 200_000  # pixels, and the most bytes of a picture
 
-# Draws both layers of an index. It is run apart, since QGIS needs a process of its own.
+# Draws both layers of an index: the extents, each filled by one attribute of its feature and
+# labelled by another, and over them the footprints. QGIS needs a process of its own.
 MAP = """
 import os
 import sys
-from qgis.core import (QgsApplication, QgsFillSymbol, QgsMapRendererParallelJob, QgsMapSettings,
-                       QgsSingleSymbolRenderer, QgsVectorLayer)
+from qgis.core import (QgsApplication, QgsCategorizedSymbolRenderer, QgsFillSymbol,
+                       QgsMapRendererParallelJob, QgsMapSettings, QgsPalLayerSettings,
+                       QgsRendererCategory, QgsSingleSymbolRenderer, QgsVectorLayer,
+                       QgsVectorLayerSimpleLabeling)
 from qgis.PyQt.QtCore import QSize
 from qgis.PyQt.QtGui import QColor
 
-index, output = sys.argv[1:]
-application = QgsApplication([], False)
-application.initQgis()
-layers = []
-for name, style in (
-    ("footprints", {"color": "#7fb2d9", "outline_color": "#1f5f8b", "outline_width": "0.2"}),
-    ("features", {"style": "no", "outline_color": "#c0392b", "outline_width": "0.15"}),
-):
+COLOURS = "#8dd3c7", "#ffffb3", "#bebada", "#fb8072", "#80b1d3", "#fdb462"
+
+
+def opened(index, name):
     layer = QgsVectorLayer(f"{index}|layername={name}", name, "ogr")
     assert layer.isValid() and layer.featureCount(), name
-    layer.setRenderer(QgsSingleSymbolRenderer(QgsFillSymbol.createSimple(style)))
-    layers.insert(0, layer)
+    return layer
+
+
+def filled(layer, column):
+    values = sorted(layer.uniqueValues(layer.fields().indexOf(column)))
+    assert len(values) == len(COLOURS), values
+    categories = [
+        QgsRendererCategory(value, QgsFillSymbol.createSimple({"color": colour}), value)
+        for value, colour in zip(values, COLOURS)
+    ]
+    layer.setRenderer(QgsCategorizedSymbolRenderer(column, categories))
+
+
+def labelled(layer, column):
+    assert layer.fields().field(column).isNumeric(), column
+    settings = QgsPalLayerSettings()
+    settings.fieldName = column
+    layer.setLabeling(QgsVectorLayerSimpleLabeling(settings))
+    layer.setLabelsEnabled(True)
+
+
+index, output, kind, number = sys.argv[1:]
+application = QgsApplication([], False)
+application.initQgis()
+features, footprints = opened(index, "features"), opened(index, "footprints")
+filled(features, kind)
+labelled(features, number)
+outline = {"style": "no", "outline_color": "#1f5f8b", "outline_width": "0.3"}
+footprints.setRenderer(QgsSingleSymbolRenderer(QgsFillSymbol.createSimple(outline)))
+layers = [footprints, features]
 settings = QgsMapSettings()
 settings.setLayers(layers)
 settings.setDestinationCrs(layers[0].crs())
@@ -152,7 +180,7 @@ def draw(package: Package, index: str, folder: Path) -> None:
     """Draws an index by QGIS."""
     settings = {**os.environ, "QT_QPA_PLATFORM": "offscreen"}
     output = folder / "index.png"
-    words = [package.python, "-c", MAP, index, str(output)]
+    words = [package.python, "-c", MAP, index, str(output), *ATTRIBUTES]
     subprocess.run(words, env=settings, check=True, stderr=subprocess.DEVNULL)
     save("index", output.read_bytes())
 
@@ -169,8 +197,8 @@ def main() -> int:
     with tempfile.TemporaryDirectory() as name, browser() as page:
         folder = Path(name)
         index = str(folder / "sample.gpkg")
-        words = "index", "--quiet", "--footprints", "--output", index, "sample.city.jsonl"
-        assert package.run(*words) == 0
+        words = ["--footprints", "--attributes", ",".join(ATTRIBUTES), "--output", index]
+        assert package.run("index", "--quiet", *words, "sample.city.jsonl") == 0
         report(page, package, folder)
         serve(page, package, index)
         draw(package, index, folder)

@@ -6,7 +6,7 @@
 The documents are README.md, docs/*.md and python/README.md, and apart from these the pages at the
 top. A word is what `wc -w` counts. What a tool writes is counted apart: docs/CLAUSES.md, and what
 is between `<!-- NAME: made by TOOL -->` and `<!-- NAME: end -->`, or between `<!-- figures` and
-`<!-- figures end -->`. With --check the status is 1 if a document has more words than its goal.
+`<!-- figures end -->`. With --check the status is 1 if documents have more words than their goal.
 """
 
 import argparse
@@ -23,8 +23,34 @@ BLOCK = re.compile(
     re.M,
 )
 TOP = "CHANGELOG.md", "CONTRIBUTING.md", "SECURITY.md"
-TOTAL = 23_500  # words by hand in README.md, docs/*.md and python/README.md
-GOALS = {"README.md": 600, "docs/GUIDE.md": 4_750, "docs/STATUS.md": 300}
+TOTAL = 21_800  # words by hand in README.md, docs/*.md and python/README.md
+
+
+class Goal(NamedTuple):
+    """The most words by hand that some documents may have together.
+
+    Attributes:
+        words: how many.
+        names: the documents.
+    """
+
+    words: int
+    names: tuple[str, ...]
+
+
+REFERENCE = "docs/geopackage.md", "docs/json.md", "docs/VERSIONS.md"
+GOALS = (
+    Goal(600, ("README.md",)),
+    Goal(4_500, ("docs/GUIDE.md",)),
+    Goal(5_000, ("docs/RULES.md",)),
+    Goal(900, ("docs/PROMISES.md",)),
+    Goal(1_000, ("docs/PROOF.md",)),
+    Goal(2_500, ("docs/DECISIONS.md",)),
+    Goal(800, ("docs/MEASURED.md",)),
+    Goal(300, ("docs/STATUS.md",)),
+    Goal(3_500, ("docs/ARCHITECTURE.md", "docs/HACKING.md", "CONTRIBUTING.md")),
+    Goal(4_500, (*REFERENCE, "CHANGELOG.md", "SECURITY.md", "python/README.md")),
+)
 
 
 class Count(NamedTuple):
@@ -49,19 +75,28 @@ def count_of(name: str, text: str) -> Count:
 
 
 def counts(root: Path = ROOT) -> Iterator[Count]:
-    """Yields the words of each document that the total is of."""
+    """Yields the words of each document that the total is of, and then of the pages at the top."""
     paths = [root / "README.md", *sorted(root.glob("docs/*.md")), root / "python/README.md"]
-    for path in paths:
+    for path in [*paths, *(root / name for name in TOP)]:
         name = path.relative_to(root).as_posix()
         yield count_of(name, path.read_text(encoding="utf-8"))
 
 
+def total_of(found: list[Count]) -> Count:
+    """Returns the sums of the documents that the total is of."""
+    parts = [each for each in found if each.name not in TOP]
+    by_hand, made = sum(each.by_hand for each in parts), sum(each.made for each in parts)
+    return Count("all of these", by_hand, made)
+
+
 def too_long(found: list[Count]) -> Iterator[str]:
     """Yields a line about each goal that is missed."""
-    for each in found:
-        if each.by_hand > GOALS.get(each.name, TOTAL):
-            yield f"{each.name} has {each.by_hand} words, and the goal is {GOALS[each.name]}"
-    if (total := sum(each.by_hand for each in found)) > TOTAL:
+    by_name = {each.name: each.by_hand for each in found}
+    for goal in GOALS:
+        words = sum(by_name.get(name, 0) for name in goal.names)
+        if words > goal.words:
+            yield f"{', '.join(goal.names)}: {words} words, and the goal is {goal.words}"
+    if (total := total_of(found).by_hand) > TOTAL:
         yield f"the documents have {total} words, and the goal is {TOTAL}"
 
 
@@ -75,10 +110,9 @@ def main() -> int:
         missed = list(too_long(found))
         print(*missed, sep="\n", end="\n" * bool(missed), file=sys.stderr)
         return 1 if missed else 0
-    total = Count("all of these", sum(it.by_hand for it in found), sum(it.made for it in found))
-    at_top = [count_of(name, (ROOT / name).read_text(encoding="utf-8")) for name in TOP]
+    first_at_top = len(found) - len(TOP)
     print(f"{'by hand':>8}{'made':>8}")
-    for each in [*found, total, *at_top]:
+    for each in [*found[:first_at_top], total_of(found), *found[first_at_top:]]:
         print(f"{each.by_hand:8,}{each.made:8,}  {each.name}")
     return 0
 

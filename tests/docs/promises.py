@@ -429,7 +429,7 @@ def check_figures_of(tool, report):
             "- x\n  <!-- figures: On {day} {b} s. -->\n  old\n  <!-- figures end -->\nrest\n"
         )
         report.count(
-            "-->\n  On 2026-01-01 1 s.\n  <!--" in page
+            "-->\n\n  On 2026-01-01 1 s.\n  <!--" in page
             and page.endswith("end -->\nrest\n")
             and "old" not in page,
             page,
@@ -491,6 +491,9 @@ def check_words(report):
     report.count((counted.by_hand, counted.made) == (3, 22), f"counted {counted}")
     missed = list(tool.too_long([tool.Count("README.md", tool.TOTAL + 1, 0)]))
     report.count(len(missed) == 2, f"missed {missed}")
+    pair = tool.Count("docs/HACKING.md", 3_000, 0), tool.Count("CONTRIBUTING.md", 501, 0)
+    missed = list(tool.too_long(list(pair)))
+    report.count(len(missed) == 1, f"missed {missed}")
 
 
 def anchor(number, text):
