@@ -128,6 +128,8 @@ class Axis:
         """Returns the world coordinates of vertices as the nearest floats."""
         scale, shift, unit = self.scale, self.shift, self.unit
         # Python rounds the quotient of two whole numbers to the nearest float
+        if scale == 1:
+            return [(vertex + shift) / unit for vertex in vertices]
         return [(vertex * scale + shift) / unit for vertex in vertices]
 
 

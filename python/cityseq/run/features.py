@@ -4,9 +4,10 @@ from __future__ import annotations
 
 import builtins
 import json
+import struct
 import sys
 from array import array
-from collections.abc import Iterator
+from collections.abc import Iterator, Sequence
 from dataclasses import dataclass, field
 from functools import cached_property, lru_cache
 from itertools import chain
@@ -37,14 +38,16 @@ if TYPE_CHECKING:
     from ..attributes import Asked
     from ..engine.world import Extent
 
+    Column = array[int]
+
 
 ROOM = 1 << 19  # bytes of lines that are read at once
-TOGETHER = 16_384  # features whose columns are made together
-MANY = 131_072  # features after which numpy is loaded, which takes as long as it saves for so many
-COUNTS, SETS = ("line", "length", "objects", "geometries"), ("types", "lods")
+TOGETHER = 4_096  # features whose columns are made together
+MANY = 262_144  # features after which numpy is loaded, which takes as long as it saves for so many
 EDGES = ("xmin", "xmax", "ymin", "ymax", "zmin", "zmax")
-MEMBERS = {"line": 0, "length": 2, "objects": 7, "geometries": 8, "types": 9, "lods": 10}
-RANGES = (11, 14, 17)  # of a record: whether a feature has vertices, the least and the greatest one
+COUNTS = {"length": 2, "objects": 7, "geometries": 8}  # members of a record
+SETS = {"types": 9, "lods": 10}
+RANGES = (11, 14, 17)  # whether a feature has vertices; the least and the greatest one follow
 EXACT = 1 << 53  # whole numbers below this are floats
 
 
@@ -166,6 +169,22 @@ def _names(column: str, bits: int) -> tuple[str, ...]:
     return set_bits(bits, library().count_names() if column == "types" else LOD_CLASSES)
 
 
+def _all_names(column: str, sets: Column) -> list[tuple[str, ...]]:
+    if _are_same(sets):
+        return [_names(column, sets[0])] * len(sets)
+    names = {bits: _names(column, bits) for bits in set(sets)}
+    return list(map(names.__getitem__, sets))
+
+
+def _are_same(column: Column) -> bool:
+    return column == column[:1] * len(column)
+
+
+def _packed(letter: str, values: Sequence[Any]) -> array[Any]:
+    """Returns an array, which takes a third of the time that `array(letter, values)` takes."""
+    return array(letter, struct.pack(f"{len(values)}{letter}", *values))
+
+
 class _World:
     """World coordinates on an axis, as the nearest floats."""
 
@@ -174,32 +193,24 @@ class _World:
         units = units_of(scale), units_of(shift)
         self._axis = None if None in units else Axis(*units)  # type: ignore[arg-type]
 
-    def edges(self, some: list[int], *edges: list[int]) -> list[array[float]]:
-        """Returns the least and the greatest coordinate of each feature, from its vertices. NaN if
-        it has none, so that it is not among `some`."""
-        found = []
-        for vertices in self._in_order(*edges):
-            floats = self._nearest(vertices)
-            if 0 in some:
-                floats = [edge if has else nan for has, edge in zip(some, floats)]
-            found.append(array("d", floats))
-        return found
+    def edges(self, np: Any, least: Column, greatest: Column) -> list[array[float]]:
+        """Returns the least and the greatest coordinate of each feature, from its vertices. `np` is
+        numpy or None."""
+        by_sign = (greatest, least) if self._given[0].is_signed() else (least, greatest)
+        return [self._floats(np, vertices) for vertices in by_sign]
 
-    def edges_by(self, np: Any, some: Any, *edges: Any) -> list[array[float]]:
-        """Does the same by numpy. A quotient of floats is the nearest one to that of the numbers,
-        if both are floats exactly."""
-        axis, found = self._axis, []
-        for vertices in self._in_order(*edges):
-            size = max(-int(vertices.min()), int(vertices.max()), 1)
-            if axis and max(size * abs(axis.scale) + abs(axis.shift), axis.unit) < EXACT:
-                floats = (vertices * axis.scale + axis.shift) / axis.unit
-            else:
-                floats = np.array(self._nearest(vertices.tolist()))
-            found.append(array("d", np.where(some, floats, nan).tobytes()))
-        return found
-
-    def _in_order(self, least: Any, greatest: Any) -> tuple[Any, Any]:
-        return (greatest, least) if self._given[0].is_signed() else (least, greatest)
+    def _floats(self, np: Any, vertices: Column) -> array[float]:
+        """By numpy, a quotient of floats is the nearest one to that of the numbers, if both are
+        floats exactly."""
+        axis = self._axis
+        if _are_same(vertices):
+            return _packed("d", self._nearest(vertices[:1].tolist())) * len(vertices)
+        if np and axis:
+            given = np.frombuffer(vertices, "i8")
+            size = max(-int(given.min()), int(given.max()))
+            if max(size * abs(axis.scale) + abs(axis.shift), axis.unit) < EXACT:
+                return array("d", ((given * axis.scale + axis.shift) / axis.unit).tobytes())
+        return _packed("d", self._nearest(vertices.tolist()))
 
     def _nearest(self, vertices: list[int]) -> list[float]:
         if self._axis is not None:
@@ -216,11 +227,11 @@ class _Table:
         self._attributes = attributes
         self._rows: list[dict[str, Any]] = []
         self.columns: dict[str, Any] = {"id": []}
-        self.columns.update({name: array("Q") for name in COUNTS})
+        self.columns.update({name: array("Q") for name in ("line", *COUNTS)})
         self.columns.update({name: [] for name in SETS})
         self.columns.update({name: array("d") for name in EDGES})
         self._world: list[_World] = []
-        self._waiting: list[tuple[bytes, int]] = []  # records, and the lines before them
+        self._waiting: list[bytes] = []  # records
         self._waits = 0
 
     def add(self, header: bytes, part: Text, raw: bytes, lines: int) -> None:
@@ -230,21 +241,44 @@ class _Table:
         self._world = self._world or [_World(*axis) for axis in zip(*transform_of(header))]
         ids = records_of.all_unescaped(records_of.spelled_ids(part, raw))
         self.columns["id"] += ids
+        numbers = memoryview(raw).cast("q")[:: records_of.MEMBERS]
+        places: Sequence[int] = range(numbers[0] + lines, numbers[-1] + lines + 1)
+        if len(places) != len(ids):  # not all lines are kept
+            places = [line + lines for line in numbers.tolist()]
+        self.columns["line"] += _packed("Q", places)
         if self._attributes:
             from ..attributes import rows_of, texts_of  # few runs need it
 
             self._rows += rows_of(texts_of(part, raw), self._attributes)
-        self._waiting.append((raw, lines))
+        self._waiting.append(raw)
         self._waits += len(ids)
         if self._waits >= TOGETHER:
             self.end()
 
     def end(self) -> None:
         """Adds the columns of the records that wait."""
+        if not self._waits:
+            return
         has_many = len(self.columns["id"]) >= MANY or "numpy" in sys.modules
-        is_fast = has_many and self._waits > 0 and _numpy() is not None
-        for column, values in (self._by_numpy() if is_fast else self._plainly()).items():
-            self.columns[column].extend(values)
+        np = _numpy() if has_many else None
+        numbers = memoryview(b"".join(self._waiting)).cast("q")
+        width = records_of.MEMBERS
+        columns: Any = [numbers[member::width] for member in range(width)]
+        if np:  # it copies them faster
+            columns = np.frombuffer(numbers, "i8").reshape(-1, width).T.copy()
+        for name, member in COUNTS.items():
+            self.columns[name].frombytes(columns[member].tobytes())
+        for name, member in SETS.items():
+            self.columns[name] += _all_names(name, array("q", columns[member].tobytes()))
+        some = columns[RANGES[0]].tolist()
+        bare = [place for place, has in enumerate(some) if not has] if 0 in some else []
+        for number, axis in enumerate(self._world):
+            member = RANGES[number]
+            ends = (array("q", columns[member + end].tobytes()) for end in (1, 2))
+            for name, floats in zip(EDGES[2 * number :], axis.edges(np, *ends)):
+                for place in bare:
+                    floats[place] = nan
+                self.columns[name] += floats
         self._waiting, self._waits = [], 0
 
     def add_attributes(self) -> None:
@@ -256,48 +290,6 @@ class _Table:
         columns = ColumnNames(self.columns)
         for name in names:
             self.columns[columns.new(name)] = [row.get(name) for row in self._rows]
-
-    def _plainly(self) -> dict[str, Any]:
-        columns = records_of.columns_of(b"".join([raw for raw, _ in self._waiting]))
-        found: dict[str, Any] = {name: columns[MEMBERS[name]] for name in COUNTS}
-        places = iter(found["line"])
-        found["line"] = [
-            next(places) + lines
-            for raw, lines in self._waiting
-            for _ in range(len(raw) // records_of.RECORD.size)
-        ]
-        for name in SETS:
-            found[name] = [_names(name, bits) for bits in columns[MEMBERS[name]]]
-        edges = [
-            edge
-            for axis, first in zip(self._world, RANGES)
-            for edge in axis.edges(*columns[first : first + 3])
-        ]
-        return {**found, **dict(zip(EDGES, edges))}
-
-    def _by_numpy(self) -> dict[str, Any]:
-        np = _numpy()
-        parts = [
-            np.frombuffer(raw, "i8").reshape(-1, records_of.MEMBERS) for raw, _ in self._waiting
-        ]
-        columns = np.concatenate(parts).T
-        columns[0] += np.repeat([lines for _, lines in self._waiting], list(map(len, parts)))
-        found: dict[str, Any] = {
-            name: array("Q", columns[MEMBERS[name]].tobytes()) for name in COUNTS
-        }
-        for name in SETS:
-            sets = columns[MEMBERS[name]]
-            first = int(sets[0])
-            if (sets == first).all():
-                found[name] = [_names(name, first)] * len(sets)
-            else:
-                found[name] = [_names(name, bits) for bits in sets.tolist()]
-        edges = [
-            edge
-            for axis, first in zip(self._world, RANGES)
-            for edge in axis.edges_by(np, *columns[first : first + 3])
-        ]
-        return {**found, **dict(zip(EDGES, edges))}
 
 
 @lru_cache(maxsize=1)
