@@ -14,7 +14,7 @@ some     `filter` by 30,000 of these ids, in no order
 packed   `check` of eight .gz files with four jobs, compared with `xargs -P4` of zcat and the
          program
 threads  `check` with four jobs, compared with one, on 600 MB of a million features
-table    `table` of a tenth of these features, compared with a loop of `json.loads` over its lines
+table    `table` of a tenth as many features of 210 bytes, compared with a loop of `json.loads`
 start    how long `explain 25` takes, less what Python takes that does nothing
 
 It needs the library python/cityseq/libcityseq.so, and the built program. FEATURES sets the number
@@ -59,6 +59,17 @@ def feature(number):
     corners = b",".join(b"[%d,%d,%d]" % (x, y, height) for height in range(24))
     rings = b",".join(b"[[%d,%d,%d,%d]]" % (i, i + 1, i + 2, i + 3) for i in range(0, 20, 4))
     return FEATURE % (number, number, rings, corners)
+
+
+def small_feature(number):
+    """Returns a feature of some 210 bytes."""
+    x, y = number * 700 % 10007, number * 300 % 10009
+    return FEATURE % (
+        number,
+        number,
+        b"[[0,1,1]]",
+        b"[%d,%d,0],[%d,%d,3000]" % (x, y, x + 9, y + 7),
+    )
 
 
 def write_stream(numbers, file):
@@ -128,8 +139,10 @@ def threads(rounds):
 
 
 def table(rounds):
-    numbers = range(FEATURES // 10)
-    stream = made(OUT / f"table-{FEATURES}.jsonl", partial(write_stream, numbers))
+    features = map(small_feature, range(FEATURES // 10))
+    stream = made(
+        OUT / f"small-{FEATURES}.jsonl", lambda file: file.writelines([HEADER, *features])
+    )
     ours, base = ([sys.executable, "-c", code, stream] for code in (TABLE, LOOP))
     compare(f"table, {megabytes_of(stream):.0f} MB", 0.5, ours, base, rounds)
 
