@@ -168,7 +168,8 @@ def filter(
         query: The query, in place of `ids`, `types`, `lods`, `box` and `exclude`.
         options: As for `check`.
         ids: Keeps a feature whose id is one of these.
-        types: Keeps a feature that has a city object of one of these types.
+        types: Keeps a feature that has a city object of one of these types. With `extensions` these
+            may begin with `+`.
         lods: Keeps a feature that has a geometry of one of these LoDs.
         box: Keeps a feature whose vertices reach into this box: four numbers, or a text
             minx,miny,maxx,maxy, in world coordinates.

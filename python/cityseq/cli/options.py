@@ -316,7 +316,12 @@ class Filter(StreamRequest):
         "LIST",
         str,
     )
-    type = wanted("Select features that have a city object of one of these types", "TYPES", str)
+    type = wanted(
+        "Select features that have a city object of one of these types; with --extensions a type"
+        " may begin with `+`",
+        "TYPES",
+        str,
+    )
     lod = wanted("Select features that have a geometry with one of these LoDs", "LODS", str)
     bbox = wanted(
         "Select features that reach into this box, in world coordinates; write --bbox=-5,0,5,9 if"

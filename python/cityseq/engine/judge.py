@@ -65,7 +65,8 @@ class Query:
 
     Attributes:
         ids: The id of the feature is one of these.
-        types: A city object of the feature has one of these types.
+        types: A city object of the feature has one of these types. If the options know those of
+            extensions, any name that begins with `+` is one.
         lods: A geometry of the feature has one of these LoDs.
         box: The vertices of the feature reach into this box: four numbers, or a text
             minx,miny,maxx,maxy, in world coordinates.
@@ -90,6 +91,7 @@ class Options:
         jobs: How many threads judge parts of the stream. None is one for each processor.
         part_size: How many bytes a part has. None is 4 MiB or less.
         extensions: Whether types of city objects that begin with `+` are known, as extensions have.
+            Then a query can ask for them.
     """
 
     limits: Limits = Limits()
@@ -178,6 +180,11 @@ class Work:
 
         return are_read(self.ids)
 
+    @property
+    def asks_extensions(self) -> bool:
+        """Whether the query asks for a type of an extension. No other type has this sign."""
+        return b"+" in (self.types or b"")
+
     def request(self, header: bytes, part: Text) -> RawRequest:
         """Returns the request for a header and a part. The line limit is lowered to less than twice
         the length of the longer one, so that the library reserves less memory."""
@@ -250,19 +257,18 @@ def work_of(kind: str, options: Options, query: Query = Query(), exact_lods: boo
     answer = library().check(b"", b"", work.request(b"", b""), 0)[0]
     if answer.status == CallStatus.BAD_REQUEST:
         words = FAULTS.get(answer.code, f"bad request {answer.code}")
-        raise UnknownType(words, work) if answer.code == UNKNOWN_TYPE else RequestError(words)
+        if answer.code == UNKNOWN_TYPE:
+            raise UnknownType(words, (work.types or b"").decode().split("\n")[answer.item])
+        raise RequestError(words)
     return work
 
 
 class UnknownType(RequestError):
     """A query for a type of city objects that does not exist. `brief` has the program's words."""
 
-    def __init__(self, brief: str, work: Work) -> None:
-        names = (work.types or b"").decode().split("\n")
-        self.brief, self.name = brief, next(
-            (name for name in names if name not in library().type_names()), ""
-        )
-        super().__init__(f"{brief}: {self.name}")
+    def __init__(self, brief: str, name: str) -> None:
+        self.brief, self.name = brief, name
+        super().__init__(f"{brief}: {name}")
 
     def __reduce__(self) -> Any:
         return RequestError, (self.words,)

@@ -2,11 +2,12 @@
 from __future__ import annotations
 
 import os
+import re
 from collections.abc import Mapping
 from functools import partial
 from typing import TYPE_CHECKING, Any
 
-from ..engine import LOD_CLASSES, OutOfDate, quoted, shown
+from ..engine import LOD_CLASSES, OutOfDate, library, quoted, shown
 from ..engine.judge import Work
 from ..engine.records import id_of, stored
 from ..engine.world import intervals_of
@@ -64,13 +65,20 @@ def _of_names(work: Work) -> Terms:
     sql, given = work.where or ("", ())
     conditions: list[str] = [f"({sql})"] if sql else []
     values: list[Any] = list(given)
-    for column, names in (("types", work.types), ("lods", _classes(work.lods))):
+    for column, names in (("types", _noted(work)), ("lods", _classes(work.lods))):
         if names is not None:
-            each = names.decode("utf-8").split("\n")
+            each = set(names.decode("utf-8").split("\n"))
             parts = [f"instr(',' || {column} || ',', ?)"] * len(each)
             conditions.append(f"({' OR '.join(parts)})")
             values += [f",{name}," for name in each]
     return conditions, values
+
+
+def _noted(work: Work) -> bytes | None:
+    """Returns the types of a query, one a line. An index has one name for all of extensions."""
+    if work.types is None or not work.asks_extensions:
+        return work.types
+    return re.sub(rb"(?m)^\+.*", library().count_names()[-1].encode("ascii"), work.types)
 
 
 def _classes(lods: bytes | None) -> bytes | None:

@@ -268,8 +268,8 @@ class Items(Cut):
         with collection.pool.index() as index:
             ids, types, lods = map(self.query.texts, LISTS)
             work = index.work(ids, types, lods, selected.text, self._filter)
-            if not self.has_limit and work.lods is None and selected.reaches is None:
-                # this takes less time than to make a page
+            is_told = work.lods is None and not work.asks_extensions and selected.reaches is None
+            if is_told and not self.has_limit:  # this takes less time than to make a page
                 if index.has_more(work, collection.stream, after, self.limit):
                     raise self._too_many()
         return Page(collection, work, after, self.limit, selected.reaches)

@@ -87,7 +87,12 @@ SUMMARY = Parameter(
 QUERY = (
     Parameter("exclude", "Keep the features that the query does not select.", FLAG),
     Parameter("id", "Keep features with one of these ids.", TEXTS),
-    Parameter("type", "Keep features with a city object of one of these types.", TEXTS),
+    Parameter(
+        "type",
+        "Keep features with a city object of one of these types. With extensions one may begin with"
+        " `+`, which a URL spells as %2B.",
+        TEXTS,
+    ),
     Parameter("lod", "Keep features with a geometry of one of these LoDs.", TEXTS),
     Parameter(
         "bbox",
@@ -115,7 +120,12 @@ SELECTION = (
         "datetime", "A time or an interval. No feature has a time, so it selects all.", STRING
     ),
     Parameter("ids", "Features with one of these ids.", TEXTS),
-    Parameter("type", "Features with a city object of one of these types.", TEXTS),
+    Parameter(
+        "type",
+        "Features with a city object of one of these types. Those of extensions begin with `+`,"
+        " which a URL spells as %2B.",
+        TEXTS,
+    ),
     Parameter("lod", "Features with a geometry of one of these LoDs.", TEXTS),
     Parameter(
         "filter",
