@@ -125,9 +125,9 @@ struct cityseq_request {
     bool keep_going;      /* After an invalid line that is not the header, report it and go on. */
     bool tree;            /* Each city object must be reached from the feature's main one. */
     bool exclude;         /* Leave out the features that satisfy the query, and keep all others. */
-    bool extensions;      /* Accept types of city objects that begin with `+`, the types of extensions. */
+    bool extensions;      /* Accept types that begin with `+`, the types of extensions, in features and in `types`. */
     bool asks_ids;        /* The id must be one of these. */
-    bool asks_types;      /* Some city object must have one of these types. */
+    bool asks_types;      /* Some city object must have one of these types. Only types of extensions need memory. */
     bool asks_lods;       /* Some geometry must have one of these LoDs, spelled the same. */
     bool asks_box;        /* Some vertices must be in the box: minx,miny,maxx,maxy. */
     const char *ids;
@@ -274,7 +274,7 @@ size_t cityseq_stack(const struct cityseq_request *request) CITYSEQ_NOT_NULL(1);
  * Let d be the depth limit. Then the bytes are the sum of these:
  * - 2 * n for a header and a later line, and 24 * ((n + d + 1) / 2), rounded down, for their tokens.
  * - 4 * d if d is above 64.
- * - For ids that are asked for: 3 * ids_length, 96 for each id, and 1,024. For LoDs the same.
+ * - For ids that are asked for: 3 * ids_length, 96 for each id, and 1,024. For LoDs the same, and for types if `extensions` is set.
  * It is 0 if a limit is out of range, and stops at SIZE_MAX. */
 size_t cityseq_memory(const struct cityseq_request *request, size_t header_length, size_t part_length) CITYSEQ_NOT_NULL(1);
 

@@ -320,6 +320,34 @@ row(
     words=["--extensions", "--type", "Building"],
     kept=[1, 2],
 )
+row(
+    "extension-asked-for-by-its-type",
+    [H, F, shed],
+    words=["--extensions", "--type", "+Shed"],
+    kept=[1, 3],
+)
+row(
+    "extension-asked-for-by-an-escape",
+    [H, of_type('"\\u002bShed"')],
+    words=["--extensions", "--type", "+Shed"],
+)
+row(
+    "extension-asked-for-beside-a-type",
+    [H, F, shed],
+    words=["--extensions", "--type", "+Hut,+Shed,Building"],
+)
+row(
+    "extension-asked-for-by-another",
+    [H, shed],
+    words=["--extensions", "--type", "+She,+shed,Road"],
+    kept=[1],
+)
+row(
+    "extension-left-out-by-its-type",
+    [H, F, shed],
+    words=["--extensions", "--exclude", "--type", "+Shed"],
+    kept=[1, 2],
+)
 row("extension-in-a-box", [H, shed], words=["--extensions", "--bbox=1001,2001,1005,2005"])
 row(
     "extension-that-is-left-out",

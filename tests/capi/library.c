@@ -361,7 +361,11 @@ static void wrong_items(void)
     places("an unknown type", r, CITYSEQ_UNKNOWN_TYPE, CITYSEQ_LIST_TYPES, 1);
     r.types = "Road\n\nRoad", r.types_length = 10, places("an empty type", r, CITYSEQ_UNKNOWN_TYPE, CITYSEQ_LIST_TYPES, 1);
     r.types = "Road\nRoad\xc3", r.types_length = 10, places("a cut type", r, CITYSEQ_NOT_UTF8, CITYSEQ_LIST_TYPES, 1);
-    r.types = "Road\nHut", r.types_length = 8, r.asks_ids = 1, r.ids = "\xff", r.ids_length = 1;
+    r.types = "Road\n+Hut", r.types_length = 9;
+    places("a type of an extension", r, CITYSEQ_UNKNOWN_TYPE, CITYSEQ_LIST_TYPES, 1);
+    r.extensions = 1, r.types = "+Hut\nRoad\nHut", r.types_length = 13;
+    places("a type after one of an extension", r, CITYSEQ_UNKNOWN_TYPE, CITYSEQ_LIST_TYPES, 2);
+    r.extensions = 0, r.types = "Road\nHut", r.types_length = 8, r.asks_ids = 1, r.ids = "\xff", r.ids_length = 1;
     places("an id before a type", r, CITYSEQ_NOT_UTF8, CITYSEQ_LIST_IDS, 0);
     r = usual, r.asks_ids = 1, r.ids = "a\n\n\xff\xff\nb\n\xff", r.ids_length = 8;
     places("the third id", r, CITYSEQ_NOT_UTF8, CITYSEQ_LIST_IDS, 2);

@@ -30,6 +30,7 @@ OPTIONS = (
     ["--bbox=0,-10,3,10", "--exclude", "--keep-going"],
     ["--id", "a,c", "--tree"],
     ["--keep-going", "--extensions"],
+    ["--keep-going", "--extensions", "--type", "+Shed,Road"],
 )
 STREAMS = 300
 

@@ -180,33 +180,49 @@ static void try_limits(const char *name, struct text part)
         }
 }
 
-static void ask(struct cityseq_request *request, int lods, struct text texts)
+/* The parts of a query that have texts. */
+enum query_part { ids, lods, types, query_parts };
+
+static void ask(struct cityseq_request *request, enum query_part part, struct text texts)
 {
-    if (lods)
+    if (part == lods)
         request->asks_lods = true, request->lods = texts.bytes, request->lods_length = texts.length;
-    else
+    else if (part == ids)
         request->asks_ids = true, request->ids = texts.bytes, request->ids_length = texts.length;
+    else
+        request->extensions = request->asks_types = true, request->types = texts.bytes, request->types_length = texts.length;
+}
+
+/* Returns this many names of types of extensions, of this many digits each. */
+static struct text names_of(size_t count, int digits)
+{
+    struct text all = numbers(count, digits, "\n+");
+    if (count) {
+        memmove(all.bytes + 1, all.bytes, all.length++);
+        *all.bytes = '+';
+    }
+    return all;
 }
 
 /* Tries a query of texts, alone and before a part of the query that is wrong. `share` is for one of ids at a small limit. */
 static void try_texts(size_t count, int digits, enum share share, struct text part)
 {
-    struct text texts = numbers(count, digits, "\n");
+    struct text texts = numbers(count, digits, "\n"), names = names_of(count, digits);
     char name[64];
     snprintf(name, sizeof name, "%zu texts of %d bytes", count, digits);
-    for (int set = 0; set < 3; set++) {
+    for (int set = 0; set <= query_parts; set++) {
         struct cityseq_request request = CITYSEQ_USUAL;
         request.line_limit = 4096;
-        for (int lods = 0; lods < 2; lods++)
-            if (set == lods || set == 2)
-                ask(&request, lods, texts);
+        for (int query_part = 0; query_part < query_parts; query_part++)
+            if (set == query_part || set == query_parts)
+                ask(&request, query_part, query_part == types ? names : texts);
         try_calls(name, header, part, request, set == 0 ? share : some);
         request.asks_box = true, request.box = "1", request.box_length = 1;
         try_calls(name, header, part, request, some);
         request.asks_box = false, request.asks_lods = true, request.lods = "\xff", request.lods_length = 1;
         try_calls(name, header, part, request, some);
     }
-    free(texts.bytes);
+    free(texts.bytes), free(names.bytes);
 }
 
 static void expect(const char *name, size_t told, size_t wanted)
@@ -230,6 +246,11 @@ static void try_numbers(void)
     expect("two ids", cityseq_memory(&request, 100, 90), 200 + 24 * 82 + 9 + 192 + 1024);
     request.asks_lods = true, request.lods = NULL;
     expect("no LoD", cityseq_memory(&request, 100, 90), 200 + 24 * 82 + 9 + 192 + 1024 + 1024);
+    request.asks_lods = false, request.asks_types = true, request.types = "+Shed", request.types_length = 5;
+    expect("a type without types of extensions", cityseq_memory(&request, 100, 90), 200 + 24 * 82 + 9 + 192 + 1024);
+    request.extensions = true;
+    expect("a type of an extension", cityseq_memory(&request, 100, 90), 200 + 24 * 82 + 9 + 192 + 1024 + 15 + 96 + 1024);
+    request.asks_lods = true, request.asks_types = false;
     request.depth_limit = 65;
     expect("a depth of 65", cityseq_memory(&request, 100, 90), 200 + 24 * 83 + 260 + 9 + 192 + 1024 + 1024);
     request.depth_limit = 1025;

@@ -757,6 +757,14 @@ row_a_box_with_its_corners_exchanged() {
   refuses 'empty box' filter --bbox 3,0,1,1
 }
 
+row_a_type_of_an_extension_that_is_unknown() {
+  refuses 'unknown object type' filter --type Building,+Shed
+}
+
+row_an_unknown_type_beside_one_of_an_extension() {
+  refuses 'unknown object type' filter --extensions --type +Shed,Shed
+}
+
 row_a_type_is_judged_before_a_box() {
   refuses 'unknown object type' filter --bbox 1,2,3 --type Shed
 }

@@ -1,13 +1,13 @@
 -- What is wrong with a query is wrong with a request.
 use Rattle.std.proofs.Common.{◌≡◌, ℕ, List, Bool, true, false, cond, Option, None, Some, Result, Ok, Err, inl, inr, refl, subst}
 use Rattle.std.specs.Str.{is_utf8}
-use Rattle.cj_stream.specs.Adding.{flags_with, no_types}
+use Rattle.cj_stream.specs.Adding.{no_types, with_types}
 use Rattle.cj_stream.specs.BoxText.{box_text}
-use Rattle.cj_stream.specs.Meaning.Criteria.{Box, Criteria}
+use Rattle.cj_stream.specs.Meaning.Criteria.{Box, ChosenTypes, Criteria}
 use Rattle.cj_stream.specs.declared.query.fault.QueryFault.{QueryFault}
 use Rattle.cj_stream.specs.declared.query.fault.QueryFault.TheVariants.{Memory as NoMemory, UnknownTypeName, BadBox as BadBoxText, BoxRange as BoxTextRange, EmptyBox as EmptyBoxText}
-use Rattle.cityseq_c.specs.Query.{DeclinesCall, DeclinesPart, DeclinesQuery, DeclinesTexts}
-use Rattle.cityseq_c.specs.Request.{AsksFor, IsFit, box_asked, box_by, edges_by, fault_of, flags_by, ids_asked, items, lods_asked, or_fault, text_asked, texts_by, types_asked, types_by}
+use Rattle.cityseq_c.specs.Query.{DeclinesCall, DeclinesPart, DeclinesQuery, DeclinesTexts, DeclinesTypes}
+use Rattle.cityseq_c.specs.Request.{AsksFor, IsFit, box_asked, box_by, edges_by, fault_of, ids_asked, items, lods_asked, or_fault, text_asked, texts_by, types_asked, types_by, types_or_fault}
 use Rattle.cityseq_c.specs.declared.request.Fault.{Fault as WrongFault}
 use Rattle.cityseq_c.specs.declared.request.Fault.TheVariants.{LineLimit, DepthLimit, NoLine, NotUtf8, UnknownType, BadBox, BoxRange, EmptyBox, TooLong}
 use Rattle.cityseq_c.specs.declared.request.NotJudged.{NotJudged}
@@ -43,14 +43,14 @@ texts-fail : (r : Result (Option (List ℕ)) WrongFault) → Fails r → Fails (
 texts-fail (Ok text) h = tt
 texts-fail (Err fault) h = h
 
-flags-fail : (flags : Option (List Bool)) → Fails (flags_by flags)
-flags-fail None = tt
-flags-fail (Some flags) = tt
+names-fail : (types : Option ChosenTypes) → Fails (types_or_fault types)
+names-fail None = tt
+names-fail (Some types) = tt
 
-types-fail : (r : Result (Option (List ℕ)) WrongFault) → Fails r → Fails (types_by r)
-types-fail (Ok None) h = tt
-types-fail (Ok (Some text)) h = flags-fail (flags_with (items text) no_types)
-types-fail (Err fault) h = h
+types-fail : (extensions : Bool) (r : Result (Option (List ℕ)) WrongFault) → Fails r → Fails (types_by extensions r)
+types-fail extensions (Ok None) h = tt
+types-fail extensions (Ok (Some text)) h = names-fail (with_types extensions (items text) no_types)
+types-fail extensions (Err fault) h = h
 
 edges-fail : (r : Result Box QueryFault) → Fails (edges_by r)
 edges-fail (Ok box) = tt
@@ -79,7 +79,7 @@ fault-may : (r : Request) → MayBe (fault_of r)
 fault-may r =
     first-fails (ids_asked r) _ (texts-fail (text_asked r.asks_ids r.ids.now) (text-fails r.asks_ids r.ids.now))
     (first-fails (types_asked r) _
-    (types-fail (text_asked r.asks_types r.types.now) (text-fails r.asks_types r.types.now))
+    (types-fail r.extensions (text_asked r.asks_types r.types.now) (text-fails r.asks_types r.types.now))
     (first-fails (lods_asked r) _ (texts-fail (text_asked r.asks_lods r.lods.now) (text-fails r.asks_lods r.lods.now))
     (first-fails (box_asked r) None (box-fails (text_asked r.asks_box r.bbox.now) (text-fails r.asks_box r.bbox.now))
     tt)))
@@ -108,14 +108,14 @@ ids-declined r (Fault fault) is = rw is refl
 ids-declined r Memory wants = inl wants
 
 module _ (r : Request) (ids : Option (List (List ℕ))) (first : ids_asked r ≡ Ok ids) where
-  pub types-declined : (why : NotJudged) → DeclinesPart (types_asked r) why → DeclinesQuery r why
+  pub types-declined : (why : NotJudged) → DeclinesTypes r why → DeclinesQuery r why
   types-declined (Fault fault) is = rw (first, is) refl
-  types-declined Memory never = absurd never
+  types-declined Memory wants = inr (rw first refl, inl wants)
 
-  module _ (types : Option (List Bool)) (second : types_asked r ≡ Ok types) where
+  module _ (types : Option ChosenTypes) (second : types_asked r ≡ Ok types) where
     pub lods-declined : (why : NotJudged) → DeclinesTexts (lods_asked r) why → DeclinesQuery r why
     lods-declined (Fault fault) is = rw (first, second, is) refl
-    lods-declined Memory wants = inr (rw first refl, rw second refl, wants)
+    lods-declined Memory wants = inr (rw first refl, inr (rw second refl, wants))
 
     pub edges-declined : (lods : Option (List (List ℕ))) → lods_asked r ≡ Ok lods → (why : NotJudged)
         → DeclinesPart (box_asked r) why → DeclinesQuery r why

@@ -26,3 +26,4 @@ pub mod RowLemmas
 pub mod SeekLemmas
 pub mod SpotLemmas
 pub mod TallyLemmas
+pub mod TypeLemmas

@@ -1,50 +1,15 @@
--- What an item of a list is: a name of a type, a number, an edge.
-use Rattle.std.proofs.Common.{◌≡◌, ℕ, List, [], ◌∷◌, Bool, true, false, ◌&&◌, Option, Some, None, Result, Ok, Err, ℤ, refl, sym, ap, ◌∙◌}
-use Rattle.std.specs.Prelude.{if◌then◌else◌, cond, is_ok, is_some, option_map}
-use Rattle.std.specs.List.{list_all}
-use Rattle.std.specs.Str.{bytes_eq, chars, is_utf8}
-use lib.Utf8.{encode}
-use Rattle.std.proofs.lemmas.Bool.{and_parts}
-use Rattle.std.proofs.lemmas.Slice.Eq.{bytes_eq-Decides}
+-- What an item of a list is: a number, an edge.
+use Rattle.std.proofs.Common.{◌≡◌, ℕ, List, Bool, true, false, Option, Some, None, Result, Ok, Err, ℤ, refl, sym, ap, ◌∙◌}
+use Rattle.std.specs.Prelude.{if◌then◌else◌, is_ok, is_some}
 use Rattle.cj_decimal.specs.Meaning.Class.{Class, no_number, out_of_range, not_whole, whole, value_by}
 use Rattle.cj_decimal.specs.Meaning.Number.{is_fixed}
 use Rattle.cj_decimal.proofs.Classes.{class}
-use Rattle.cj_geometry.specs.Meaning.ObjectTypes.{ObjectRow, object_types}
-use Rattle.cj_geometry.specs.ObjectTypes.{row_named, row_named_in}
 use Rattle.cj_stream.specs.BoxText.{is_edge, is_number, is_number_by}
 use Rattle.cj_stream.specs.Meaning.Criteria.{there_is}
 use Rattle.cj_stream.proofs.Apart.{false-true}
 use Rattle.cj_stream.specs.declared.query.fault.QueryFault.{QueryFault}
 use Rattle.cj_stream.specs.declared.query.fault.QueryFault.TheVariants.{BadBox}
-use Rattle.cityseq_c.specs.FaultPlace.{has_edge, is_type}
-
--- ---- names of types
-
--- the names of the table are UTF-8
-names-are-texts : list_all (λ (r : ObjectRow). is_utf8 r.name) object_types ≡ true
-unfolding object_types is_utf8 chars encode
-names-are-texts = refl
-
--- so no other bytes are one of them
-no-name-next : (r : ObjectRow) (rows : List ObjectRow) (s : List ℕ) → is_utf8 r.name ≡ true → is_utf8 s ≡ false
-    → row_named_in rows s ≡ None → (b : Bool) → bytes_eq s r.name ≡ b → cond b (Some r) (row_named_in rows s) ≡ None
-no-name-next r rows s text none later true same =
-    absurd (false-true (sym none ∙ (ap is_utf8 ((bytes_eq-Decides s r.name).0 same) ∙ text)))
-no-name-next r rows s text none later false other = later
-
-no-name-in : (rows : List ObjectRow) (s : List ℕ) → list_all (λ (r : ObjectRow). is_utf8 r.name) rows ≡ true
-    → is_utf8 s ≡ false → row_named_in rows s ≡ None
-no-name-in [] s all none = refl
-no-name-in (r ∷ rows) s all none =
-    let parts = and_parts (is_utf8 r.name) (list_all (λ (r : ObjectRow). is_utf8 r.name) rows) all in
-    no-name-next r rows s parts.0 none (no-name-in rows s parts.1 none) (bytes_eq s r.name) refl
-
-pub no-type : (s : List ℕ) → is_utf8 s ≡ false → false ≡ is_type s
-no-type s none = sym (ap (λ (row : Option ObjectRow). is_some row) (no-name-in object_types s names-are-texts none))
-
-pub is-mapped : {A B : Type 0} (f : A → B) (o : Option A) → is_some o ≡ is_some (option_map f o)
-is-mapped f None = refl
-is-mapped f (Some x) = refl
+use Rattle.cityseq_c.specs.FaultPlace.{has_edge}
 
 -- ---- numbers
 

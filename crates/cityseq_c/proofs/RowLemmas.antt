@@ -91,6 +91,8 @@ unfolding object_types is_utf8 chars encode
 fault = (
   refl,
   refl,
+  refl,
+  refl,
   rw (naught.0, one.0, no-text) refl,
   rw (naught.0, one.0) refl,
   rw (naught.1, one.1) refl,

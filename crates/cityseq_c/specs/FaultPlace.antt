@@ -1,10 +1,9 @@
 -- Where the fault of a request is: the list that has it, and the first item of this list that is at fault.
-use Rattle.std.specs.Prelude.{ℕ, List, Bool, true, false, ◌&&◌, not, if◌then◌else◌, min, is_some, Option, Some, None, ℤ}
+use Rattle.std.specs.Prelude.{ℕ, List, Bool, true, false, ◌&&◌, not, if◌then◌else◌, min, Option, Some, None, ℤ}
 use Rattle.std.specs.Prelude.{int_lt, option_and_then, slice_get}
 use Rattle.std.specs.List.{prefix_len}
 use Rattle.std.specs.Str.{is_utf8}
-use Rattle.cj_geometry.specs.ObjectTypes.{row_named}
-use Rattle.cj_stream.specs.Adding.{parted}
+use Rattle.cj_stream.specs.Adding.{is_type, parted}
 use Rattle.cj_stream.specs.BoxText.{edge, fields, is_edge, is_number}
 use Rattle.cj_stream.specs.Meaning.Lines.{newline}
 use Rattle.cityseq_c.specs.declared.fault_place.FaultPlace.{FaultPlace}
@@ -21,13 +20,13 @@ at_item list item = record { list = list; item = item }
 -- ---- items
 
 -- a text is the name of a type of city objects
-abbrev pub is_type : List ℕ → Bool
-is_type name = is_some (row_named name)
+abbrev pub is_name : Bool → List ℕ → Bool
+is_name extensions item = is_utf8 item && is_type extensions item
 
 -- an item keeps a rule
 abbrev pub is_kept : ItemRule → List ℕ → Bool
 is_kept Utf8 item = is_utf8 item
-is_kept TypeName item = is_type item
+is_kept (TypeName extensions) item = is_name extensions item
 is_kept Number item = is_number item
 is_kept Edge item = is_edge item
 
@@ -78,7 +77,7 @@ empty_item box = if is_above (edge_at box 0) (edge_at box 2) then 0 else 1
 -- other faults
 abbrev pub fault_place : Request → Fault → FaultPlace
 fault_place r NotUtf8 = text_place r
-fault_place r UnknownType = at_item 2 (first_text TypeName r.types.now)
+fault_place r UnknownType = at_item 2 (first_text (TypeName r.extensions) r.types.now)
 fault_place r BadBox = at_item 4 (min (first_number Number r.bbox.now) 4)
 fault_place r BoxRange = at_item 4 (first_number Edge r.bbox.now)
 fault_place r EmptyBox = at_item 4 (empty_item r.bbox.now)

@@ -22,10 +22,12 @@ abbrev pub has_limits : Request → Bool
 has_limits r = (nat_le 1 r.line_limit && nat_le r.line_limit 1073741824)
     && (nat_le 1 r.depth_limit && nat_le r.depth_limit 1024)
 
--- what a call with a request, a header and a part of these lengths takes at most; nothing where a limit is out of range
+-- What a call with a request, a header and a part of these lengths takes at most; nothing where a limit is out of
+-- range. Names of types take some only where types of extensions are known.
 abbrev pub memory_bytes : Request → ℕ → ℕ → ℕ
 memory_bytes r header part =
     if has_limits r
     then capped (lines_bytes (needed_line r.line_limit header part) r.depth_limit
-    + texts_bytes r.asks_ids r.ids.now + texts_bytes r.asks_lods r.lods.now)
+    + texts_bytes r.asks_ids r.ids.now + texts_bytes (r.asks_types && r.extensions) r.types.now
+    + texts_bytes r.asks_lods r.lods.now)
     else 0

@@ -5,9 +5,9 @@ use Rattle.std.specs.List.{slice_split}
 use Rattle.std.specs.Str.{is_utf8}
 use Rattle.cj_budget.specs.Limits.{InLine, InDepth}
 use Rattle.cj_budget.specs.Meaning.Limits.{LimitPair}
-use Rattle.cj_stream.specs.Adding.{flags_with, no_types}
+use Rattle.cj_stream.specs.Adding.{no_types, with_types}
 use Rattle.cj_stream.specs.BoxText.{box_text}
-use Rattle.cj_stream.specs.Meaning.Criteria.{Criteria, Box}
+use Rattle.cj_stream.specs.Meaning.Criteria.{Criteria, ChosenTypes, Box}
 use Rattle.cj_stream.specs.Lines.{NoLf}
 use Rattle.cj_stream.specs.Meaning.Lines.{newline}
 use Rattle.cj_stream.specs.Meaning.Rules.{OptionSet, Rules}
@@ -49,15 +49,15 @@ abbrev pub texts_by : Result (Option (List ℕ)) Fault → Result (Option (List 
 texts_by (Ok text) = Ok (option_map items text)
 texts_by (Err fault) = Err fault
 
--- the flags of types
-abbrev pub flags_by : Option (List Bool) → Result (Option (List Bool)) Fault
-flags_by None = Err UnknownType
-flags_by (Some flags) = Ok (Some flags)
+-- the types of names
+abbrev pub types_or_fault : Option ChosenTypes → Result (Option ChosenTypes) Fault
+types_or_fault None = Err UnknownType
+types_or_fault (Some types) = Ok (Some types)
 
-abbrev pub types_by : Result (Option (List ℕ)) Fault → Result (Option (List Bool)) Fault
-types_by (Ok None) = Ok None
-types_by (Ok (Some text)) = flags_by (flags_with (items text) no_types)
-types_by (Err fault) = Err fault
+abbrev pub types_by : Bool → Result (Option (List ℕ)) Fault → Result (Option ChosenTypes) Fault
+types_by extensions (Ok None) = Ok None
+types_by extensions (Ok (Some text)) = types_or_fault (with_types extensions (items text) no_types)
+types_by extensions (Err fault) = Err fault
 
 -- what is wrong with the text of a box; it is never want of memory
 abbrev pub box_fault : QueryFault → Fault
@@ -80,8 +80,8 @@ box_by (Err fault) = Err fault
 abbrev pub ids_asked : Request → Result (Option (List (List ℕ))) Fault
 ids_asked r = texts_by (text_asked r.asks_ids r.ids.now)
 
-abbrev pub types_asked : Request → Result (Option (List Bool)) Fault
-types_asked r = types_by (text_asked r.asks_types r.types.now)
+abbrev pub types_asked : Request → Result (Option ChosenTypes) Fault
+types_asked r = types_by r.extensions (text_asked r.asks_types r.types.now)
 
 abbrev pub lods_asked : Request → Result (Option (List (List ℕ))) Fault
 lods_asked r = texts_by (text_asked r.asks_lods r.lods.now)

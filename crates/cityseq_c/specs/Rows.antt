@@ -1,5 +1,5 @@
 -- Worked rows of the definitions, which compute.
-use Rattle.std.specs.Prelude.{◌≡◌, ℕ, List, [], ◌∷◌, ◌++◌, None, codes, map}
+use Rattle.std.specs.Prelude.{◌≡◌, ℕ, List, [], ◌∷◌, ◌++◌, true, false, None, codes, map}
 use Rattle.cj_spans.specs.declared.token.Kind.TheVariants.{Null}
 use Rattle.cj_spans.specs.Meaning.Json.{atom_at}
 use Rattle.cj_spans.specs.Meaning.Signs.{carriage_return, newline}
@@ -80,11 +80,14 @@ AttributesRow =
     × ¬ HasSpan furnished.line (attributes_in furnished.tree) 133 4
     × HasSpan itself.line (attributes_in itself.tree) 0 0
 
--- the second of three names is no type's, and the third of three texts is not UTF-8; a box lacks its third number, and
--- another one its fourth; and boxes are empty on x and on y
+-- The second of three names is no type's. Of two names, the first is of an extension, and is no type's where these are
+-- unknown; else the second is not. The third of three texts is not UTF-8. A box lacks its third number, and another one
+-- its fourth. Boxes are empty on x and on y.
 abbrev pub FaultRow : Type 0
 FaultRow =
-    (first_text TypeName (codes "Road" ++ newline ∷ (codes "Hut" ++ newline ∷ codes "Hut")) ≡ 1)
+    (first_text (TypeName false) (codes "Road" ++ newline ∷ (codes "Hut" ++ newline ∷ codes "Hut")) ≡ 1)
+    × (first_text (TypeName false) (codes "+Hut" ++ newline ∷ codes "Hut") ≡ 0)
+    × (first_text (TypeName true) (codes "+Hut" ++ newline ∷ codes "Hut") ≡ 1)
     × (first_text Utf8 (97 ∷ newline ∷ newline ∷ 255 ∷ []) ≡ 2)
     × (first_number Number (codes "0,1,,1") ≡ 2)
     × (first_number Number (codes "0,1,0") ≡ 3)

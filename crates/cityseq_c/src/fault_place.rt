@@ -5,12 +5,12 @@ ghost use Rattle.cj_stream.specs.Adding.{parted};
 ghost use Rattle.cj_stream.specs.BoxText.{edge, is_edge, is_number};
 ghost use Rattle.cj_stream.specs.declared.query.fault.QueryFault.TheVariants.{BadBox};
 ghost use Rattle.cityseq_c.specs.FaultPlace.{edge_at as edge_in, empty_item as empty_item_in, fault_place as place_of};
-ghost use Rattle.cityseq_c.specs.FaultPlace.{has_edge, is_kept, is_type, text_place as text_place_in};
-ghost use Rattle.cityseq_c.specs.FaultPlace.{is_broken as is_broken_text};
+ghost use Rattle.cityseq_c.specs.FaultPlace.{has_edge, is_kept, text_place as text_place_in};
+ghost use Rattle.cityseq_c.specs.FaultPlace.{is_broken as is_broken_text, is_name as is_name_of_type};
 
 use crate::request::{Fault, Request};
 use cj_decimal::{Decimal, DecimalFault, Fixed18};
-use cj_stream::{ObjectType, QueryFault};
+use cj_stream::{QueryFault, is_type_name};
 
 /// The numbers of the lists of a request, each a `cityseq_list`. 0 stands for none.
 const IDS: u64 = 1;
@@ -38,8 +38,8 @@ pub struct FaultPlace {
 pub enum ItemRule {
     /// A text in UTF-8.
     Utf8,
-    /// The name of a type of city objects.
-    TypeName,
+    /// The name of a type of city objects. `extensions` is whether types of extensions are known.
+    TypeName { extensions: bool },
     /// A number of JSON.
     Number,
     /// A number that an edge of a box can be.
@@ -47,11 +47,11 @@ pub enum ItemRule {
 }
 
 /// Returns whether an item is the name of a type of city objects.
-fn is_type_name(item: &[u8]) -> bool
-    ensures { result ≡ is_type item.now }
+fn is_name(item: &[u8], extensions: bool) -> bool
+    ensures { result ≡ is_name_of_type extensions item.now }
 {
     match str::from_utf8(item) {
-        Ok(name) => ObjectType::named(name).is_some(),
+        Ok(name) => is_type_name(name, extensions),
         Err(_) => false,
     }
 }
@@ -89,7 +89,7 @@ impl ItemRule {
     {
         match self {
             ItemRule::Utf8 => str::from_utf8(item).is_ok(),
-            ItemRule::TypeName => is_type_name(item),
+            ItemRule::TypeName { extensions } => is_name(item, extensions),
             ItemRule::Number => read_edge(item).is_ok(),
             ItemRule::Edge => edge_of(item).is_some(),
         }
@@ -159,7 +159,13 @@ pub fn fault_place(request: &Request<'_>, fault: Fault) -> FaultPlace
         Fault::NotUtf8 => text_place(request),
         Fault::UnknownType => FaultPlace {
             list: TYPES,
-            item: items_before(request.types, b'\n', ItemRule::TypeName),
+            item: items_before(
+                request.types,
+                b'\n',
+                ItemRule::TypeName {
+                    extensions: request.extensions,
+                },
+            ),
         },
         Fault::BadBox => FaultPlace {
             list: BOX,

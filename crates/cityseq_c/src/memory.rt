@@ -107,6 +107,10 @@ pub fn memory_of(request: &Request<'_>, header: usize, part: usize) -> usize
             let line = needed_line(limits.line(), header, part) as usize;
             bytes_of_lines(line, limits.depth() as usize)
                 .saturating_add(bytes_of_texts(request.asks_ids, request.ids))
+                .saturating_add(bytes_of_texts(
+                    request.asks_types && request.extensions,
+                    request.types,
+                ))
                 .saturating_add(bytes_of_texts(request.asks_lods, request.lods))
         }
         Err(_) => 0,

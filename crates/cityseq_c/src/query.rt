@@ -1,9 +1,10 @@
 //! Makes the query of a request.
-ghost use Rattle.std.specs.Prelude.{◌≡◌, ◌<◌, None, Some, Ok, Err, IfOk, IfErr, OnOk, MatchOption, length};
-ghost use Rattle.cj_stream.specs.Adding.{flags_with, no_types};
+ghost use Rattle.std.specs.Prelude.{◌≡◌, ◌<◌, None, Some, Ok, IfOk, IfErr, OnOk, length};
+ghost use Rattle.cj_stream.specs.Adding.{setting_types};
 ghost use Rattle.cj_stream.specs.Query.{criteria};
-ghost use Rattle.cityseq_c.specs.Query.{Reads, DeclinesPart, DeclinesQuery, DeclinesTexts};
+ghost use Rattle.cityseq_c.specs.Query.{Reads, DeclinesNames, DeclinesPart, DeclinesQuery, DeclinesTexts};
 ghost use Rattle.cityseq_c.specs.Request.{AsksFor, box_asked, box_fault as fault_of_box, ids_asked, items, lods_asked};
+ghost use Rattle.cityseq_c.specs.Query.{type_fault as fault_of_type, DeclinesTypes};
 ghost use Rattle.cityseq_c.specs.Request.{text_asked, types_asked};
 
 use crate::request::{Fault, NotJudged, Request};
@@ -65,24 +66,38 @@ fn add_lods(query: &mut Query, lods: &str) -> Result<(), NotJudged>
     }
 }
 
+/// Returns why nothing is judged if the query declines a name of a type.
+fn type_fault(fault: QueryFault) -> NotJudged
+    ensures { result ≡ fault_of_type fault }
+{
+    match fault {
+        QueryFault::Memory => NotJudged::Memory,
+        QueryFault::UnknownTypeName
+        | QueryFault::BadBox
+        | QueryFault::BoxRange
+        | QueryFault::EmptyBox => NotJudged::Fault(Fault::UnknownType),
+    }
+}
+
 /// Sets the part on types to those with the names between the LFs of `types`. An empty `types` has
 /// no name.
 ///
 /// # Errors
 ///
-/// `UnknownType` if no type has one of the names.
-fn add_types(query: &mut Query, types: &str) -> Result<(), NotJudged>
-    ensures { MatchOption (flags_with (items types.now) no_types)
-        (result ≡ Err (NotJudged.Fault Fault.UnknownType))
-        (λ flags. (result ≡ Ok tt) × (criteria query.new ≡ record (criteria query.old) { types = Some flags })) }
+/// The first of these: `UnknownType` if no type has one of the names, and `Memory` if no memory was
+/// granted for the name of a type of an extension.
+fn add_types(query: &mut Query, types: &str, extensions: bool) -> Result<(), NotJudged>
+    ensures ok { OnOk result
+        (setting_types extensions (items types.now) (criteria query.old) ≡ Some (criteria query.new)) }
+    ensures declined { IfErr result (DeclinesNames extensions (items types.now)) }
 {
     if types.is_empty() {
         query.start_types();
         return Ok(());
     }
-    match query.set_types(types, '\n') {
+    match query.set_types(types, '\n', extensions) {
         Ok(()) => Ok(()),
-        Err(_) => Err(NotJudged::Fault(Fault::UnknownType)),
+        Err(fault) => Err(type_fault(fault)),
     }
 }
 
@@ -119,15 +134,16 @@ fn set_ids(query: &mut Query, request: &Request<'_>) -> Result<(), NotJudged>
 ///
 /// # Errors
 ///
-/// `NotUtf8` if the text is not UTF-8. `UnknownType` if no type has one of the names.
+/// `NotUtf8` if the text is not UTF-8. Else the first of these: `UnknownType` if no type has one of
+/// the names, and `Memory` if no memory was granted for the name of a type of an extension.
 fn set_types(query: &mut Query, request: &Request<'_>) -> Result<(), NotJudged>
     requires { (criteria query.old).types ≡ None }
     ensures ok { OnOk result ((types_asked request.now ≡ Ok (criteria query.new).types)
         × (criteria query.new ≡ record (criteria query.old) { types = (criteria query.new).types })) }
-    ensures declined { IfErr result (DeclinesPart (types_asked request.now)) }
+    ensures declined { IfErr result (DeclinesTypes request.now) }
 {
     match text_of(request.asks_types, request.types)? {
-        Some(types) => add_types(query, types),
+        Some(types) => add_types(query, types, request.extensions),
         None => Ok(()),
     }
 }

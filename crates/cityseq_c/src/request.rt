@@ -20,7 +20,8 @@ pub struct Request<'a> {
     pub tree: bool,
     /// Whether the features that satisfy the query are left out, and all others kept.
     pub exclude: bool,
-    /// Whether types of extensions are known: those that begin with `+`.
+    /// Whether types of extensions are known: those that begin with `+`. Then `types` may name
+    /// them.
     pub extensions: bool,
     /// Whether the id must be one of `ids`.
     pub asks_ids: bool,

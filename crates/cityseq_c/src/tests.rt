@@ -392,6 +392,27 @@ fn an_unknown_type_is_told(rt: HostRuntime) -> Result<(), Fail> {
     Ok(())
 }
 
+/// Asks for types, where those of extensions are known or not.
+fn typed(alloc: Global, types: &[u8], extensions: bool) -> Answer {
+    let request = Request {
+        extensions,
+        asks_types: true,
+        types,
+        ..USUAL
+    };
+    asked(alloc, &request)
+}
+
+#[test]
+fn a_type_of_an_extension_is_told(rt: HostRuntime) -> Result<(), Fail> {
+    check_fault(&rt, typed(rt.alloc(), b"Road\n+Shed", false), (5, 2, 1));
+    check_fault(&rt, typed(rt.alloc(), b"+Shed\nShed", true), (5, 2, 1));
+    let answer = typed(rt.alloc(), b"+Shed\nRoad", true);
+    check_ended(&rt, answer, (0, 0, 0, 0));
+    check_counts(&rt, answer, (2, 0, 0, 0));
+    Ok(())
+}
+
 #[test]
 fn a_text_that_is_not_utf8_is_told(rt: HostRuntime) -> Result<(), Fail> {
     let request = Request {

@@ -86,12 +86,13 @@ pub record HasInfoOptions (m : ArgMatches) (options : OptionSet) : Type 0 where
 abbrev pub AsksBy : List ℕ → ArgMatches → Ask → Type 0
 AsksBy name m (Check limits options) = (name ≡ codes "check") × HasLimits m limits × HasCheckOptions m options
 AsksBy name m (Filter limits query options) = (name ≡ codes "filter") × HasLimits m limits
-    × (criteria_by (texts_in m) ≡ Ok (criteria query)) × HasFilterOptions m options
+    × (criteria_by options.extensions (texts_in m) ≡ Ok (criteria query)) × HasFilterOptions m options
 AsksBy name m (Info limits options) = (name ≡ codes "info") × HasLimits m limits × HasInfoOptions m options
 
 -- a command of this name with these options cannot be asked: it is `filter`, and this is the first fault of its texts
 abbrev pub CannotAsk : List ℕ → ArgMatches → QueryFault → Type 0
-CannotAsk name m fault = (name ≡ codes "filter") × DeclinesTexts (texts_in m) fault
+CannotAsk name m fault = (name ≡ codes "filter")
+    × (extensions : Bool) × HasFlag m (codes "extensions") extensions × DeclinesTexts extensions (texts_in m) fault
 
 -- a name is that of no command of the program
 abbrev pub IsNoCommand : List ℕ → Type 0

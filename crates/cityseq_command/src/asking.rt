@@ -59,37 +59,41 @@ fn ask_of(alloc: Global, name: &str, options: &ArgMatches) -> Result<Ask, NoAsk>
     };
     match name {
         "check" => Ok(Ask::Check(limits, check_options(options))),
-        "filter" => match query_of(alloc, &texts_of(options)) {
-            Ok(query) => Ok(Ask::Filter(limits, query, filter_options(options))),
-            Err(fault) => Err(NoAsk::Query(fault)),
-        },
+        "filter" => {
+            let filter = filter_options(options);
+            match query_of(alloc, &texts_of(options), filter.knows_extensions()) {
+                Ok(query) => Ok(Ask::Filter(limits, query, filter)),
+                Err(fault) => Err(NoAsk::Query(fault)),
+            }
+        }
         "info" => Ok(Ask::Info(limits, info_options(options))),
         _ => Err(NoAsk::NoCommand),
     }
 }
 
 /// Returns the query that these texts make. It sets ids first, then types, LoDs and the box.
+/// `extensions` is whether types of extensions are known.
 ///
 /// # Errors
 ///
 /// The first of these:
 ///
 /// - `Memory` if an allocation for ids failed.
-/// - `UnknownTypeName`.
+/// - `UnknownTypeName`, or `Memory` if an allocation for a type of an extension failed.
 /// - `Memory` if an allocation for LoDs failed.
 /// - What is wrong with the box.
 ///
-/// Types and a box need no allocation.
-pub fn query_of(alloc: Global, texts: &QueryTexts) -> Result<Query, QueryFault>
-    ensures ok { IfOk result (λ query. criteria_by (texts_of texts.now) ≡ Ok (criteria query)) }
-    ensures err { IfErr result (λ fault. DeclinesTexts (texts_of texts.now) fault) }
+/// Other types and a box need no allocation.
+pub fn query_of(alloc: Global, texts: &QueryTexts, extensions: bool) -> Result<Query, QueryFault>
+    ensures ok { IfOk result (λ query. criteria_by extensions (texts_of texts.now) ≡ Ok (criteria query)) }
+    ensures err { IfErr result (λ fault. DeclinesTexts extensions (texts_of texts.now) fault) }
 {
     let mut query = Query::all(alloc);
     if let Some(ids) = texts.ids {
         query.set_ids(ids, ',')?;
     }
     if let Some(types) = texts.types {
-        query.set_types(types, ',')?;
+        query.set_types(types, ',', extensions)?;
     }
     if let Some(lods) = texts.lods {
         query.set_lods(lods, ',')?;

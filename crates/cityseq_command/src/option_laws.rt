@@ -1,5 +1,6 @@
 //! Laws of the definition of the criteria that options make, each proved once.
-ghost use Rattle.cityseq_command.specs.OptionRows.{NothingRow, IdRows, LodRow, TypeRows, BoxRow, OrderRows, AllRow};
+ghost use Rattle.cityseq_command.specs.OptionRows.{NothingRow, IdRows, LodRow, TypeRows, ExtensionRows, BoxRow};
+ghost use Rattle.cityseq_command.specs.OptionRows.{OrderRows, AllRow};
 
 use cj_stream::row_laws::boxes_compute;
 
@@ -9,6 +10,7 @@ pub fn options_compute()
     ensures ids { IdRows }
     ensures lods { LodRow }
     ensures types { TypeRows }
+    ensures extensions { ExtensionRows }
     ensures a_box { BoxRow }
     ensures order { OrderRows }
     ensures all { AllRow }

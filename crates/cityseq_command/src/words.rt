@@ -244,7 +244,7 @@ fn filter_command<'a>(alloc: Global) -> Result<Command<'a>, AllocError>
             alloc,
             TYPES,
             "TYPES",
-            "Select features that have a city object of one of these types",
+            "Select features that have a city object of one of these types; with --extensions a type may begin with `+`",
         ))?
         .arg(query_option(
             alloc,
@@ -372,7 +372,8 @@ pub fn info_options(matches: &ArgMatches) -> Options
 pub struct QueryTexts<'a> {
     /// Ids of features, separated by commas.
     pub ids: Option<&'a str>,
-    /// Names of types of city objects, separated by commas.
+    /// Names of types of city objects, separated by commas. Those of types of extensions begin with
+    /// `+`.
     pub types: Option<&'a str>,
     /// LoDs, separated by commas.
     pub lods: Option<&'a str>,

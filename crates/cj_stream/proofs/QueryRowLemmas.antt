@@ -14,7 +14,7 @@ use Rattle.cj_geometry.specs.Meaning.ObjectTypes.{object_types}
 use Rattle.cj_geometry.proofs.Digits.{whole-zero, whole-one}
 use Rattle.cj_feature.specs.Meaning.Transform.{units_at}
 use Rattle.cj_stream.specs.Meaning.Criteria.{Box, coordinate_by, holds, there_is, vertices_of}
-use Rattle.cj_stream.specs.QueryRows.{plain_header, two_objects, one_instance, boxed, IdRows, TypeRows, LodRows, InstanceRows, InBoxRows, OutOfBoxRows, EachPartRows}
+use Rattle.cj_stream.specs.QueryRows.{plain_header, two_objects, one_instance, boxed, IdRows, TypeRows, LodRows, InstanceRows, InBoxRows, OutOfBoxRows, EachPartRows, ExtensionRows, NameRows, MemoryRows}
 
 pub ids : IdRows
 unfolding holds text code_points_after first_code_point first_width chars encode
@@ -23,6 +23,18 @@ ids = (refl, refl, refl, refl, refl)
 pub types : TypeRows
 unfolding holds text code_points_after first_code_point first_width chars encode object_types
 types = (refl, refl, refl, refl, refl, refl)
+
+pub extensions : ExtensionRows
+unfolding holds text code_points_after first_code_point first_width chars encode object_types
+extensions = (refl, refl, refl, refl, refl, refl, refl, refl, refl)
+
+pub names : NameRows
+unfolding object_types
+names = (refl, refl, refl, refl, refl)
+
+pub memory : MemoryRows
+unfolding object_types
+memory = (refl, refl, refl, refl)
 
 pub lods : LodRows
 unfolding holds text code_points_after first_code_point first_width chars encode

@@ -1,13 +1,13 @@
 -- Small features, and which of them satisfy what is asked. Their trees are made of names and texts alone: where they
 -- stand in a line plays no part.
-use Rattle.std.specs.Prelude.{◌≡◌, ℕ, ◌*◌, ◌^◌, List, [], ◌∷◌, ◌++◌, Bool, true, false, Some, ℤ, pos, neg_ℤ, codes}
-use Rattle.std.specs.Prelude.{slice_set}
+use Rattle.std.specs.Prelude.{◌≡◌, ℕ, ◌*◌, ◌^◌, List, [], ◌∷◌, ◌++◌, true, false, None, Some, ℤ, pos, neg_ℤ}
+use Rattle.std.specs.Prelude.{codes, slice_set}
 use Rattle.cj_spans.specs.declared.token.Kind.TheVariants.{Number, Text}
 use Rattle.cj_spans.specs.Meaning.Tree.{Tree, Atom, Items, Members, scalar, array, object, no_items, item, no_members}
 use Rattle.cj_spans.specs.Meaning.Tree.{member}
-use Rattle.cj_stream.specs.Meaning.Criteria.{Criteria, Box, holds}
+use Rattle.cj_stream.specs.Meaning.Criteria.{Criteria, ChosenTypes, Box, holds}
 use Rattle.cj_stream.specs.Usual.{everything}
-use Rattle.cj_stream.specs.Adding.{no_types}
+use Rattle.cj_stream.specs.Adding.{has_extension, no_types, with_types}
 
 -- ---- trees
 
@@ -98,8 +98,8 @@ one_instance = feature ((codes "b", city_object (codes "Building") (instance ∷
 abbrev pub ids : List (List ℕ) → Criteria
 ids texts = record everything { ids = Some texts }
 
-abbrev pub types : List Bool → Criteria
-types flags = record everything { types = Some flags }
+abbrev pub types : ChosenTypes → Criteria
+types chosen = record everything { types = Some chosen }
 
 abbrev pub lods : List (List ℕ) → Criteria
 lods texts = record everything { lods = Some texts }
@@ -117,21 +117,25 @@ IdRows =
     × (holds (ids (codes "b1" ∷ [])) plain_header two_objects ≡ false)
     × (holds (ids []) plain_header two_objects ≡ false)
 
--- the flags of bridges, of buildings and of roads
-abbrev pub bridges : List Bool
-bridges = slice_set no_types 0 true
+-- the type of this number too
+abbrev pub and_type : ℕ → ChosenTypes → ChosenTypes
+and_type number chosen = record chosen { known = slice_set chosen.known number true }
 
-abbrev pub buildings : List Bool
-buildings = slice_set no_types 1 true
+-- bridges, buildings and roads
+abbrev pub bridges : ChosenTypes
+bridges = and_type 0 no_types
 
-abbrev pub roads : List Bool
-roads = slice_set no_types 9 true
+abbrev pub buildings : ChosenTypes
+buildings = and_type 1 no_types
 
-abbrev pub bridges_and_roads : List Bool
-bridges_and_roads = slice_set bridges 9 true
+abbrev pub roads : ChosenTypes
+roads = and_type 9 no_types
 
-abbrev pub bridges_and_tunnels : List Bool
-bridges_and_tunnels = slice_set bridges 13 true
+abbrev pub bridges_and_roads : ChosenTypes
+bridges_and_roads = and_type 9 bridges
+
+abbrev pub bridges_and_tunnels : ChosenTypes
+bridges_and_tunnels = and_type 13 bridges
 
 -- the type of some city object is asked for: of the first, of the last, or one of two
 abbrev pub TypeRows : Type 0
@@ -142,6 +146,49 @@ TypeRows =
     × (holds (types bridges) plain_header two_objects ≡ false)
     × (holds (types bridges_and_tunnels) plain_header two_objects ≡ false)
     × (holds (types no_types) plain_header two_objects ≡ false)
+
+-- types of extensions with these texts
+abbrev pub texts : List (List ℕ) → ChosenTypes
+texts names = record no_types { extensions = names }
+
+-- a road and a shed, and a shed whose type is spelled with an escape
+abbrev pub shed : Tree
+shed = feature ((codes "r", city_object (codes "Road") []) ∷ (codes "s", city_object (codes "+Shed") []) ∷ []) []
+
+abbrev pub escaped_shed : Tree
+escaped_shed = feature ((codes "s", city_object (92 ∷ codes "u002bShed") []) ∷ []) []
+
+-- a type of an extension is asked for by its text, alone or among others, in any spelling; and neither by its front nor
+-- by any other type of an extension
+abbrev pub ExtensionRows : Type 0
+ExtensionRows =
+    (holds (types (texts (codes "+Shed" ∷ []))) plain_header shed ≡ true)
+    × (holds (types (texts (codes "+Hut" ∷ codes "+Shed" ∷ []))) plain_header shed ≡ true)
+    × (holds (types (record bridges { extensions = codes "+Shed" ∷ [] })) plain_header shed ≡ true)
+    × (holds (types (record roads { extensions = codes "+Hut" ∷ [] })) plain_header shed ≡ true)
+    × (holds (types (texts (codes "+Shed" ∷ []))) plain_header escaped_shed ≡ true)
+    × (holds (types (texts (codes "+She" ∷ []))) plain_header shed ≡ false)
+    × (holds (types (texts (codes "+Hut" ∷ []))) plain_header shed ≡ false)
+    × (holds (types bridges_and_tunnels) plain_header shed ≡ false)
+    × (holds (types (texts (codes "+Shed" ∷ []))) plain_header two_objects ≡ false)
+
+-- a name adds its flag, or its text where types of extensions are known; other names are no type's
+abbrev pub NameRows : Type 0
+NameRows =
+    (with_types true (codes "+Shed" ∷ codes "Road" ∷ codes "+Hut" ∷ []) no_types
+    ≡ Some (record roads { extensions = codes "+Shed" ∷ codes "+Hut" ∷ [] }))
+    × (with_types false (codes "Road" ∷ []) no_types ≡ Some roads)
+    × (with_types false (codes "+Shed" ∷ []) no_types ≡ None)
+    × (with_types true (codes "+Shed" ∷ codes "Shed" ∷ []) no_types ≡ None)
+    × (with_types true ([] ∷ []) no_types ≡ None)
+
+-- memory is wanted for a type of an extension, where these are known and no name before it is unknown
+abbrev pub MemoryRows : Type 0
+MemoryRows =
+    (has_extension true (codes "Road" ∷ codes "+Shed" ∷ codes "Shed" ∷ []) ≡ true)
+    × (has_extension true (codes "Shed" ∷ codes "+Shed" ∷ []) ≡ false)
+    × (has_extension true (codes "Road" ∷ []) ≡ false)
+    × (has_extension false (codes "+Shed" ∷ []) ≡ false)
 
 -- the LoD of some geometry is asked for: of the first, of one in the middle, of the last, or one of two. It is so as a
 -- text, and neither by its front nor by its value.

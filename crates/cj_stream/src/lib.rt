@@ -87,7 +87,7 @@ pub use line_reader::LineReader;
 pub use options::Options;
 pub use output::{Output, WriteFault, WriteSink};
 pub use pieces::{PiecesOutcome, headline, put_pieces};
-pub use query::{Query, QueryFault};
+pub use query::{Query, QueryFault, is_type_name};
 pub use report_sink::{CountReports, NoReports, Report, ReportSink};
 pub use running::{Outcome, run, run_within};
 pub use sink::{CountSink, IgnoreSink, LineSink};

@@ -1,5 +1,5 @@
 //! Which features of a stream are selected.
-ghost use Rattle.std.specs.Prelude.{◌≡◌, true, Some, Ok, Err, [], IfErr, OnOk, OnErr, MatchOption, MatchResult};
+ghost use Rattle.std.specs.Prelude.{◌≡◌, true, Some, Ok, Err, [], IfErr, OnOk, OnErr, MatchResult};
 ghost use Rattle.cj_spans.specs.Meaning.Tree.{Tree};
 ghost use Rattle.cj_feature.specs.HeaderView.{header_tree, has_box};
 ghost use Rattle.cj_feature.specs.View.{feature_tree};
@@ -7,12 +7,12 @@ ghost use Rattle.cj_stream.specs.Meaning.Criteria.{if_set, needs_box, has_id as 
 ghost use Rattle.cj_stream.specs.Usual.{everything};
 ghost use Rattle.cj_stream.specs.Meaning.Criteria.{has_type as type_holds, has_lod as lod_holds};
 ghost use Rattle.cj_stream.specs.Meaning.Criteria.{is_in as in_box, holds as satisfies};
-ghost use Rattle.cj_geometry.specs.ObjectTypes.{row_named};
-ghost use Rattle.cj_stream.specs.Adding.{no_types, with_id, with_lod, with_type, with_box};
+ghost use Rattle.cj_stream.specs.Adding.{adding_type, counted_memory, no_types, with_id, with_lod, with_box};
+ghost use Rattle.cj_stream.specs.Adding.{DeclinesType};
 ghost use Rattle.cj_stream.specs.BoxText.{box_text};
 ghost use Rattle.cj_stream.specs.Query.{criteria, failed_growths_of};
 ghost use Rattle.cj_stream.specs.Sink.{HasRisen, counted};
-ghost use Rattle.cj_stream.specs.declared.query.fault.QueryFault.TheVariants.{Memory, UnknownTypeName};
+ghost use Rattle.cj_stream.specs.declared.query.fault.QueryFault.TheVariants.{Memory};
 
 mod bounds;
 mod extent;
@@ -21,15 +21,17 @@ mod holding;
 mod ids;
 mod lists;
 mod texts;
+mod types;
 
 use bounds::Bounds;
 use cj_budget::{NoMemory, Refusals};
 use cj_feature::{Feature, Header};
-use cj_geometry::ObjectType;
 pub use fault::QueryFault;
 use ids::{Ids, add_id};
 use std::alloc::Global;
 use texts::add_text;
+pub use types::is_type_name;
+use types::{Types, add_type};
 
 /// Selects features: a feature is selected if it satisfies each part that is set. The query counts
 /// its growths that failed.
@@ -37,7 +39,7 @@ use texts::add_text;
 pub struct Query {
     alloc: Global,
     ids: Option<Ids>,
-    types: Option<[bool; ObjectType::COUNT]>,
+    types: Option<Types>,
     lods: Option<Vec<String>>,
     bounds: Option<Bounds>,
     failed_growths: Refusals,
@@ -86,7 +88,7 @@ impl Query {
         ensures asks { criteria self.new ≡ record (criteria self.old) { types = Some no_types } }
         ensures failed_growths { failed_growths_of self.new ≡ failed_growths_of self.old }
     {
-        self.types = Some([false; ObjectType::COUNT]);
+        self.types = Some(Types::new(self.alloc));
     }
 
     /// Sets the part on LoDs to an empty list, in place of an earlier one. Until an LoD is added,
@@ -132,25 +134,31 @@ impl Query {
     }
 
     /// Adds a type to the part on types, by its name (CityJSON 2.0, section 2). A feature satisfies
-    /// the part if some city object has one of the types. It allocates nothing.
+    /// the part if some city object has one of the types. With `extensions`, each name that begins
+    /// with `+` is that of a type (section 8), and only such a name needs memory.
     ///
     /// # Errors
     ///
-    /// `UnknownTypeName` if no type has this name. Then nothing changes.
+    /// The query then selects the same as before.
+    ///
+    /// - `UnknownTypeName` if no type has this name.
+    /// - `Memory` if an allocation failed. The query counts that.
     #[tactic(auto, unfolding(crate::specs::Query::criteria))]
-    pub fn add_type(&mut self, name: &str) -> Result<(), QueryFault>
-        ensures asks { MatchOption (row_named name.now)
-            ((result ≡ Err UnknownTypeName) × (criteria self.new ≡ criteria self.old))
-            (λ row. (result ≡ Ok tt) × (criteria self.new ≡ with_type row.number (criteria self.old))) }
-        ensures failed_growths { failed_growths_of self.new ≡ failed_growths_of self.old }
+    pub fn add_type(&mut self, name: &str, extensions: bool) -> Result<(), QueryFault>
+        ensures ok { OnOk result (adding_type extensions name.now (criteria self.old) ≡ Some (criteria self.new)) }
+        ensures err { OnErr result (criteria self.new ≡ criteria self.old) }
+        ensures declined { IfErr result (DeclinesType extensions name.now) }
+        ensures cause { IfErr result
+            (λ fault. fault ≡ Memory → HasRisen (failed_growths_of self.old) (failed_growths_of self.new)) }
+        ensures count { failed_growths_of self.new ≡ counted_memory (failed_growths_of self.old) result }
     {
-        let Some(object_type) = ObjectType::named(name) else {
-            return Err(QueryFault::UnknownTypeName);
-        };
-        let mut types = self.types.unwrap_or([false; ObjectType::COUNT]);
-        types[object_type.number() as usize] = true;
-        self.types = Some(types);
-        Ok(())
+        add_type(
+            self.alloc,
+            &mut self.types,
+            name,
+            extensions,
+            &mut self.failed_growths,
+        )
     }
 
     /// Adds a level of detail to the part on LoDs. A feature satisfies the part if some geometry

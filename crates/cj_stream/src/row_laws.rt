@@ -9,7 +9,7 @@ ghost use Rattle.cj_stream.specs.EndRows.{UnhinderedRow, UnreadRow};
 ghost use Rattle.cj_stream.specs.GoingRows.{BetweenRow, FirstRow as GoingFirst, LastRow};
 ghost use Rattle.cj_stream.specs.LineRows.{TabRow, HeaderRow};
 ghost use Rattle.cj_stream.specs.QueryRows.{IdRows, TypeRows, LodRows, InstanceRows, InBoxRows, OutOfBoxRows};
-ghost use Rattle.cj_stream.specs.QueryRows.{EachPartRows};
+ghost use Rattle.cj_stream.specs.QueryRows.{EachPartRows, ExtensionRows, NameRows, MemoryRows};
 ghost use Rattle.cj_stream.specs.Rows.{EmptyRow, WholeRow, BlankRow, OrderRow, BadRow, LongRow, TextRow, SyntaxRow};
 ghost use Rattle.cj_stream.specs.Rows.{DeepRow};
 
@@ -75,6 +75,9 @@ pub fn lines_compute()
 pub fn queries_compute()
     ensures ids { IdRows }
     ensures types { TypeRows }
+    ensures extensions { ExtensionRows }
+    ensures names { NameRows }
+    ensures memory { MemoryRows }
     ensures lods { LodRows }
     ensures instance { InstanceRows }
     ensures in_box { InBoxRows }

@@ -59,7 +59,7 @@ fn set_ids(query: &mut Query, ids: &[&str]) -> Result<(), QueryFault> {
 fn set_types(query: &mut Query, types: &[&str]) -> Result<(), QueryFault> {
     query.start_types();
     for name in types {
-        query.add_type(name)?;
+        query.add_type(name, false)?;
     }
     Ok(())
 }

@@ -62,6 +62,23 @@ fn a_query_by_types_and_lods(rt: HostRuntime) -> Result<(), Fail> {
     )
 }
 
+/// A city object of a type of an extension.
+const SHED: &[u8] =
+    b"{\"type\":\"CityJSONFeature\",\"id\":\"s\",\"CityObjects\":{\"s\":{\"type\":\"\\u002bShed\"}},\"vertices\":[]}";
+
+/// Checks whether a shed is kept if types of extensions are known.
+fn check_shed(rt: &impl Abort, alloc: Global, types: &str, is_kept: bool) -> Result<(), Fail> {
+    let words = ["filter", "--extensions", "--type", types];
+    check_kept(rt, alloc, &words, SHED, is_kept)
+}
+
+#[test]
+fn a_query_by_types_of_extensions(rt: HostRuntime) -> Result<(), Fail> {
+    check_shed(&rt, rt.alloc(), "+Shed", true)?;
+    check_shed(&rt, rt.alloc(), "Road,+Hut,+Shed", true)?;
+    check_shed(&rt, rt.alloc(), "Road,+Hut", false)
+}
+
 #[test]
 fn a_query_by_a_box(rt: HostRuntime) -> Result<(), Fail> {
     check_kept(
@@ -143,6 +160,12 @@ fn check_unasked(
 fn a_query_that_cannot_be_asked(rt: HostRuntime) -> Result<(), Fail> {
     let unknown = b"unknown object type\n";
     check_unasked(&rt, rt.alloc(), &["filter", "--type", "+Shed"], unknown)?;
+    check_unasked(
+        &rt,
+        rt.alloc(),
+        &["filter", "--extensions", "--type", "+Shed,Shed"],
+        unknown,
+    )?;
     check_unasked(&rt, rt.alloc(), &["filter", "--type", "Building,"], unknown)?;
     check_unasked(
         &rt,

@@ -18,11 +18,15 @@ pub record Box : Type 0 where
   pub max_x : ℤ
   pub max_y : ℤ
 
--- The parts that may be set: texts of ids, the types of city objects, texts of LoDs, and a box. The types are told by a
--- flag for each row of their table. Texts are in UTF-8.
+-- types of city objects: a flag for each row of their table, and the texts of types of extensions, which have no row
+pub record ChosenTypes : Type 0 where
+  pub known : List Bool
+  pub extensions : List (List ℕ)
+
+-- The parts that may be set: texts of ids, the types of city objects, texts of LoDs, and a box. Texts are in UTF-8.
 pub record Criteria : Type 0 where
   pub ids : Option (List (List ℕ))
-  pub types : Option (List Bool)
+  pub types : Option ChosenTypes
   pub lods : Option (List (List ℕ))
   pub box : Option Box
 
@@ -48,10 +52,14 @@ has_id ids t = there_is (is_one_of ids) (member_of (chars (codes "id")) t)
 abbrev pub objects_of : Tree → List (Tree × Tree)
 objects_of t = members_if (member_of (chars (codes "CityObjects")) t)
 
+-- the type of a city object is one of these: its row is flagged; or it has no row, and is one of the texts
+abbrev pub is_of_type : ChosenTypes → Tree → Bool
+is_of_type types o = option_map_or (λ (r : ObjectRow). get_or types.known r.number false) (type_row o)
+    (there_is (is_one_of types.extensions) (member_of (chars (codes "type")) o))
+
 -- the type of some city object is one of these
-abbrev pub has_type : List Bool → Tree → Bool
-has_type types t = list_any (λ m. there_is (λ (r : ObjectRow). get_or types r.number false) (type_row m.1))
-    (objects_of t)
+abbrev pub has_type : ChosenTypes → Tree → Bool
+has_type types t = list_any (λ m. is_of_type types m.1) (objects_of t)
 
 -- the LoD of some geometry is one of these; an instance has that of its template, which the header has
 abbrev pub has_lod : List (List ℕ) → Tree → Tree → Bool

@@ -1,16 +1,18 @@
 //! Whether a feature has one of some ids, types or LoDs.
-ghost use Rattle.std.specs.Prelude.{◌≡◌, false, get_or, map, option_map, string_bytes};
+ghost use Rattle.std.specs.Prelude.{◌≡◌, codes, map, option_map, string_bytes};
+ghost use Rattle.std.specs.Str.{chars};
+ghost use Rattle.cj_spans.specs.Meaning.Parts.{member_of};
 ghost use Rattle.cj_spans.specs.View.{tree};
-ghost use Rattle.cj_geometry.specs.Meaning.ObjectTypes.{ObjectRow};
-ghost use Rattle.cj_geometry.specs.ObjectTypes.{row_at};
 ghost use Rattle.cj_feature.specs.HeaderView.{header_tree};
 ghost use Rattle.cj_feature.specs.View.{feature_tree};
 ghost use Rattle.cj_stream.specs.Meaning.Criteria.{there_is, is_one_of as is_one, has_id as id_holds};
-ghost use Rattle.cj_stream.specs.Meaning.Criteria.{has_type as type_holds, has_lod as lod_holds};
+ghost use Rattle.cj_stream.specs.Meaning.Criteria.{is_of_type as is_of, has_type as type_holds, has_lod as lod_holds};
+ghost use Rattle.cj_stream.specs.Query.{types_of};
 
 use crate::query::ids::Ids;
-use cj_feature::{Feature, Header};
-use cj_geometry::{Lods, ObjectType, lod_of};
+use crate::query::types::Types;
+use cj_feature::{CityObject, Feature, Header};
+use cj_geometry::{Lods, lod_of};
 use cj_spans::Node;
 
 /// Returns whether the text of a node is one of these.
@@ -32,23 +34,38 @@ pub fn has_id(ids: &Ids, feature: &Feature) -> bool
     ids.has(feature.id())
 }
 
-/// Returns whether a type is one of these. No type of an extension is.
-#[inline(always)]
-fn is_one_type(types: &[bool; ObjectType::COUNT], object_type: Option<ObjectType>) -> bool
-    ensures { result ≡ there_is (λ (r : ObjectRow). get_or types.now r.number false) (option_map row_at object_type) }
+/// Returns whether the type of a city object is one of these texts.
+#[inline(never)]
+fn has_type_text(texts: &[String], object: Node) -> bool
+    ensures { result ≡ there_is (is_one (map string_bytes texts.now))
+        (member_of (chars (codes "type")) (tree object.entry)) }
 {
-    match object_type {
-        Some(object_type) => types[object_type.number() as usize],
+    match object.get("type") {
+        Some(name) => is_one_of(texts, name),
         None => false,
     }
 }
 
+/// Returns whether the type of a city object is one of these. A type with a row needs no look at
+/// texts, and without texts no type of an extension is looked at.
+#[inline(always)]
+fn is_of_type(types: &Types, object: CityObject) -> bool
+    ensures { result ≡ is_of (types_of types.now) (tree object.entry.node) }
+{
+    match object.object_type {
+        Some(object_type) => types.known[object_type.number() as usize],
+        None => {
+            !types.extensions.is_empty() && has_type_text(types.extensions.as_slice(), object.node)
+        }
+    }
+}
+
 /// Returns whether the type of some city object is one of these.
-pub fn has_type(types: &[bool; ObjectType::COUNT], feature: &Feature) -> bool
-    ensures { result ≡ type_holds types.now (feature_tree feature.now) }
+pub fn has_type(types: &Types, feature: &Feature) -> bool
+    ensures { result ≡ type_holds (types_of types.now) (feature_tree feature.now) }
 {
     for object in feature.objects() {
-        if is_one_type(types, object.object_type) {
+        if is_of_type(types, object) {
             return true;
         }
     }

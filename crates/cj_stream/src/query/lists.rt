@@ -1,10 +1,10 @@
 //! Sets a part of a query by a list: one text, with a separator between each two of its items. A
 //! text without a separator has one item, so the empty text has an empty one.
-ghost use Rattle.std.specs.Prelude.{◌≡◌, ◌<◌, Some, Ok, Err, IfErr, OnOk, OnErr, MatchOption};
-ghost use Rattle.cj_stream.specs.Adding.{flags_with, no_types, parted};
+ghost use Rattle.std.specs.Prelude.{◌≡◌, ◌<◌, Some, IfErr, OnOk, OnErr};
+ghost use Rattle.cj_stream.specs.Adding.{counted_memory, parted, setting_types, DeclinesTypes};
 ghost use Rattle.cj_stream.specs.Query.{criteria, failed_growths_of};
 ghost use Rattle.cj_stream.specs.Sink.{HasRisen, counted};
-ghost use Rattle.cj_stream.specs.declared.query.fault.QueryFault.TheVariants.{Memory, UnknownTypeName};
+ghost use Rattle.cj_stream.specs.declared.query.fault.QueryFault.TheVariants.{Memory};
 
 use super::{Query, QueryFault};
 
@@ -31,21 +31,32 @@ impl Query {
     }
 
     /// Sets the part on types to those whose names are the items of a list, in place of an earlier
-    /// part.
+    /// part. With `extensions`, each name that begins with `+` is that of a type, and only such
+    /// names need memory.
     ///
     /// # Errors
     ///
-    /// `UnknownTypeName` if an item is no type's name. Then the part has the types before that one.
-    pub fn set_types(&mut self, list: &str, separator: char) -> Result<(), QueryFault>
+    /// The part then has the types before the item with the fault.
+    ///
+    /// - `UnknownTypeName` if an item is no type's name.
+    /// - `Memory` if an allocation failed.
+    pub fn set_types(
+        &mut self,
+        list: &str,
+        separator: char,
+        extensions: bool,
+    ) -> Result<(), QueryFault>
         requires { separator < 128 }
-        ensures asks { MatchOption (flags_with (parted separator list.now) no_types)
-            (result ≡ Err UnknownTypeName)
-            (λ flags. (result ≡ Ok tt) × (criteria self.new ≡ record (criteria self.old) { types = Some flags })) }
-        ensures failed_growths { failed_growths_of self.new ≡ failed_growths_of self.old }
+        ensures ok { OnOk result
+            (setting_types extensions (parted separator list.now) (criteria self.old) ≡ Some (criteria self.new)) }
+        ensures declined { IfErr result (DeclinesTypes extensions (parted separator list.now)) }
+        ensures cause { IfErr result
+            (λ fault. fault ≡ Memory → HasRisen (failed_growths_of self.old) (failed_growths_of self.new)) }
+        ensures count { failed_growths_of self.new ≡ counted_memory (failed_growths_of self.old) result }
     {
         self.start_types();
         for name in list.split(separator) {
-            self.add_type(name)?;
+            self.add_type(name, extensions)?;
         }
         Ok(())
     }

@@ -1,5 +1,5 @@
 //! The parts of a query that are lists of texts.
-ghost use Rattle.std.specs.Prelude.{◌≡◌, ◌++◌, ◌∷◌, [], vec_items, string_bytes, IfOk, OnOk, OnErr};
+ghost use Rattle.std.specs.Prelude.{◌≡◌, ◌++◌, ◌∷◌, [], map, vec_items, string_bytes, IfOk, OnOk, OnErr};
 ghost use Rattle.cj_stream.specs.Adding.{with_text};
 ghost use Rattle.cj_stream.specs.Query.{texts_of};
 ghost use Rattle.cj_stream.specs.Sink.{HasRisen, counted};
@@ -23,17 +23,20 @@ pub fn own_text(
     Ok(own)
 }
 
-/// Adds a text at the end of a list. A failed growth changes nothing.
-fn push_text(
+/// Adds a copy of a text at the end of a list. A failed growth changes nothing.
+pub fn push_copy(
+    alloc: Global,
     texts: &mut Vec<String>,
-    text: String,
+    text: &str,
     failed_growths: &mut Refusals,
 ) -> Result<(), NoMemory>
-    ensures ok { OnOk result (vec_items texts.new ≡ vec_items texts.old ++ text ∷ []) }
+    ensures ok { OnOk result
+        (map string_bytes (vec_items texts.new) ≡ map string_bytes (vec_items texts.old) ++ text.now ∷ []) }
     ensures err { OnErr result (vec_items texts.new ≡ vec_items texts.old) }
     ensures cause { OnErr result (HasRisen failed_growths.old failed_growths.new) }
     ensures count { failed_growths.new ≡ counted failed_growths.old result }
 {
+    let text = own_text(alloc, text, failed_growths)?;
     failed_growths.note(texts.push(text))
 }
 
@@ -50,12 +53,11 @@ pub fn add_text(
     ensures cause { OnErr result (HasRisen failed_growths.old failed_growths.new) }
     ensures count { failed_growths.new ≡ counted failed_growths.old result }
 {
-    let text = own_text(alloc, text, failed_growths)?;
     match part {
-        Some(texts) => push_text(texts, text, failed_growths),
+        Some(texts) => push_copy(alloc, texts, text, failed_growths),
         None => {
             let mut texts = Vec::new(alloc);
-            push_text(&mut texts, text, failed_growths)?;
+            push_copy(alloc, &mut texts, text, failed_growths)?;
             *part = Some(texts);
             Ok(())
         }

@@ -307,6 +307,45 @@ fn not_reached_beside_other_faults(rt: HostRuntime) -> Result<(), Fail> {
     Ok(())
 }
 
+// ---- types of extensions
+
+/// City objects, a query where types of extensions are known, and whether the feature is kept.
+const EXTENSIONS: &str = r#"
+"b":{"type":"+Shed"}|extensions type=+Shed|kept
+"b":{"type":"+Shed"}|extensions types=Road,+Shed|kept
+"b":{"type":"\u002bShed"}|extensions type=+Shed|kept
+"b":{"type":"+\u0053hed"}|extensions type=+Hut type=+Shed|kept
+"b":{"type":"Building"},"c":{"type":"+Shed"}|extensions type=Tunnel type=+Shed|kept
+"b":{"type":"+Shed"},"c":{"type":"Road"}|extensions type=Road type=+Hut|kept
+"b":{"type":"+Shed"},"c":{"type":"Road"}|extensions type=Road|kept
+"b":{"type":"+Shed"}|extensions type=+She|left out
+"b":{"type":"+Shed"}|extensions type=+shed|left out
+"b":{"type":"+Shed"}|extensions type=+Hut|left out
+"b":{"type":"+Shed"}|extensions type=Building|left out
+"b":{"type":"+Shed"}|extensions type|left out
+"b":{"type":"+Shed"}|extensions type=+Shed types=Building|left out
+"b":{"type":"Building"}|extensions type=+Building|left out
+"#;
+
+/// Checks whether a feature with these city objects is kept.
+fn check_extension(rt: &impl Abort, alloc: Global, row: &str) -> Result<(), Fail> {
+    let (objects, row) = cell(rt, row);
+    let (asked, answer) = cell(rt, row);
+    let text = joined(alloc, &[FIRST, FRONT, objects.as_bytes(), BACK, b"\n"])?;
+    let query = query_of(rt, alloc, asked)?;
+    let came = came_of(alloc, &text, 100, &query, options_of(asked))?;
+    let wanted = one_of(&text, "complete", answer == "kept");
+    check_went(rt, alloc, &came, &wanted, asked)
+}
+
+#[test]
+fn by_types_of_extensions(rt: HostRuntime) -> Result<(), Fail> {
+    for row in EXTENSIONS.trim().lines() {
+        check_extension(&rt, rt.alloc(), row)?;
+    }
+    Ok(())
+}
+
 // ---- exclusion
 
 /// The usual feature, a road away from it, the small one without vertices, and one of several city

@@ -380,7 +380,7 @@ fn check_query(rt: &impl Abort, alloc: Global, query: &Query, keeps: bool, row: 
 /// Does to a query what the words say, and checks whether the usual feature is kept then.
 fn check_step(rt: &impl Abort, alloc: Global, query: &mut Query, words: &str, keeps: bool) {
     for word in words.split(' ') {
-        check_fault(rt, ask(rt, query, word), Ok(()), word);
+        check_fault(rt, ask(rt, query, word, false), Ok(()), word);
     }
     check_query(rt, alloc, query, keeps, words);
 }
@@ -391,9 +391,23 @@ fn an_unknown_type(rt: HostRuntime) {
     let mut query = Query::all(rt.alloc());
     check_step(&rt, rt.alloc(), &mut query, "type=Building", true);
     let unknown = Err(QueryFault::UnknownTypeName);
-    check_fault(&rt, query.add_type("+Shed"), unknown, "+Shed");
+    check_fault(&rt, query.add_type("+Shed", false), unknown, "+Shed");
     check_query(&rt, rt.alloc(), &query, true, "after +Shed");
+    check_fault(&rt, query.add_type("Shed+", true), unknown, "Shed+");
+    check_query(&rt, rt.alloc(), &query, true, "after Shed+");
     check_step(&rt, rt.alloc(), &mut query, "type", false);
+}
+
+/// A list with a type of an extension is an error unless such types are known.
+#[test]
+fn a_type_of_an_extension_in_a_list(rt: HostRuntime) {
+    let mut query = Query::all(rt.alloc());
+    let list = "+Shed,Building";
+    let unknown = Err(QueryFault::UnknownTypeName);
+    check_fault(&rt, query.set_types(list, ',', false), unknown, list);
+    check_query(&rt, rt.alloc(), &query, false, "unknown");
+    check_fault(&rt, query.set_types(list, ',', true), Ok(()), list);
+    check_query(&rt, rt.alloc(), &query, true, "known");
 }
 
 /// An unknown type in a list is an error, and the types after it are not set.
@@ -403,7 +417,7 @@ fn an_unknown_type_in_a_list(rt: HostRuntime) {
     let unknown = Err(QueryFault::UnknownTypeName);
     check_fault(
         &rt,
-        query.set_types("Bridge,Shed,Building", ','),
+        query.set_types("Bridge,Shed,Building", ',', true),
         unknown,
         "Shed",
     );

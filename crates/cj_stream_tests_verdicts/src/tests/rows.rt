@@ -114,14 +114,20 @@ pub fn options_of(cell: &str) -> Options {
 // ---- queries
 
 /// Adds a text to a part of a query, or sets the part to a list of texts.
-fn add_to(rt: &impl Abort, query: &mut Query, part: &str, text: &str) -> Result<(), QueryFault> {
+fn add_to(
+    rt: &impl Abort,
+    query: &mut Query,
+    part: &str,
+    text: &str,
+    extensions: bool,
+) -> Result<(), QueryFault> {
     match part {
         "id" => query.add_id(text),
-        "type" => query.add_type(text),
+        "type" => query.add_type(text, extensions),
         "lod" => query.add_lod(text),
         "bbox" => query.bbox(text),
         "ids" => query.set_ids(text, ','),
-        "types" => query.set_types(text, ','),
+        "types" => query.set_types(text, ',', extensions),
         "lods" => query.set_lods(text, ','),
         "ids;" => query.set_ids(text, ';'),
         _ => panic!(rt; "no part {part}"),
@@ -139,10 +145,15 @@ fn start(rt: &impl Abort, query: &mut Query, word: &str) {
     }
 }
 
-/// Does to a query what a word says.
-pub fn ask(rt: &impl Abort, query: &mut Query, word: &str) -> Result<(), QueryFault> {
+/// Does to a query what a word says. Types of extensions are known, or they are not.
+pub fn ask(
+    rt: &impl Abort,
+    query: &mut Query,
+    word: &str,
+    extensions: bool,
+) -> Result<(), QueryFault> {
     match word.split_once('=') {
-        Some((part, text)) => add_to(rt, query, part, text),
+        Some((part, text)) => add_to(rt, query, part, text, extensions),
         None => {
             start(rt, query, word);
             Ok(())
@@ -153,8 +164,9 @@ pub fn ask(rt: &impl Abort, query: &mut Query, word: &str) -> Result<(), QueryFa
 /// Returns the query of a cell.
 pub fn query_of(rt: &impl Abort, alloc: Global, cell: &str) -> Result<Query, QueryFault> {
     let mut query = Query::all(alloc);
+    let extensions = options_of(cell).knows_extensions();
     for word in cell.split(' ') {
-        ask(rt, &mut query, word)?;
+        ask(rt, &mut query, word, extensions)?;
     }
     Ok(query)
 }

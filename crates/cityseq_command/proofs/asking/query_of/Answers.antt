@@ -2,7 +2,8 @@ use Rattle.std.proofs.Common.{◌≡◌, ◌∙◌, ℕ, List, Bool, true, false
 use Rattle.std.specs.Prelude.{if◌then◌else◌, MatchOption, MatchResult, option_map}
 use Rattle.std.specs.List.{list_all}
 use Rattle.std.proofs.lemmas.Result.{err_from_is_err_and}
-use Rattle.cj_stream.specs.Meaning.Criteria.{Criteria, Box}
+use Rattle.cj_stream.specs.Meaning.Criteria.{Criteria, ChosenTypes, Box}
+use Rattle.cj_stream.specs.Adding.{no_types, with_types, DeclinesTypes}
 use Rattle.cj_stream.specs.Usual.{everything}
 use Rattle.cj_stream.specs.BoxText.{fields, is_edge, box_between, is_empty, are_four_numbers, box_text}
 use Rattle.cj_stream.specs.Query.{criteria}
@@ -12,27 +13,22 @@ use Rattle.cityseq_command.specs.Options.{Texts, types_or_fault, types_wanted, b
 use Rattle.cityseq_command.proofs.asking.query_of.Goals.{in-Some+in_ok-set_ids, in_default, in-Some-types+in_ok-set_types, in_default-types, in-Some-lods+in_ok-set_lods, in_default-lods, in-Some-bbox+in_ok-bbox, in_default-bbox}
 use Rattle.cityseq_command.proofs.asking.query_of.Goals as goal
 
--- what `set_types` and `bbox` answer, with the criteria before and after
+-- what `bbox` and `set_types` answer, with the criteria before and after
 module _ (r : Result (Unit {0}) QueryFault) (old new : Criteria) where
-  abbrev SetsTypes : Option (List Bool) → Type 0
-  SetsTypes flags =
-      MatchOption flags (r ≡ Err UnknownTypeName) (λ flags. (r ≡ Ok tt) × (new ≡ record old { types = Some flags }))
-
   abbrev SetsBox : Result Box QueryFault → Type 0
   SetsBox box =
       MatchResult box (λ box. (r ≡ Ok tt) × (new ≡ record old { box = Some box }))
       (λ fault. (r ≡ Err fault) × (new ≡ old))
 
-  types-set : (flags : Option (List Bool)) → SetsTypes flags → r ≡ Ok tt → (types_or_fault flags ≡ Ok new.types)
-      × (new ≡ record old { types = new.types })
-  types-set None h ok = absurd (cc (h, ok))
-  types-set (Some flags) h ok =
-      (ap (λ a. Ok a.types) (sym h.1), h.1 ∙ ap (λ types. record old { types = types }) (sym (ap (λ a. a.types) h.1)))
-
-  types-declined : (fault : QueryFault) (flags : Option (List Bool)) → SetsTypes flags → r ≡ Err fault
-      → (fault ≡ UnknownTypeName) × (flags ≡ None)
-  types-declined fault None h err = (cc (h, err), refl)
-  types-declined fault (Some flags) h err = absurd (cc (h.0, err))
+  types-set : (types : Option ChosenTypes)
+      → option_map (λ (types : ChosenTypes). record old { types = Some types }) types ≡ Some new
+      → (types_or_fault types ≡ Ok new.types) × (new ≡ record old { types = new.types })
+  types-set None h = absurd (cc h)
+  types-set (Some types) h =
+      let is : record old { types = Some types } ≡ new = cc h in (
+        ap (λ (a : Criteria). Ok a.types) is,
+        sym is ∙ ap (λ (a : Criteria). record old { types = a.types }) is,
+      )
 
   box-set : (box : Result Box QueryFault) → SetsBox box → r ≡ Ok tt → (box_or_fault box ≡ Ok new.box)
       × (new ≡ record old { box = new.box })
@@ -71,12 +67,12 @@ returns-clause-ok c =
           rw (w.query-is, w.in_ok-set_ids.ensures.ok, c.all-query.ensures.all, w.in-Some.is) refl
       | in_default w ↦ rw (w.query-is, c.all-query.ensures.all, w.in_default.is) refl
     ] in
-    let types : (types_wanted texts.types ≡ Ok second.types) × (second ≡ record first { types = second.types }) =
+    let types : (types_wanted c.args.extensions texts.types ≡ Ok second.types)
+    × (second ≡ record first { types = second.types }) =
     elim c.match-texts-2.branch [
       | in-Some-types+in_ok-set_types w ↦
           rw (w.query-is, w.in-Some-types.is)
-          (types-set w.set_types.result first (criteria w.set_types.new.self) _ w.set_types.ensures.asks
-          w.in_ok-set_types.was)
+          (types-set w.set_types.result first (criteria w.set_types.new.self) _ w.in_ok-set_types.ensures.ok)
       | in_default-types w ↦ rw (w.query-is, w.in_default-types.is, ids) (refl, refl)
     ] in
     let lods : third ≡ record second { lods = option_map fields texts.lods } =
@@ -94,12 +90,22 @@ returns-clause-ok c =
     rw (types.0, box.0, box.1, lods, types.1, ids) refl
 
 -- a fault that is no want of memory is that of the texts
-declined : (t : Texts) (fault : QueryFault) → criteria_by t ≡ Err fault → (fault ≡ Memory → ⊥) → DeclinesTexts t fault
-declined t Memory asks other = absurd (other refl)
-declined t UnknownTypeName asks other = asks
-declined t BadBox asks other = asks
-declined t BoxRange asks other = asks
-declined t EmptyBox asks other = asks
+declined : (e : Bool) (t : Texts) (fault : QueryFault) → criteria_by e t ≡ Err fault → (fault ≡ Memory → ⊥)
+    → DeclinesTexts e t fault
+declined e t Memory asks other = absurd (other refl)
+declined e t UnknownTypeName asks other = asks
+declined e t BadBox asks other = asks
+declined e t BoxRange asks other = asks
+declined e t EmptyBox asks other = asks
+
+-- a fault of the names of types is one of the texts
+types-decline : (e : Bool) (t : Texts) (text : List ℕ) → t.types ≡ Some text → (fault : QueryFault)
+    → DeclinesTypes e (fields text) fault → DeclinesTexts e t fault
+types-decline e t text is Memory h = inr (inl (rw is h))
+types-decline e t text is UnknownTypeName h = rw (is, h) refl
+types-decline e t text is BadBox h = absurd h
+types-decline e t text is BoxRange h = absurd h
+types-decline e t text is EmptyBox h = absurd h
 
 pub returns-in_err-set_ids-clause-err : goal.returns-in_err-set_ids-clause-err
 returns-in_err-set_ids-clause-err c =
@@ -112,10 +118,9 @@ returns-in_err-set_types-clause-err c =
     let texts = texts_of c.args.texts.now in
     let returned =
     err_from_is_err_and c.from_residual-in_err-set_types.result c.from_residual-in_err-set_types.ensures.1 in
-    let types =
-    types-declined c.set_types.result (criteria c.match-texts.query) (criteria c.set_types.new.self)
-    c.in_err-set_types.field-0.0 _ c.set_types.ensures.asks c.in_err-set_types.was in
-    rw (returned.1, returned.2, types.0) (rw (c.in-Some-types.is, types.1) refl)
+    rw (returned.1, returned.2)
+    (types-decline c.args.extensions texts c.in-Some-types.types.now (rw c.in-Some-types.is refl)
+    c.in_err-set_types.field-0.0 c.in_err-set_types.ensures.declined)
 
 pub returns-in_err-set_lods-clause-err : goal.returns-in_err-set_lods-clause-err
 returns-in_err-set_lods-clause-err c =
@@ -123,35 +128,35 @@ returns-in_err-set_lods-clause-err c =
     let returned =
     err_from_is_err_and c.from_residual-in_err-set_lods.result c.from_residual-in_err-set_lods.ensures.1 in
     let memory : c.in_err-set_lods.field-0.0 ≡ Memory = c.in_err-set_lods.ensures.memory in
-    let types : (flags : Option (List Bool)) × (types_wanted texts.types ≡ Ok flags) =
+    let types : (found : Option ChosenTypes) × (types_wanted c.args.extensions texts.types ≡ Ok found) =
     elim c.match-texts-2.branch [
       | in-Some-types+in_ok-set_types w ↦
           rw w.in-Some-types.is (
             _,
             (types-set w.set_types.result (criteria c.match-texts.query) (criteria w.set_types.new.self) _
-                w.set_types.ensures.asks w.in_ok-set_types.was).0,
+                w.in_ok-set_types.ensures.ok).0,
           )
       | in_default-types w ↦ rw w.in_default-types.is (None, refl)
     ] in
-    rw (returned.1, returned.2, memory) (inr (rw c.in-Some-lods.is refl, rw types.1 refl))
+    rw (returned.1, returned.2, memory) (inr (inr (rw c.in-Some-lods.is refl, rw types.1 refl)))
 
 pub returns-in_err-bbox-clause-err : goal.returns-in_err-bbox-clause-err
 returns-in_err-bbox-clause-err c =
     let texts = texts_of c.args.texts.now in
-    let types : (flags : Option (List Bool)) × (types_wanted texts.types ≡ Ok flags) =
+    let types : (found : Option ChosenTypes) × (types_wanted c.args.extensions texts.types ≡ Ok found) =
     elim c.match-texts-2.branch [
       | in-Some-types+in_ok-set_types w ↦
           rw w.in-Some-types.is (
             _,
             (types-set w.set_types.result (criteria c.match-texts.query) (criteria w.set_types.new.self) _
-                w.set_types.ensures.asks w.in_ok-set_types.was).0,
+                w.in_ok-set_types.ensures.ok).0,
           )
       | in_default-types w ↦ rw w.in_default-types.is (None, refl)
     ] in
     let fault = c.in_err-bbox.field-0.0 in
     let box = box-declined c.bbox.result (criteria c.match-texts-3.query) (criteria c.bbox.new.self) fault
     (box_text c.in-Some-bbox.bbox.now) c.bbox.ensures.asks c.in_err-bbox.was in
-    let asks : criteria_by texts ≡ Err fault = rw (types.1, c.in-Some-bbox.is, box) refl in
+    let asks : criteria_by c.args.extensions texts ≡ Err fault = rw (types.1, c.in-Some-bbox.is, box) refl in
     let returned = err_from_is_err_and c.from_residual-in_err-bbox.result c.from_residual-in_err-bbox.ensures.1 in
     rw (returned.1, returned.2)
-    (declined texts fault asks (λ same. box-takes-none c.in-Some-bbox.bbox.now (box ∙ ap Err same)))
+    (declined c.args.extensions texts fault asks (λ same. box-takes-none c.in-Some-bbox.bbox.now (box ∙ ap Err same)))

@@ -9,6 +9,7 @@ returns c = record {
   ids = (refl, refl);
   lods = refl;
   types = (refl, refl, refl);
+  extensions = (refl, refl, refl, refl, refl);
   a_box = rw c.boxes_compute.ensures.empty refl;
   order = (refl, refl);
   all = rw c.boxes_compute.ensures.a_box refl;

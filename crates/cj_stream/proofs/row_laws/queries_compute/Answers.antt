@@ -1,4 +1,4 @@
-use Rattle.cj_stream.proofs.QueryRowLemmas.{ids, types, lods, instance, within, outside, each}
+use Rattle.cj_stream.proofs.QueryRowLemmas.{ids, types, extensions, names, memory, lods, instance, within, outside, each}
 use Rattle.cj_stream.proofs.row_laws.queries_compute.Goals as goal
 
 pub returns : goal.returns
@@ -6,6 +6,9 @@ returns c =
     record {
       ids = ids;
       types = types;
+      extensions = extensions;
+      names = names;
+      memory = memory;
       lods = lods;
       instance = instance;
       in_box = within;

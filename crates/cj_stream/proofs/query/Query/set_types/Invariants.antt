@@ -1,6 +1,6 @@
-use Rattle.std.proofs.Common.{◌≡◌, Some, length, drop}
+use Rattle.std.proofs.Common.{◌≡◌, true, Some, length, drop}
 use Rattle.std.specs.Prelude.{unwrap_or}
-use Rattle.cj_stream.specs.Adding.{flags_with, no_types, parted}
+use Rattle.cj_stream.specs.Adding.{has_extension, no_types, parted, with_types}
 use Rattle.cj_stream.specs.Query.{criteria, failed_growths_of}
 use Rattle.cj_stream.proofs.query.Query.set_types.Given as goal
 
@@ -10,7 +10,9 @@ invariant-loop-name l =
       set : criteria l.self ≡ record (criteria l.fn.self)
           { types = Some (unwrap_or (criteria l.self).types no_types) };
       growths : failed_growths_of l.self ≡ failed_growths_of l.fn.self;
-      left : flags_with (drop (length l.yielded) (parted l.fn.separator l.list))
+      left : with_types l.extensions (drop (length l.yielded) (parted l.fn.separator l.list))
           (unwrap_or (criteria l.self).types no_types)
-          ≡ flags_with (parted l.fn.separator l.list) no_types;
+          ≡ with_types l.extensions (parted l.fn.separator l.list) no_types;
+      more : has_extension l.extensions (drop (length l.yielded) (parted l.fn.separator l.list)) ≡ true
+          → has_extension l.extensions (parted l.fn.separator l.list) ≡ true;
     }
