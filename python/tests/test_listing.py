@@ -101,6 +101,22 @@ class Table(unittest.TestCase):
         self.assertEqual((row["id"], row["line"], row["types"]), ("house-1", 2, ("Building",)))
         self.assertEqual((row["xmin"], row["xmax"]), (1000.0, 1001.0))
 
+    def test_ids_are_read_as_json(self):
+        """Of one length and place, or of several."""
+        for names in (
+            ("a", "b"),
+            ("a", "bcd"),
+            ("\u00e9", "ab"),
+            ("\\u0061", "bcdefg"),
+            ("a",),
+            (),
+        ):
+            for space in (b"", b" "):
+                lines = [feature(name) for name in names]
+                lines[:1] = [line.replace(b'"id":', b'"id":' + space) for line in lines[:1]]
+                wanted = [json.loads(line)["id"] for line in lines]
+                self.assertEqual(cityseq.table(HEADER + b"".join(lines))["id"], wanted)
+
     def test_no_vertex_is_no_number(self):
         columns = cityseq.table(HEADER + PLAIN)
         self.assertTrue(math.isnan(columns["xmin"][0]))

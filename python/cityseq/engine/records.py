@@ -160,9 +160,10 @@ def unescaped(spelling: bytes) -> str:
 def all_unescaped(spellings: list[bytes]) -> list[str]:
     """Returns the texts of JSON strings, from their spellings without quotes. Each is valid, so
     none has an LF."""
-    if not spellings or b"\\" in b"".join(spellings):
+    together = b"\n".join(spellings)
+    if not spellings or b"\\" in together:
         return list(map(unescaped, spellings))
-    return b"\n".join(spellings).decode("utf-8").split("\n")
+    return together.decode("utf-8").split("\n")
 
 
 def stored_as_spelled(spelling: bytes) -> Id:
@@ -192,11 +193,15 @@ def cut_fast(part: Text, raw: bytes) -> Text:
 def spelled_ids(part: Text, raw: bytes) -> list[bytes]:
     """Returns the ids of the features of a part, as the JSON strings spell them, without quotes."""
     numbers = memoryview(raw).cast("q")
-    places = (numbers[member::MEMBERS].tolist() for member in (1, 3, 4))
+    lines, begins, lengths = (numbers[member::MEMBERS].tolist() for member in (1, 3, 4))
     text = cut_fast(part, raw)
-    ids = [
-        text[line + begin + 1 : line + begin + length - 1] for line, begin, length in zip(*places)
-    ]
+    if lines and begins.count(begins[0]) == lengths.count(lengths[0]) == len(lines):
+        # this takes a third less time
+        first, last = begins[0] + 1, begins[0] + lengths[0] - 1
+        ids = [text[line + first : line + last] for line in lines]
+    else:
+        places = zip(lines, begins, lengths)
+        ids = [text[line + begin + 1 : line + begin + length - 1] for line, begin, length in places]
     return ids if isinstance(text, bytes) else list(map(bytes, ids))
 
 
