@@ -65,7 +65,7 @@ def _of_names(work: Work) -> Terms:
     sql, given = work.where or ("", ())
     conditions: list[str] = [f"({sql})"] if sql else []
     values: list[Any] = list(given)
-    for column, names in (("types", _noted(work)), ("lods", _classes(work.lods))):
+    for column, names in (("types", _noted(work.types)), ("lods", _classes(work.lods))):
         if names is not None:
             each = set(names.decode("utf-8").split("\n"))
             parts = [f"instr(',' || {column} || ',', ?)"] * len(each)
@@ -74,11 +74,9 @@ def _of_names(work: Work) -> Terms:
     return conditions, values
 
 
-def _noted(work: Work) -> bytes | None:
+def _noted(types: bytes | None) -> bytes | None:
     """Returns the types of a query, one a line. An index has one name for all of extensions."""
-    if work.types is None or not work.asks_extensions:
-        return work.types
-    return re.sub(rb"(?m)^\+.*", library().count_names()[-1].encode("ascii"), work.types)
+    return types and re.sub(rb"(?m)^\+.*", library().count_names()[-1].encode("ascii"), types)
 
 
 def _classes(lods: bytes | None) -> bytes | None:

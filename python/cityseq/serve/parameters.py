@@ -88,10 +88,7 @@ QUERY = (
     Parameter("exclude", "Keep the features that the query does not select.", FLAG),
     Parameter("id", "Keep features with one of these ids.", TEXTS),
     Parameter(
-        "type",
-        "Keep features with a city object of one of these types. With extensions one may begin with"
-        " `+`, which a URL spells as %2B.",
-        TEXTS,
+        "type", "Keep features with a city object of one of these types; in a URL + is %2B.", TEXTS
     ),
     Parameter("lod", "Keep features with a geometry of one of these LoDs.", TEXTS),
     Parameter(
@@ -121,10 +118,7 @@ SELECTION = (
     ),
     Parameter("ids", "Features with one of these ids.", TEXTS),
     Parameter(
-        "type",
-        "Features with a city object of one of these types. Those of extensions begin with `+`,"
-        " which a URL spells as %2B.",
-        TEXTS,
+        "type", "Features with a city object of one of these types; in a URL + is %2B.", TEXTS
     ),
     Parameter("lod", "Features with a geometry of one of these LoDs.", TEXTS),
     Parameter(
