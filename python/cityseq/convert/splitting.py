@@ -6,19 +6,18 @@ from their spans. So one city object is decoded at a time. The memory has the te
 each vertex, and 17 bytes for each city object."""
 from __future__ import annotations
 
-import io
 import json
 import re
 from array import array
 from bisect import bisect_left
-from collections.abc import Callable, Iterator
+from collections.abc import Callable, Generator, Iterator
 from dataclasses import dataclass
 from functools import partial
 from itertools import islice
 from typing import Any
 
 from ..engine import LINE_LIMITS, USUAL_LINE, InvalidStream, library
-from ..sources import Source, name_of, refuse_same
+from ..sources import Source, TextsFile, name_of, refuse_same
 from ..sources.outputs import Target, Writer
 from . import (
     NAME,
@@ -447,40 +446,12 @@ def _too_long(document: Document, length: int, limit: int) -> InvalidStream:
     return document.spans.fault(document.path_of_line(number), what)
 
 
-class WholeFile(io.RawIOBase):
-    """The stream of a whole file, which is split at the first read.
+def split_file(source: Source) -> TextsFile:
+    """Returns the stream of a whole file. A read raises `InvalidStream` if the file cannot be
+    split, and `ReadFault` if it cannot be read."""
+    return TextsFile(name_of(source), _texts(source))
 
-    Attributes:
-        name: The name of the file.
-    """
 
-    def __init__(self, source: Source) -> None:
-        super().__init__()
-        self.name = name_of(source)
-        self._texts = self._split(source)
-        self._rest = bytearray()
-
-    @staticmethod
-    def _split(source: Source) -> Iterator[bytes]:
-        for some in _together(Document.of(source)):
-            yield "\n".join([*some, ""]).encode("latin-1")
-
-    def readable(self) -> bool:
-        return True
-
-    def read(self, most: int = -1) -> bytes:
-        """Returns at most `most` bytes of the stream, and none at its end.
-
-        Raises:
-            InvalidStream: The file cannot be split.
-            ReadFault: It cannot be read.
-        """
-        while most < 0 or len(self._rest) < most:
-            text = next(self._texts, None)
-            if text is None:
-                break
-            self._rest += text
-        end = len(self._rest) if most < 0 else most
-        piece = bytes(self._rest[:end])
-        del self._rest[:end]
-        return piece
+def _texts(source: Source) -> Generator[bytes, None, None]:
+    for some in _together(Document.of(source)):
+        yield "\n".join([*some, ""]).encode("latin-1")

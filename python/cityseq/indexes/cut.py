@@ -1,45 +1,23 @@
 """Cuts by an index: reads the selected lines, judges them again, and writes the kept ones."""
 from __future__ import annotations
 
-import io
-from collections.abc import Callable, Iterable, Iterator
-from contextlib import closing
+from collections.abc import Callable, Generator, Iterable, Iterator
 from dataclasses import dataclass, replace
 from itertools import chain
 from typing import TYPE_CHECKING, Any
 
-from ..engine import OutOfDate, RequestError, Status, write_fault
+from ..engine import OutOfDate, RequestError, Status
 from ..engine.judge import Work
 from ..run import Result
 from ..run.streams import Stream, results
-from ..sources import PIECE, is_path
-from ..sources.outputs import Batch, Limit, Target, Writer
+from ..sources import TextsFile, is_path
+from ..sources.outputs import Batch, Limit, Target, Whole, Writer
 from .line_reader import OTHER_LINES, IndexedStream, Row, header_of, lines_of, placed
 
 if TYPE_CHECKING:
     from .lookup import Index
 
-HELD = 16 << 20  # bytes of an output that wait in memory until it is whole; more wait on a disk
 Selections = Iterable[tuple[IndexedStream, Iterator[Row]]]
-
-
-class _Lines(io.RawIOBase):
-    """A file object with the header and the selected lines of streams with the same header."""
-
-    def __init__(self, name: str, texts: Iterator[bytes]) -> None:
-        super().__init__()
-        self.name, self._texts, self._rest = name, texts, b""
-
-    def readable(self) -> bool:
-        return True
-
-    def read(self, most: int = -1) -> bytes:
-        """Returns at most `most` bytes, and none at the end."""
-        if not self._rest:
-            self._rest = next(self._texts, b"")
-        piece = self._rest if most < 0 else self._rest[:most]
-        self._rest = self._rest[len(piece) :]
-        return piece
 
 
 def _needed(selections: Selections) -> Selections:
@@ -77,33 +55,14 @@ class _Cut:
     def written(self, name: str, selections: Selections, writer: Writer) -> Result:
         """Judges the selected lines again, and writes those that are kept."""
         writer.limit = self.limit
-        with closing(self._texts(selections)) as texts:  # type: ignore[type-var]
-            source: Any = _Lines(name, texts)
+        source: Any = TextsFile(name, self._texts(selections))
+        with source:
             (result,) = results([Stream(source, self.work, output=writer)], self.jobs)
         if result.end is not None and result.end.line > 1 and result.fault is None:
             raise OutOfDate.because(OTHER_LINES, name)
         return result.raised_if_invalid(False)
 
-    def written_whole(self, name: str, selections: Selections, output: Target) -> Result:
-        """Does the same for a target that is not a path. It gets the output only when that is
-        whole."""
-        import tempfile  # a cut to a path does not need it
-
-        target = self.writer(output)
-        try:
-            with tempfile.SpooledTemporaryFile(HELD) as spool:
-                result = self.written(name, selections, Writer(spool))
-                spool.seek(0)
-                for piece in iter(lambda: spool.read(PIECE), b""):
-                    target.write(piece)
-        except OSError as fault:
-            if hasattr(fault, "words"):
-                raise
-            raise write_fault(fault, target.name) from fault
-        target.close(True)
-        return result
-
-    def _texts(self, selections: Selections) -> Iterator[bytes]:
+    def _texts(self, selections: Selections) -> Generator[bytes, None, None]:
         """Yields the header, and then the selected lines of each stream. On a web server it reads
         only streams that have such lines, and for the header one stream if none has.
 
@@ -174,7 +133,13 @@ def cut(
     name, selections = streams[0].path, index.selections(work)
     if is_path(output):
         return _counted(made.written(name, selections, writer(output)), streams)
-    return _counted(made.written_whole(name, selections, output), streams)
+    target: Any = Whole(writer(output))  # which gets the output only when that is whole
+    try:
+        result = made.written(name, selections, Writer(target))
+        target.close()
+    finally:
+        target.discard()
+    return _counted(result, streams)
 
 
 def cut_each(

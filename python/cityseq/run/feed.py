@@ -185,9 +185,9 @@ class Fed:
 
     def _of_whole(self, whole: bytes) -> Iterator[Task]:
         """Yields calls that judge the stream of a whole file."""
-        from ..convert.splitting import WholeFile  # few bodies need it
+        from ..convert.splitting import split_file  # few bodies need it
 
-        file = WholeFile(whole)
+        file = split_file(whole)
         try:
             while piece := file.read(SMALL):
                 yield from self._tasks(self._cutter.feed(piece))

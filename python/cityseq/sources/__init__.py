@@ -6,10 +6,11 @@ import contextlib
 import io
 import mmap
 import os
+import re
 import select
 import stat
 import sys
-from collections.abc import Iterable, Iterator
+from collections.abc import Generator, Iterable, Iterator
 from typing import IO, TYPE_CHECKING, Any, Protocol, Union
 
 from ..engine import READ_FAULTS, CityseqError, InvalidStream, ReadFault, RequestError, read_fault
@@ -32,6 +33,7 @@ CHANGED = "changed while it was read"
 PIECE = 1 << 20  # the most bytes of one read
 IDLE = 50  # milliseconds to wait for more bytes before those that are there are judged
 UNFINISHED = ".part"  # the end of a file's name until it is whole
+SCHEME = re.compile(r"[A-Za-z][A-Za-z0-9+.:-]*://")  # or several, as simplecache::s3://
 LONGEST_PATH = 4_096  # bytes: a longer text is no path
 
 
@@ -43,11 +45,7 @@ def is_path(source: Any) -> bool:
 
 def is_url(source: Any) -> bool:
     """Whether a source is a URL that `fsspec` reads, such as s3://bucket/town.city.jsonl."""
-    if not isinstance(source, str) or "://" not in source:
-        return False
-    scheme = source.partition("://")[0]
-    signs = scheme.replace("+", "").replace("-", "").replace(".", "").replace(":", "")
-    return scheme[:1].isalpha() and signs.isascii() and signs.isalnum()
+    return isinstance(source, str) and SCHEME.match(source) is not None
 
 
 def remote_of(file: Any) -> RemoteFile | None:
@@ -169,6 +167,33 @@ class Reader:
         return self._piece(most)
 
 
+class TextsFile(io.RawIOBase):
+    """A file object over texts that are made when it is read. To close it closes what makes them.
+
+    Attributes:
+        name: The name of the source.
+    """
+
+    def __init__(self, name: str, texts: Generator[bytes, None, None]) -> None:
+        super().__init__()
+        self.name, self._texts, self._rest = name, texts, b""
+
+    def readable(self) -> bool:
+        return True
+
+    def close(self) -> None:
+        self._texts.close()
+        super().close()
+
+    def read(self, most: int = -1) -> bytes:
+        """Returns at most `most` bytes, and none at the end."""
+        while not self._rest and (text := next(self._texts, None)) is not None:
+            self._rest = text
+        piece = self._rest if most < 0 else self._rest[:most]
+        self._rest = self._rest[len(piece) :]
+        return piece
+
+
 def open_raw(path: str) -> Any:
     """Returns the file object of a path or of a URL, which gives the bytes as they are."""
     if not is_url(path):
@@ -183,10 +208,10 @@ def _raw_or_parts(path: str) -> Any:
     try:
         return open_raw(path)
     except IsADirectoryError as fault:
-        from .parts import PartsReader  # few runs need it
+        from .parts import open_parts  # few runs need it
 
         try:
-            return PartsReader(path)
+            return open_parts(path)
         except FileNotFoundError:
             raise fault from None
 
@@ -334,9 +359,9 @@ def stream_of(source: Source, whole: bool | None) -> Any:
     """Returns the stream of a source: that of a whole file, or the source itself."""
     if not is_whole(source, whole):
         return source
-    from ..convert.splitting import WholeFile  # few runs need it
+    from ..convert.splitting import split_file  # few runs need it
 
-    return WholeFile(source)
+    return split_file(source)
 
 
 def refuse_whole(paths: list[str]) -> None:
@@ -425,7 +450,7 @@ def identity(thing: Any, standard: int) -> Identity | None:
     )
 
 
-def _written(outputs: Iterable[Any]) -> Iterator[tuple[str, Any]]:
+def _written_for(outputs: Iterable[Any]) -> Iterator[tuple[str, Any]]:
     """Yields the name of each output, and each file that is written for it."""
     for output in (
         os.fsdecode(output) if isinstance(output, bytes) else output for output in outputs
@@ -437,7 +462,7 @@ def _written(outputs: Iterable[Any]) -> Iterator[tuple[str, Any]]:
                 yield part, part
 
 
-def _read(sources: Iterable[Any]) -> set[Identity]:
+def _identities(sources: Iterable[Any]) -> set[Identity]:
     """Returns the identities of the files that are read."""
     found = (identity(source, 0) for source in sources if not isinstance(source, bytes))
     return {each for each in found if each}
@@ -446,8 +471,8 @@ def _read(sources: Iterable[Any]) -> set[Identity]:
 def refuse_same(sources: Iterable[Any], outputs: Iterable[Any]) -> None:
     """Raises `RequestError` if an output is a file that is read. The output `-` is standard
     output."""
-    read = _read(sources)
-    for name, output in _written(outputs):
+    read = _identities(sources)
+    for name, output in _written_for(outputs):
         if identity(output, 1) in read:
             raise RequestError(f"{name}: the output is a file that is read")
 
@@ -456,7 +481,7 @@ def refuse_standard(sources: Iterable[Any]) -> None:
     """Raises `RequestError` if standard output or standard error is a file that is read. If that
     is standard error, nothing is written to it any more, not even this fault."""
     sources = list(sources)
-    if sys.stderr is not None and identity(sys.stderr, 2) in _read(sources):
+    if sys.stderr is not None and identity(sys.stderr, 2) in _identities(sources):
         sys.stderr = None  # type: ignore[assignment]
         raise RequestError("standard error is a file that is read")
     refuse_same(sources, ["-"])

@@ -5,15 +5,17 @@ from __future__ import annotations
 import io
 import json
 import os
+from collections.abc import Generator
 from dataclasses import asdict, dataclass
 from typing import Any
 
-from ..engine import read_fault
-from . import is_path, is_url, open_raw
+from ..engine import RequestError, read_fault
+from . import PIECE, TextsFile, is_path, is_url, open_raw
 from .hashes import BlockHash
 from .packed import Packing, Unpacker, packing_of
 
 MANIFEST, KIND = "_manifest.json", "cityseq parts"
+HEAD = 1 << 16  # bytes that are read at once for a header
 
 
 @dataclass(frozen=True)
@@ -88,6 +90,21 @@ def expanded(paths: list[Any]) -> list[Any]:
     return found
 
 
+def regular_paths(paths: Any, what: str) -> list[str]:
+    """Returns paths of regular files, or the only one, with the parts of each folder in its place.
+
+    Raises:
+        ReadFault: A manifest cannot be read.
+        RequestError: One is not a path, or is that of a device or a pipe. `what` begins the words.
+    """
+    listed = [paths] if isinstance(paths, (str, bytes, os.PathLike)) else list(paths)
+    for path in (listed := expanded(listed)):
+        is_special = is_path(path) and os.path.exists(path) and not os.path.isfile(path)
+        if not is_path(path) or is_special and not os.path.isdir(path):
+            raise RequestError(f"{what} regular files by their paths: {path!r} is none")
+    return list(map(os.fsdecode, listed))
+
+
 class _Hashed(io.RawIOBase):
     """Reads a file, and hashes what it reads."""
 
@@ -111,65 +128,38 @@ class _Hashed(io.RawIOBase):
         super().close()
 
 
-class PartsReader(io.RawIOBase):
-    """Reads the parts of a folder as one stream. A read raises `OSError` if a part is another one
-    than its manifest has."""
+def open_parts(folder: str) -> TextsFile:
+    """Opens the parts of a folder as one stream. Raises `OSError` if it has no manifest. A read
+    raises it if a part is another one than its manifest has."""
+    return TextsFile(folder, _texts(folder, parts_in(folder)))
 
-    def __init__(self, folder: str) -> None:
-        super().__init__()
-        self._folder, self._left = folder, parts_in(folder)
-        self._header = b""
-        self._raw: _Hashed | None = None
-        self._file: Any = None
-        self._rest = b""  # what was read with a header
 
-    def readable(self) -> bool:
-        return True
+def _texts(folder: str, parts: list[Part]) -> Generator[bytes, None, None]:
+    """Yields the text of the first part, and of each other one its lines without the header."""
+    header = b""
+    for part in parts:
+        path = path_in(folder, part.name)
+        hashed = _Hashed(path)
+        with _unpacked(hashed, path) as file:
+            is_first, head = not header, bytearray()
+            while b"\n" not in head and (is_first or len(head) < len(header)):
+                piece = file.read(HEAD)
+                if not piece:
+                    break
+                head += piece
+            if is_first:
+                header = bytes(head[: head.find(b"\n") + 1 or len(head)])
+            elif not head.startswith(header):
+                raise OSError(f"{part.name} has another header")
+            yield bytes(head if is_first else head[len(header) :])
+            while piece := file.read(PIECE):
+                yield piece
+            if (hashed.digest.count, hashed.digest.text()) != (part.bytes, part.digest):
+                raise OSError(f"{part.name} is not the one that {MANIFEST} has")
 
-    def close(self) -> None:
-        """Closes the part that is open."""
-        if self._file is not None:
-            self._file.close()
-        super().close()
 
-    def read(self, most: int = -1) -> bytes:
-        """Returns at most `most` bytes, and none at the end."""
-        most = most if most >= 0 else 1 << 20
-        while self._left:
-            file = self._file or self._begin()
-            piece, self._rest = self._rest[:most], self._rest[most:]
-            piece = piece or file.read(most)
-            if piece:
-                return bytes(piece)
-            self._end()
-        return b""
-
-    def _begin(self) -> Any:
-        """Opens the next part, reads its header, and returns its file."""
-        path = path_in(self._folder, self._left[0].name)
-        self._raw = _Hashed(path)
-        file = self._file = io.BufferedReader(self._raw, 1 << 20)
-        packing = packing_of(file.peek(len(Packing.ZSTD.mark)), path)
-        if packing is not None:
-            self._file = Unpacker(file, packing)
-        is_first, head = not self._header, bytearray()
-        while b"\n" not in head and (is_first or len(head) < len(self._header)):
-            piece = self._file.read(1 << 16)
-            if not piece:
-                break
-            head += piece
-        if is_first:
-            self._header = bytes(head[: head.find(b"\n") + 1 or len(head)])
-        elif not head.startswith(self._header):
-            raise OSError(f"{self._left[0].name} has another header")
-        self._rest = bytes(head if is_first else head[len(self._header) :])
-        return self._file
-
-    def _end(self) -> None:
-        """Closes a part that was read to its end."""
-        part = self._left.pop(0)
-        assert self._raw is not None
-        if (self._raw.digest.count, self._raw.digest.text()) != (part.bytes, part.digest):
-            raise OSError(f"{part.name} is not the one that {MANIFEST} has")
-        self._file.close()
-        self._file = self._raw = None
+def _unpacked(raw: _Hashed, path: str) -> Any:
+    """Returns the file of a part, which unpacks it if it is packed."""
+    file = io.BufferedReader(raw, PIECE)
+    packing = packing_of(file.peek(len(Packing.ZSTD.mark)), path)
+    return file if packing is None else Unpacker(file, packing)
