@@ -21,12 +21,12 @@ from ..cli.json_output import report_object
 from ..engine import CityseqError, RequestError, WriteFault, shown
 from ..engine.judge import Work
 from ..engine.reports import Report
-from ..indexes.index_run import Hashes, by_threads, is_special
+from ..indexes.index_run import Hashes, by_threads
 from ..run import Result, usual_jobs
 from ..sources import is_path, part_of, refuse_same, size_of
 from ..sources.hashes import sha256_of, time_now
 from ..sources.outputs import Writer
-from ..sources.parts import expanded
+from ..sources.parts import regular_paths
 from .facts import Delivery, Run
 
 PACKAGES = {
@@ -203,11 +203,7 @@ def checked(paths: Any, output: Any) -> tuple[list[str], str | None]:
     Raises:
         RequestError: No path is given. One is not a path, or is that of a device or a pipe.
     """
-    listed = [paths] if isinstance(paths, (str, bytes, os.PathLike)) else list(paths)
-    for path in (listed := expanded(listed)):
-        if not is_path(path) or is_special(path):
-            raise RequestError(f"a report is about regular files by their paths: {path!r} is none")
-    named = [os.fsdecode(path) for path in listed]
+    named = regular_paths(paths, "a report is about")
     if not named:
         raise RequestError("no file is given that a report can be about")
     if output is None:

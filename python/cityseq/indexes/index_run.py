@@ -26,7 +26,7 @@ from ..run.streams import Job, Judge, Pool, Results, Stream, results
 from ..sources import CHANGED, State, is_packed, is_path, is_url, refuse_same, refuse_whole
 from ..sources.chunks import Chunks
 from ..sources.hashes import Digest, HashedFile, digest_of
-from ..sources.parts import expanded
+from ..sources.parts import regular_paths
 from .builder import Builder, Entry, File, Wanted, judge_details
 from .database import INDEX_CHANGED
 from .line_reader import Blocks, IndexedStream
@@ -197,11 +197,6 @@ def of_takers(takers: Iterable[Taker], run: Callable[[Iterator[Stream]], Results
             yield begun.popleft().end(result)
 
 
-def is_special(path: Any) -> bool:
-    """Whether a path exists, and is neither a regular file nor a folder."""
-    return os.path.exists(path) and not (os.path.isfile(path) or os.path.isdir(path))
-
-
 def checked(paths: Any, output: Any) -> list[str]:
     """Returns the paths of the streams.
 
@@ -209,15 +204,11 @@ def checked(paths: Any, output: Any) -> list[str]:
         RequestError: No path is given. One is not a path, or is that of a device or a pipe. Two
             are one file, or the output is one of them.
     """
-    listed = [paths] if isinstance(paths, (str, bytes, os.PathLike)) else list(paths)
-    for path in (listed := expanded(listed)):
-        if not is_path(path) or is_special(path):
-            raise RequestError(f"an index is of regular files by their paths: {path!r} is none")
-        if is_url(path) and "?" in path:
-            raise RequestError("an index stores no URL with a query, which may have a key in it")
+    named = regular_paths(paths, "an index is of")
+    if any(is_url(path) and "?" in path for path in named):
+        raise RequestError("an index stores no URL with a query, which may have a key in it")
     if not is_path(output):
         raise RequestError(f"an index is written to a path: {output!r} is none")
-    named = [os.fsdecode(path) for path in listed]
     if not named:
         raise RequestError("no stream is given that can be indexed")
     if len({os.path.realpath(path) for path in named}) < len(named):
