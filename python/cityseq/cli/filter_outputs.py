@@ -2,7 +2,6 @@
 nothing."""
 from __future__ import annotations
 
-import json
 import os
 from collections.abc import Sequence
 from typing import Any
@@ -11,7 +10,7 @@ from ..engine import RequestError, quoted, shown, write_fault
 from ..engine.reports import USUAL_BEGIN, find_id
 from ..sources.packed import Text
 from .options import Filter
-from .output import put, say
+from .output import put_object, say
 
 SHOWN = 5  # ids that are shown
 MOST = 100_000  # ids that are looked for in kept lines
@@ -127,11 +126,7 @@ class UnmatchedIds:
             return
         missing = self._missing() if self._count else []
         if request.json:
-            text = json.dumps(self._object(missing))
-            if request.writes_to_standard_output:
-                say(text)
-            else:
-                put(text)
+            put_object(request, self._object(missing))
         elif missing:
             ids = ", ".join(map(quoted, missing[:SHOWN])) + (", .." if missing[SHOWN:] else "")
             count = f"{len(missing):,} {'id' if len(missing) == 1 else 'ids'}"

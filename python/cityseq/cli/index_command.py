@@ -11,10 +11,10 @@ from ..engine import RequestError, keep_room, quoted, shown
 from ..engine.judge import asked
 from ..indexes.builder import Builder, Wanted
 from ..indexes.index_lines import shown_object
-from ..indexes.index_run import Indexed, by_threads, checked, written
+from ..indexes.index_run import Indexed, by_threads, checked, refresh, written
 from ..indexes.lookup import Index
 from ..run import Result
-from ..sources import refuse_same, refuse_standard
+from ..sources import refuse_read
 from .output import Bar, printer_for, put, say
 from .requests import WriteIndex
 from .stream_commands import files_of, total_of
@@ -39,24 +39,12 @@ def _show(request: WriteIndex) -> int:
 
 def _refresh(request: WriteIndex) -> int:
     """Writes the new times of streams with the same content into an index."""
-    from ..indexes.index_run import refresh  # few runs need it
-
     if request.json:
         raise RequestError("--refresh writes no JSON: leave --json out")
     streams, new = refresh(request.refresh or "", request.jobs)
     if not request.quiet:
         put(f"streams {streams} refreshed {new}")
     return 0
-
-
-def _files(request: WriteIndex, output: str) -> list[str]:
-    """Returns the files of the streams, checked."""
-    named = files_of(request)
-    lists = [] if request.files_from is None else [request.files_from]
-    refuse_standard([*named, *lists])
-    files = checked(named, output)
-    refuse_same(lists, [output])
-    return files
 
 
 def _wanted(request: WriteIndex) -> Wanted:
@@ -78,7 +66,9 @@ def _build(request: WriteIndex) -> int:
     if output is None or output == "-":
         raise RequestError("an index is written to a file: name it by --output")
     wanted = _wanted(request)
-    files = _files(request, output)
+    named = files_of(request)
+    refuse_read([*named, request.files_from], [output])
+    files = checked(named, output)
     work = asked("check", **request.rules)
     keep_room()
     worst = 0

@@ -18,7 +18,7 @@ from typing import TYPE_CHECKING, Any, TextIO
 from ..engine import fitting, quoted, shown, write_fault
 from ..run import Info, Result
 from ..sources import size_of, write_all
-from .options import Check
+from .options import Check, Request
 
 if TYPE_CHECKING:
     from ..engine.reports import Report
@@ -128,6 +128,15 @@ def put(text: str) -> None:
         sys.stdout.write(f"{text}\n")
     except (OSError, ValueError) as fault:
         raise write_fault(fault, None) from fault
+
+
+def put_object(request: Request, value: Object) -> None:
+    """Writes an object of JSON as a line to standard output, or to standard error if the kept lines
+    are on standard output."""
+    if request.writes_to_standard_output:
+        say(json.dumps(value))
+    else:
+        put(json.dumps(value))
 
 
 def flush() -> None:
@@ -401,11 +410,7 @@ class JsonPrinter(Printer):
 
     def _print(self, value: Object) -> None:
         self._bar.clear()
-        text = json.dumps(value)
-        if self._request.writes_to_standard_output:
-            say(text)
-        else:
-            put(text)
+        put_object(self._request, value)
 
     def print_report(self, report: Report) -> None:
         from .json_output import report_object  # text does not need it

@@ -11,7 +11,7 @@ from functools import partial
 from ..engine import READ_FAULTS, CityseqError, ReadFault, RequestError, read_fault, shown
 from ..run import number_of_jobs
 from ..run.streams import Job, Pool
-from ..sources import CHANGED, PIECE, Reader, Watch, opened, refuse_standard, watch_of
+from ..sources import CHANGED, PIECE, Reader, Watch, opened, refuse_read, watch_of
 from ..sources.outputs import Writer
 from ..sources.packed import (
     BLOCK,
@@ -174,7 +174,7 @@ def run(request: Pack) -> int:
     if not request.files and request.files_from is None:
         raise RequestError("pack takes files: name each FILE")
     files = files_of(request)
-    refuse_standard([*files, *([] if request.files_from is None else [request.files_from])])
+    refuse_read([*files, request.files_from], [])
     if request.verify and (request.output is not None or request.level is not None):
         raise RequestError("--verify writes nothing: leave --output and --level out")
     outputs = list(files) if request.verify else _outputs(request, files)

@@ -8,7 +8,7 @@ from ..delivery import How, checked, report
 from ..engine import RequestError, keep_room, shown
 from ..engine.judge import asked
 from ..run import Result
-from ..sources import refuse_same, refuse_standard
+from ..sources import refuse_read
 from . import program_name
 from .options import options_of
 from .output import Bar, counts, put, say
@@ -24,10 +24,8 @@ def run(request: WriteReport) -> int:
     if not request.files and request.files_from is None:
         raise RequestError("a report is about files: name each FILE")
     named = files_of(request)
-    lists = [] if request.files_from is None else [request.files_from]
-    refuse_standard([*named, *lists])
+    refuse_read([*named, request.files_from], [output])
     files, _ = checked(named, output)
-    refuse_same(lists, [] if output is None else [output])
     work = asked("check", **{**request.rules, "keep_going": True})
     keep_room()
     with Bar(total_of(files, request.progress), request.progress) as bar:
