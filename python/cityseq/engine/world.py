@@ -6,7 +6,7 @@ import decimal
 import json
 import math
 import sys
-from collections.abc import Callable, Iterable, Iterator, Sequence
+from collections.abc import Callable, Iterable, Sequence
 from decimal import Decimal
 from functools import partial
 from math import gcd, nextafter
@@ -18,7 +18,6 @@ Interval = tuple[float, float]
 BITS = 53  # of a float, as bits
 PLACES = 18  # a fixed number is a multiple of 10^-18 and below 10^18 in size
 Extent = tuple[Decimal, Decimal] | None
-UNITS, GREATEST = -18, Decimal(10) ** 18  # a box takes multiples of 10^-18, below 10^18 in size
 DIGITS = 200  # of a world coordinate, at most
 ENOUGH = 800  # digits: more than a number in the middle between two floats has
 NESTED = 1_100  # more arrays and objects than a line may have open at once
@@ -218,15 +217,29 @@ def normal(number: Decimal) -> str:
     return f"{'-' if sign else ''}{short}e{int(power) + len(text) - len(short)}"
 
 
-def _edges(vertices: tuple[int, int], scale: Decimal, shift: Decimal) -> Iterator[Decimal]:
-    """Yields the least and the greatest world coordinate, by exact sums. Raises `decimal.Inexact`
+def _edges(vertices: tuple[int, int], scale: Decimal, shift: Decimal) -> tuple[Decimal, Decimal]:
+    """Returns the least and the greatest world coordinate, by exact sums. Raises `decimal.Inexact`
     if they are too long."""
     exact = decimal.Context(
-        prec=200,
+        prec=DIGITS,
         traps=[decimal.Inexact, decimal.Overflow, decimal.InvalidOperation, decimal.Subnormal],
     )
-    edges = [exact.add(exact.multiply(Decimal(vertex), scale), shift) for vertex in vertices]
-    yield from sorted(edges)
+    low, high = sorted(
+        exact.add(exact.multiply(Decimal(vertex), scale), shift) for vertex in vertices
+    )
+    return low, high
+
+
+def _extents(
+    edges: Callable[[tuple[int, int], Decimal, Decimal], tuple[Decimal, Decimal]],
+    ranges: tuple[Range, Range, Range],
+    *transform: list[Decimal],
+) -> tuple[Extent, Extent, Extent]:
+    x, y, z = (
+        None if vertices is None else edges(vertices, scale, shift)
+        for vertices, scale, shift in zip(ranges, *transform)
+    )
+    return x, y, z
 
 
 def extent_of(
@@ -234,11 +247,7 @@ def extent_of(
 ) -> tuple[Extent, Extent, Extent]:
     """Returns the least and the greatest world coordinate on x, y and z, exactly. None if there is
     no vertex. Raises `decimal.DecimalException` if one has more than 200 digits."""
-    extents = (
-        None if vertices is None else tuple(_edges(vertices, scale[axis], translate[axis]))
-        for axis, vertices in enumerate(ranges)
-    )
-    return tuple(extents)  # type: ignore[return-value]
+    return _extents(_edges, ranges, scale, translate)
 
 
 def _rounding(digits: int, rounding: str) -> decimal.Context:
@@ -257,11 +266,7 @@ def outer_extent_of(
     ranges: tuple[Range, Range, Range], scale: list[Decimal], translate: list[Decimal]
 ) -> tuple[Extent, Extent, Extent]:
     """Does the same as `extent_of`. A coordinate of more than 200 digits is rounded outward."""
-    x, y, z = (
-        None if vertices is None else _outer(vertices, scale[axis], translate[axis])
-        for axis, vertices in enumerate(ranges)
-    )
-    return x, y, z
+    return _extents(_outer, ranges, scale, translate)
 
 
 def nearest_floats(vertices: Iterable[int], scale: Decimal, shift: Decimal) -> list[float]:
@@ -280,15 +285,6 @@ def plain(number: Decimal) -> str:
     return text.rstrip("0").rstrip(".") if "." in text else text
 
 
-def _fits(number: Decimal) -> bool:
-    """Whether a box takes the number."""
-    if number.copy_abs() >= GREATEST:
-        return False
-    digits, power = number.as_tuple().digits, int(number.as_tuple().exponent)
-    ended = len(digits) - len("".join(map(str, digits)).rstrip("0"))
-    return number == 0 or power + ended >= UNITS
-
-
 def box_of(
     ranges: tuple[Range, Range, Range], scale: list[Decimal], translate: list[Decimal]
 ) -> str | None:
@@ -297,10 +293,10 @@ def box_of(
     if ranges[0] is None or ranges[1] is None:
         return None
     try:
-        x = list(_edges(ranges[0], scale[0], translate[0]))
-        y = list(_edges(ranges[1], scale[1], translate[1]))
+        x = _edges(ranges[0], scale[0], translate[0])
+        y = _edges(ranges[1], scale[1], translate[1])
     except decimal.DecimalException:
         return None
     edges = [x[0], y[0], x[1], y[1]]
-    numbers = edges + scale[:2] + translate[:2]
-    return ",".join(map(plain, edges)) if all(map(_fits, numbers)) else None
+    numbers = map(units_of, edges + scale[:2] + translate[:2])
+    return None if None in numbers else ",".join(map(plain, edges))
