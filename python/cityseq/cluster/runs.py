@@ -4,6 +4,7 @@ from __future__ import annotations
 import os
 from collections import deque
 from collections.abc import Iterable, Iterator, Sequence
+from concurrent.futures import Future
 from dataclasses import dataclass, replace
 from functools import partial
 from typing import Any
@@ -75,24 +76,6 @@ class _Judged:
         return self.answer
 
 
-class _Ready:
-    """A call that has been made."""
-
-    def __init__(self, value: Any) -> None:
-        self._value = value
-
-    def done(self) -> bool:
-        """True."""
-        return True
-
-    def cancel(self) -> None:
-        """Does nothing."""
-
-    def result(self) -> Any:
-        """Returns what the call returned."""
-        return self._value
-
-
 class Runs:
     """Judges streams by a cluster. All have the same work."""
 
@@ -115,7 +98,9 @@ class Runs:
     def _submit(self, call: Any) -> Any:
         judge, chunk = call.args
         if isinstance(judge, _Judged):
-            return _Ready(call())
+            ready: Future[Any] = Future()
+            ready.set_result(call())
+            return ready
         if self._batch is None or self._batch.judge is not judge or not self._batch.is_open:
             self._batch = Batch(self._cluster, judge)
         return self._batch.add(chunk)

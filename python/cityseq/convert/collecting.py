@@ -5,11 +5,12 @@ vertices, appearance, templates and the other members of the headers."""
 from __future__ import annotations
 
 import os
+from collections import defaultdict
 from collections.abc import Callable, Iterable, Iterator
 from dataclasses import dataclass
 from decimal import Decimal
 from hashlib import blake2b
-from itertools import islice
+from itertools import count, islice
 from typing import Any
 
 from ..engine import USUAL_DEPTH, USUAL_LINE, CallStatus, InvalidStream, RequestError, library
@@ -35,18 +36,16 @@ from . import (
 from .splitting import LISTS
 
 Place = tuple[str, int]  # a file and a line
+Once = defaultdict[str, int]  # numbers of texts
 OWN = ("type", "id", "CityObjects", "vertices", "appearance")  # members of a feature
 WRITTEN = ("type", "version", "transform", "CityObjects", "vertices")  # of a header, without others
 EXTENT = "the extent is that of the header: it is too large if the stream was filtered"
 TOGETHER = 1 << 12  # vertices that are written at once
 
 
-class Once(dict[str, int]):
-    """Numbers of texts, in the order in which they first come."""
-
-    def __missing__(self, text: str) -> int:
-        self[text] = number = len(self)
-        return number
+def _once() -> Once:
+    """Returns what numbers texts in the order in which they first come."""
+    return defaultdict(count().__next__)
 
 
 class Moved(Lookup):
@@ -179,8 +178,8 @@ class Collection:
         self._members: dict[str, tuple[str, Place]] = {}  # of headers, as they are spelled
         self._appearance: dict[str, tuple[str, Place]] = {}
         self._has_appearance = False
-        self._lists = {name: Once() for name in LISTS}
-        self._vertices = Once()
+        self._lists = {name: _once() for name in LISTS}
+        self._vertices = _once()
         self._templates: Templates | None = None
         self._objects: dict[str, tuple[bytes, Place]] = {}
         self._notes: dict[str, None] = {}

@@ -5,7 +5,7 @@ from __future__ import annotations
 import json
 import sqlite3
 from collections.abc import Callable, Iterable, Iterator, Sequence
-from contextlib import ExitStack, contextmanager, suppress
+from contextlib import contextmanager, suppress
 from dataclasses import dataclass, field, replace
 from decimal import DecimalException
 from functools import partial
@@ -279,14 +279,13 @@ class Survey:
         self.reports: list[Report] = []
         self._lists = lists
         self._places: dict[str | None, Place] = {}
-        self._stack = ExitStack()
-        self._ids = self._stack.enter_context(Ids())
+        self._ids = Ids()
 
     def __enter__(self) -> Survey:
         return self
 
     def __exit__(self, *_: Any) -> None:
-        self._stack.close()
+        self._ids.__exit__()
 
     def begin(self, number: int, header: bytes) -> Entry:
         """Begins a file, by its number from 0. The header is valid."""
