@@ -332,12 +332,8 @@ def _is_text(value: Any) -> bool:
     return isinstance(value, str)
 
 
-def _is_path(value: Any) -> bool:
-    return isinstance(value, str) and 0 < len(value) <= LONGEST and "\0" not in value
-
-
-def _is_exact_path(value: Any) -> bool:
-    return isinstance(value, bytes) and 0 < len(value) <= LONGEST and b"\0" not in value
+def _is_path(kind: Any, nul: Any) -> Test:
+    return lambda value: isinstance(value, kind) and 0 < len(value) <= LONGEST and nul not in value
 
 
 def _is_number(value: Any) -> bool:
@@ -372,8 +368,8 @@ OPTIONS: dict[str, Test] = {
 }
 STREAMS: dict[str, Test] = {
     "fid": _is_count,
-    "path": _is_path,
-    "path_exact": _or_null(_is_exact_path),
+    "path": _is_path(str, "\0"),
+    "path_exact": _or_null(_is_path(bytes, b"\0")),
     "packing": _or_null(lambda value: value in ("gzip", "zstd")),
     "size": _is_count,
     "mtime_ns": lambda value: type(value) is int,

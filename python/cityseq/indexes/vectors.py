@@ -15,25 +15,11 @@ if TYPE_CHECKING:
     from ..engine.records import Records
 
 AXES = ("x", "y", "z")
-RECORD = np.dtype(
-    [
-        (name, "i8")
-        for name in (
-            "line",
-            "begin",
-            "length",
-            "id_begin",
-            "id_length",
-            "attributes_begin",
-            "attributes_length",
-            "objects",
-            "geometries",
-            "types",
-            "lods",
-        )
-    ]
-    + [(f"{axis}{end}", "i8") for axis in AXES for end in ("", "min", "max")]
+MEMBERS = (  # of a record
+    "line begin length id_begin id_length attributes_begin attributes_length objects geometries"
+    " types lods x xmin xmax y ymin ymax z zmin zmax"
 )
+RECORD = np.dtype([(name, "i8") for name in MEMBERS.split()])
 EXACT = 1 << 53  # whole numbers below this are floats
 SMALL = 1 << 24  # between vertices: sums of their products are exact
 _POLYGON = [("order", "u1"), ("kind", "<u4"), ("rings", "<u4"), ("count", "<u4")]

@@ -25,6 +25,7 @@ from .parameters import Query
 from .sending import Pace, write
 
 GO_ON = "100-continue"
+FLAGS = ("keep_going", "tree", "extensions", "summary")
 Wanted = Check | Filter
 
 
@@ -36,15 +37,9 @@ def _asked_of(command: str, query: Query) -> Wanted:
     """
     only_counts = query.flag("summary") and "max_reports" not in query
     make: type[Check] | type[Filter] = Filter if command == "filter" else Check
-    wanted = make(
-        line_limit=query.number("line_limit"),
-        depth=query.number("depth"),
-        keep_going=query.flag("keep_going"),
-        tree=query.flag("tree"),
-        extensions=query.flag("extensions"),
-        max_reports=0 if only_counts else query.number("max_reports"),
-        summary=query.flag("summary"),
-    )
+    given: dict[str, Any] = {name: query.number(name) for name in ("line_limit", "depth")}
+    given.update({name: query.flag(name) for name in FLAGS})
+    wanted = make(max_reports=0 if only_counts else query.number("max_reports"), **given)
     if isinstance(wanted, Filter):
         wanted.exclude = query.flag("exclude")
         wanted.id, wanted.type, wanted.lod, wanted.bbox = map(
@@ -56,11 +51,7 @@ def _asked_of(command: str, query: Query) -> Wanted:
 def _work(wanted: Wanted, query: Query) -> Work:
     return asked(
         wanted.command,
-        line_limit=wanted.line_limit,
-        depth=wanted.depth,
-        keep_going=wanted.keep_going,
-        tree=wanted.tree,
-        extensions=wanted.extensions,
+        **wanted.rules,
         exclude=query.flag("exclude"),
         ids=query.texts("id"),
         types=query.texts("type"),
