@@ -4,6 +4,7 @@ A grammar reads them. What comes of it are nested tuples, which `where` translat
 from __future__ import annotations
 
 import re
+from collections.abc import Callable
 from decimal import Decimal, InvalidOperation
 from functools import lru_cache
 from itertools import chain
@@ -145,6 +146,11 @@ def _joined(word: str, parts: list[Any]) -> Any:
     return Joined(word, tuple(chain.from_iterable(inner)))
 
 
+def _negated(rule: str) -> Callable[[Any, list[Any]], Not]:
+    """Returns a method of `_Tree` for the opposite of a rule."""
+    return lambda tree, parts: Not(getattr(tree, rule)(parts))
+
+
 class _Tree:
     """Makes a filter of what the grammar finds. The methods have the names of the rules, and take
     what was made of the parts."""
@@ -170,26 +176,16 @@ class _Tree:
     def like(self, parts: list[Any]) -> Like:
         return Like(parts[0], self.text(parts[1:]))
 
-    def unlike(self, parts: list[Any]) -> Not:
-        return Not(self.like(parts))
-
     def between(self, parts: list[Any]) -> Between:
         return Between(*parts)
-
-    def outside(self, parts: list[Any]) -> Not:
-        return Not(self.between(parts))
 
     def among(self, parts: list[Any]) -> Among:
         return Among(parts[0], tuple(parts[1:]))
 
-    def not_among(self, parts: list[Any]) -> Not:
-        return Not(self.among(parts))
-
     def null(self, parts: list[Any]) -> Null:
         return Null(parts[0])
 
-    def not_null(self, parts: list[Any]) -> Not:
-        return Not(self.null(parts))
+    unlike, outside, not_among, not_null = map(_negated, ("like", "between", "among", "null"))
 
     def name(self, parts: list[Any]) -> str:
         text = str(parts[0])

@@ -129,13 +129,10 @@ def is_like(pattern: Any, text: Any, look: Callable[[], object]) -> bool | None:
     """Returns whether a text is like a pattern. None for other values."""
     if not isinstance(text, str) or not isinstance(pattern, str):
         return None
-    return pattern_of(pattern).matches(text, look)
+    return _pattern_of(pattern).matches(text, look)
 
 
-@lru_cache(maxsize=256)
-def pattern_of(text: str) -> Pattern:
-    """Returns the pattern of a text."""
-    return Pattern(text)
+_pattern_of = lru_cache(maxsize=256)(Pattern)
 
 
 def instant(text: Any) -> str | None:
@@ -245,8 +242,9 @@ class Translation:
             operator, number = bound(value, column.type == "INTEGER", operator)
             self._values.append(number)
         elif isinstance(value, Instant):
-            name = _moment(name, value)
-            self._values.append(_key(value))
+            is_time = value.kind == "date-time"
+            name = f"{INSTANT}({name})" if is_time else name
+            self._values.append(instant(value.text) if is_time else value.text)
         else:
             self._values.append(readable(value) if isinstance(value, str) else int(value))
         return f"{name} {operator} ?"
@@ -269,14 +267,6 @@ class Translation:
 def _sql_name(column: Attribute) -> str:
     # a name with its table is never a text for SQLite, which other names in quotes may be
     return f"features.{quoted(column.column)}"
-
-
-def _moment(name: str, value: Instant) -> str:
-    return f"{INSTANT}({name})" if value.kind == "date-time" else name
-
-
-def _key(value: Instant) -> str | None:
-    return instant(value.text) if value.kind == "date-time" else value.text
 
 
 def _told(value: Literal) -> str:
