@@ -79,12 +79,14 @@ def _counts(result: Result) -> Object:
     }
 
 
-def _of_info(info: Info) -> Object:
-    from decimal import Decimal
+def box_object(box: str | None) -> list[Any] | None:
+    """Returns the edges of a box as JSON numbers."""
+    from decimal import Decimal  # only `info` and `report` need it
 
-    box: list[Any] | None = (
-        None if info.box is None else [exact(Decimal(edge)) for edge in info.box.split(",")]
-    )
+    return None if box is None else [exact(Decimal(edge)) for edge in box.split(",")]
+
+
+def _of_info(info: Info) -> Object:
     return {
         "scale": list(map(exact, info.scale)),
         "translate": list(map(exact, info.translate)),
@@ -95,7 +97,7 @@ def _of_info(info: Info) -> Object:
         "x": info.x,
         "y": info.y,
         "z": info.z,
-        "bbox": box,
+        "bbox": box_object(info.box),
     }
 
 

@@ -7,7 +7,7 @@ from dataclasses import dataclass, field
 from decimal import Decimal
 from typing import TYPE_CHECKING, Any, TypeVar
 
-from ..cli.json_output import exact, report_object
+from ..cli.json_output import box_object, exact, report_object
 from ..engine import Status
 from ..engine.records import Range
 from ..engine.reports import Explanation, Report, explain
@@ -51,10 +51,9 @@ class Contents:
 
 def _add(counts: dict[Key, int], others: dict[Key, int]) -> None:
     """Adds counts to others, and sorts all by their names."""
-    both = {name: counts.get(name, 0) + count for name, count in others.items()}
-    ordered = sorted({**counts, **both}.items())
+    both = sorted((Counter(counts) + Counter(others)).items())
     counts.clear()
-    counts.update(ordered)
+    counts.update(both)
 
 
 @dataclass
@@ -328,10 +327,6 @@ def _contents(contents: Contents) -> Object:
     }
 
 
-def _box(box: str | None) -> list[Any] | None:
-    return None if box is None else [exact(Decimal(edge)) for edge in box.split(",")]
-
-
 def _file(file: File) -> Object:
     axes = {
         axis: None if extent is None else list(map(exact, extent))
@@ -351,7 +346,7 @@ def _file(file: File) -> Object:
         "reference_system": file.reference_system,
         "scale": list(map(exact, file.scale)) or None,
         "translate": list(map(exact, file.translate)) or None,
-        "bbox": _box(file.box),
+        "bbox": box_object(file.box),
         **axes,
         "longest_line": file.longest,
         "peak_bytes": file.peaks[0],
@@ -366,7 +361,7 @@ def _area(area: Area) -> Object:
         "reference_system": area.reference_system,
         "files": area.files,
         "features": area.features,
-        "bbox": _box(area.box),
+        "bbox": box_object(area.box),
         "apart": area.apart,
         "strays": [
             {"file": each.file, "line": each.line, "id": each.id, "middle": list(each.middle)}
