@@ -307,7 +307,7 @@ class Lookup(dict[str, str]):
         return "".join(pieces)
 
 
-class Index(Lookup):
+class FirstUse(Lookup):
     """New indices that are counted in the order of first use.
 
     Attributes:

@@ -22,7 +22,7 @@ from ..sources.outputs import Target, Writer
 from . import (
     NAME,
     TOO_DEEP,
-    Index,
+    FirstUse,
     Indices,
     Items,
     Spans,
@@ -93,8 +93,8 @@ class Document:
         self._flags = bytearray()  # of each city object
         self._begins, self._keys = array("Q"), array("Q")
         self._read()
-        found = {name: Index(len(items)) for name, items in self.lists.items()}
-        self._used_vertices = Index(len(self.vertices))
+        found = {name: FirstUse(len(items)) for name, items in self.lists.items()}
+        self._used_vertices = FirstUse(len(self.vertices))
         self._indices = Indices(self._used_vertices, *found.values())
         self._index_of = {name: index for name, index in found.items() if len(self.lists[name])}
         self._rule = self._indices.object_rule()
