@@ -147,9 +147,8 @@ def read(name, words):
 def of_package():
     """The command of the package, by its table of options."""
     sys.path.insert(0, str(ROOT / "python"))
-    from cityseq.cli.help import TOP, told
     from cityseq.cli.options import options_of
-    from cityseq.cli.requests import COMMANDS
+    from cityseq.cli.requests import COMMANDS, TOP, told
 
     help_option = Option("-h", "--help", None, "Print help.")
     top = [Option(*names.split(", "), None, sentences(text)) for names, text in TOP]

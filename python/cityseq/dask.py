@@ -19,10 +19,10 @@ from functools import partial
 from typing import Any
 
 from .calls import OnReport, Progress
+from .cluster import PART, Cluster, Job, checked_size
 from .cluster.folders import USUAL, Folder, filter_to_folder
-from .cluster.jobs import PART, Cluster, Job, checked_size
 from .cluster.runs import PIECES, Runs
-from .cluster.tasks import hash_file
+from .cluster.tasks import SHORT, hash_file
 from .engine import USUAL_DEPTH, USUAL_LINE, RequestError
 from .engine.judge import Box, Limits, Options, Query, Texts, Work, work_of
 from .indexes.builder import Builder
@@ -32,7 +32,6 @@ from .run.streams import Results, Stream
 from .sources import is_path, is_url, refuse_same
 from .sources.outputs import Target, Writer
 from .sources.packed import Packing
-from .sources.ranges import SHORT
 
 Size = int | str
 PACKINGS = {None: None, "gz": Packing.GZIP, "zst": Packing.ZSTD}

@@ -16,7 +16,7 @@ from contextlib import closing, contextmanager
 from unittest import mock
 
 import cityseq
-from cityseq.cli.pack_command import packed_name
+from cityseq.cli.file_commands import packed_name
 from cityseq.engine import OutOfDate, ReadFault
 from cityseq.indexes import line_reader as blocks_of
 from cityseq.sources.packed import BLOCK, LAST, Packing, Unpacker, pack

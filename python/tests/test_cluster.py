@@ -15,9 +15,9 @@ from dataclasses import replace
 from unittest import mock
 
 import cityseq
+from cityseq.cluster.tasks import RangeChunks, Sight, Sizes, begin
 from cityseq.engine.judge import asked
 from cityseq.sources.packed import BLOCK, Packer
-from cityseq.sources.ranges import RangeChunks, Sight, Sizes, begin
 
 from . import clusters, support
 from .clusters import WithCluster, distributed
@@ -27,7 +27,8 @@ if distributed is not None:
     import dask
 
     import cityseq.dask
-    from cityseq.cluster import folders, jobs, tasks
+    from cityseq import cluster as jobs
+    from cityseq.cluster import folders, tasks
 
 WHOLE = Sizes(32 << 20, 32 << 20)
 OTHER = "0.1.0, package 000000000000, library 000000000000"
@@ -40,14 +41,13 @@ def lines(count, name="b"):
 
 def old_engine():
     """Runs on a worker, which then has another engine."""
+    tasks.right_engine = tasks.engine
     tasks.engine = lambda: OTHER
 
 
 def right_engine():
     """Runs on a worker, which then has the engine of its library again."""
-    import importlib
-
-    importlib.reload(tasks)
+    tasks.engine = tasks.right_engine
 
 
 def say_little(size):

@@ -16,8 +16,8 @@ from .support import HEADER, InFolder, feature, numbered
 
 if distributed is not None:
     import cityseq.dask
+    from cityseq.cluster.tasks import RangeChunks, Sizes, begin, judge_range
     from cityseq.engine.judge import Answer, asked
-    from cityseq.sources.ranges import RangeChunks, Sizes, begin, judge_range
 
 
 def by_ranges(path, each, work):

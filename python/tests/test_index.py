@@ -489,7 +489,7 @@ class Refreshed(InFolder):
 
     def test_the_hash(self):
         """The BLAKE2b of the CRC-32s of all blocks, whoever reads them."""
-        from cityseq.sources.hashes import digest_of
+        from cityseq.sources.regular import digest_of
 
         lines = [feature(f"b{number}") for number in range(2_000)]
         for name, text in (

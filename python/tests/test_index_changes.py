@@ -111,10 +111,10 @@ class Streams(InFolder):
 
     def test_an_index_in_use_while_its_pool_closes(self):
         """It can be used until the call ends, and is closed then. The others are closed at once."""
-        from cityseq.indexes.index_pages import Pool
+        from cityseq.indexes.index_pages import IndexPool
 
         cityseq.index(self.file(self.text), self.index)
-        pool = Pool(str(self.index), None)
+        pool = IndexPool(str(self.index), None)
         with pool.index() as used:
             with pool.index() as free:
                 self.assertIsNot(used, free)

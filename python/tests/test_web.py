@@ -16,7 +16,7 @@ from unittest import mock
 from urllib.parse import unquote, urlsplit
 
 import cityseq
-from cityseq.sources import web as web_client
+from cityseq.indexes import web as web_client
 
 from .support import HEADER, InFolder, command, feature
 
@@ -411,8 +411,8 @@ class Client(Served):
             self.assertIn("no URL of http", str(caught.exception))
 
     def test_no_urllib3(self):
-        with mock.patch.dict(sys.modules, {"urllib3": None, "cityseq.sources.web": None}):
-            del sys.modules["cityseq.sources.web"]
+        with mock.patch.dict(sys.modules, {"urllib3": None, "cityseq.indexes.web": None}):
+            del sys.modules["cityseq.indexes.web"]
             with self.assertRaises(cityseq.CityseqError) as caught:
                 cityseq.Index(self.index, base="http://example.org")
         self.assertIn("python3-urllib3", str(caught.exception))

@@ -33,7 +33,7 @@ import flaky  # noqa: E402
 
 import cityseq  # noqa: E402
 import cityseq.dask  # noqa: E402
-from cityseq.cluster import jobs  # noqa: E402
+from cityseq import cluster as jobs  # noqa: E402
 from tests.clusters import HOST, WORDS  # noqa: E402
 from tests.support import stream_by_chance  # noqa: E402
 

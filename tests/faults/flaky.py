@@ -26,9 +26,9 @@ def register():
 
 def dask_setup(_):
     """Is called when a worker begins. It ends when it looks at a file with this name."""
-    from cityseq.sources import ranges
+    from cityseq.cluster import tasks
 
-    usual = ranges.sight_of
+    usual = tasks.sight_of
 
     def sight_of(path):
         if os.path.basename(path) == "deadly":
@@ -36,4 +36,4 @@ def dask_setup(_):
         return usual(path)
 
     register()
-    ranges.sight_of = sight_of
+    tasks.sight_of = sight_of

@@ -1,6 +1,6 @@
 """The command `cityseq-run`, also `python3 -m cityseq`: reads the command line, runs what it asks
 for, and ends with a status. `options` and `requests` have the commands and their options, and each
-`*_command` runs a command."""
+`*_commands` runs some."""
 from __future__ import annotations
 
 import argparse
@@ -17,7 +17,7 @@ from .. import __version__
 from ..engine import CityseqError, RequestError, Status, WriteFault, shown
 from ..engine.judge import UnknownType
 from .options import Check, Filter, Info, Request, options_of
-from .output import drop_output, flush, hold_descriptors, put, say, write_whole_outputs
+from .output import brief, drop_output, flush, hold_descriptors, put, say, write_whole_outputs
 
 WIDTH = 100  # a known width, so that argparse does not look for it
 SIMILAR = 0.7  # how similar a word must be to be suggested
@@ -119,7 +119,7 @@ class _Parser(argparse.ArgumentParser):
 
 def _help(program: str, command: type[Request] | None) -> str:
     """Returns the help on a command, or on all of them."""
-    from .help import command_help, program_help  # few runs need it
+    from .requests import command_help, program_help  # few runs need it
 
     return program_help(program) if command is None else command_help(program, command)
 
@@ -136,7 +136,7 @@ def _mistake(
     program: str, what: str, tip: str | None, command: type[Request] | None = None
 ) -> Mistake:
     """Returns a mistake with a tip, the usage, and where the help is."""
-    from .help import usage  # only mistakes need it
+    from .requests import usage  # only mistakes need it
 
     name = program if command is None else f"{program} {command.command}"
     tips = [f"  tip: {tip}"] if tip else []
@@ -224,7 +224,7 @@ def _say_fault(fault: CityseqError, is_plain: bool) -> None:
         if near is not None and not is_plain:
             say(f"  tip: is '{near}' meant?")
     elif is_plain and fault.status != Status.BAD_REQUEST:
-        say(fault.words.split(":")[0])
+        say(brief(fault.words))
     else:
         say(shown(str(fault)))
         if fault.words in BOX_FAULTS and not is_plain:

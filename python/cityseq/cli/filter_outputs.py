@@ -6,9 +6,8 @@ import os
 from collections.abc import Sequence
 from typing import Any
 
-from ..engine import RequestError, quoted, shown, write_fault
+from ..engine import RequestError, Text, quoted, shown, write_fault
 from ..engine.reports import USUAL_BEGIN, find_id
-from ..sources.packed import Text
 from .options import Filter
 from .output import put_object, say
 

@@ -12,7 +12,7 @@ from typing import Any
 
 from ..engine import RequestError, write_fault
 from ..sources import is_path, write_all
-from ..sources.hashes import state_now
+from ..sources.regular import state_now
 from .options import Check, Filter
 
 Object = dict[str, Any]

@@ -1,8 +1,11 @@
-"""What a command line for any other command asks for, and the table of all commands."""
+"""What a command line for any other command asks for, the table of all commands, and the layout of
+the help. That of a command is the docstring of its class."""
 from __future__ import annotations
 
 import re
 from argparse import ArgumentTypeError
+from inspect import cleandoc
+from typing import Any
 
 from .options import (
     CLUSTER,
@@ -30,6 +33,7 @@ from .options import (
     Option,
     Request,
     flag,
+    options_of,
     size,
     wanted,
     whole_number,
@@ -78,7 +82,7 @@ class WriteIndex(Request):
     """
 
     command = "index"
-    runner = ".index_command:run"
+    runner = ".index_commands:run_index"
     line_limit, depth = LINE_LIMIT, DEPTH
     keep_going, tree, extensions = KEEP_GOING, TREE, EXTENSIONS
     output = wanted("Write the index to this file when all streams were read", "OUTPUT", str, "o")
@@ -120,7 +124,7 @@ class Pack(Request):
     """
 
     command = "pack"
-    runner = ".pack_command:run"
+    runner = ".file_commands:run_pack"
     output = wanted("Write the archive of one FILE to this file", "OUTPUT", str, "o")
     verify = flag("Read archives, report those that are broken or cut short, and pack nothing")
     level = LEVEL
@@ -143,7 +147,7 @@ class WriteReport(Request):
     """
 
     command = "report"
-    runner = ".report_command:run"
+    runner = ".file_commands:run_report"
     line_limit, depth = LINE_LIMIT, DEPTH
     tree, extensions, whole = TREE, EXTENSIONS, WHOLE
     output = wanted(
@@ -173,7 +177,7 @@ class SplitFile(Request):
     """
 
     command, operands = "split", "[FILE]"
-    runner = ".convert_commands:run_split"
+    runner = ".file_commands:run_split"
     line_limit, output, quiet = LINE_LIMIT, OUTPUT, QUIET
 
 
@@ -191,7 +195,7 @@ class CollectStreams(Request):
     """
 
     command, operands = "collect", "[STREAM]..."
-    runner = ".convert_commands:run_collect"
+    runner = ".file_commands:run_collect"
     line_limit, depth = LINE_LIMIT, DEPTH
     output, files_from, null, quiet = OUTPUT, FILES_FROM, NULL, QUIET
 
@@ -297,3 +301,77 @@ COMMANDS: dict[str, type[Request]] = {
         Explain,
     )
 }
+
+ABOUT = "Check, filter and summarise CityJSONSeq 2.0 streams on all cores and in bounded memory"
+TOP = (
+    ("-h, --help", "Print help"),
+    ("-V, --version", "Print the version"),
+)
+STATUSES = """\
+Exit status, the greatest of all FILEs:
+  0    The stream is valid up to its end.
+  1    A line is invalid. Standard error gives line, byte and reason.
+       With --keep-going it lists every invalid line.
+  2    The command line is wrong.
+  3    A read failed.
+  4    A write failed.
+  5    The system refused memory.
+  70   Something unexpected happened. Please report it.
+  130, 143 and 129: the run was interrupted, or a signal asked it to end.
+
+A CityJSONSeq stream is a CityJSON 2.0 header, then one CityJSONFeature on each line.
+Without FILE the command reads standard input, and prints what the program prints.
+A FILE may be packed by gzip or Zstandard, and - is standard input.
+docs/RULES.md explains each reason, and docs/GUIDE.md shows the command at work."""
+
+
+def usage(program: str, command: type[Request] | None) -> str:
+    """Returns the usage of a command, or of the program."""
+    if command is None:
+        return f"Usage: {program} <COMMAND>"
+    options = "[OPTIONS] " if options_of(command) else ""
+    return f"Usage: {program} {command.command} {options}{command.operands}"
+
+
+def _table(rows: list[tuple[str, str]]) -> str:
+    width = max(len(left) for left, _ in rows)
+    return "\n".join(f"  {left:<{width}}  {right}" for left, right in rows)
+
+
+def _left(option: Option[Any]) -> str:
+    """Returns an option as the help shows it. All long names begin in one column."""
+    short = f"-{option.short}, " if option.short else "    "
+    return f"{short}--{option.name}" + (f" <{option.value}>" if option.value else "")
+
+
+def told(command: type[Request]) -> tuple[str, str]:
+    """Returns what a command does, in one line, and what its help has after the options."""
+    about, _, after = cleandoc(command.__doc__ or "").partition("\n\n")
+    return about, after
+
+
+def program_help(program: str) -> str:
+    """Returns the help on all commands."""
+    commands = [(name, told(command)[0]) for name, command in COMMANDS.items()]
+    commands.append(("help", "Print this help, or the help on a command"))
+    parts = (
+        ABOUT,
+        usage(program, None),
+        f"Commands:\n{_table(commands)}",
+        f"Options:\n{_table(list(TOP))}",
+        STATUSES,
+    )
+    return "\n\n".join(parts)
+
+
+def command_help(program: str, command: type[Request]) -> str:
+    """Returns the help on a command."""
+    rows = [(_left(option), option.about) for option in options_of(command)]
+    about, after = told(command)
+    parts = (
+        about,
+        usage(program, command),
+        f"Options:\n{_table([*rows, ('-h, --help', 'Print help')])}",
+        after.format(program),
+    )
+    return "\n\n".join(parts)

@@ -191,7 +191,7 @@ class Run:
 
     def _state_of(self, file: str) -> dict[str, Any]:
         """Returns what must be the same for a file to be skipped."""
-        from ..sources.hashes import state_now
+        from ..sources.regular import state_now
 
         return {
             **state_now(file),
@@ -214,7 +214,7 @@ class Run:
         """Returns a file as a stream, and notes the state of the file."""
         begun = _Begun(None if writer is None else writer.name)
         if self._hashes is not None:
-            from ..sources.hashes import sha256_of, state_now
+            from ..sources.regular import sha256_of, state_now
 
             begun.state = state_now(file)
             begun.digest = self._hashes.submit(partial(sha256_of, file)) if is_path(file) else None
@@ -250,7 +250,7 @@ class Run:
 
     def _line(self, result: Result, begun: _Begun, sha256: str | None) -> dict[str, Any]:
         """Returns the line of a record for a file."""
-        from ..sources.hashes import time_now
+        from ..sources.regular import time_now
         from .json_output import record_object
         from .record import output_state
 
@@ -357,7 +357,7 @@ def _results(request: Request, work: Work, streams: Iterable[Stream]) -> Iterato
         with closing(results(streams, request.jobs)) as found:
             yield found
         return
-    from ..cluster.jobs import PART, Cluster, connected  # few runs need it
+    from ..cluster import PART, Cluster, connected  # few runs need it
     from ..cluster.runs import Runs
 
     if request.jobs is not None:
@@ -386,9 +386,9 @@ def run(request: Request) -> int:
     """Does the work on each file, in order, and returns the greatest status."""
     query = request if isinstance(request, Filter) else None
     if query is not None and (query.index, query.where, query.base) != (None, None, None):
-        from .cut_command import run as cut  # few runs need it
+        from .index_commands import run_cut  # few runs need it
 
-        return cut(query)
+        return run_cut(query)
     files = files_of(request, None if query is None else query.ids_from)
     ids = None if query is None else ids_of(query.id, query.ids_from, query.null)
     work = _work_of(request, ids)

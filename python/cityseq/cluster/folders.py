@@ -16,13 +16,13 @@ from ..engine.judge import Answer, Work, judge
 from ..run import Result
 from ..run.streams import Stream
 from ..sources import CHANGED, is_url
-from ..sources.hashes import BlockHash
-from ..sources.outputs import Part as NewFile
+from ..sources.outputs import Part
 from ..sources.packed import LEVEL, Packer, Packing
-from ..sources.parts import MANIFEST, Part, manifest_of, path_in
-from ..sources.ranges import RangeChunk
-from .jobs import PATIENCE, Cluster
+from ..sources.parts import MANIFEST, ListedPart, manifest_of, path_in
+from ..sources.regular import BlockHash
+from . import PATIENCE, Cluster
 from .runs import Runs
+from .tasks import RangeChunk
 
 STEP = 4 << 20  # bytes of a part that are judged before their output is written
 USUAL = 256 << 20  # bytes of the stream that a part is made of
@@ -64,7 +64,7 @@ class _Output:
     def __init__(self, path: str, packing: Packing | None = None) -> None:
         self._path, self.digest = path, BlockHash()
         self._system: Any = None
-        self._part = NewFile(path)
+        self._part = Part(path)
         if is_url(path):
             from ..sources.remote import system_of  # few runs need it
 
@@ -106,7 +106,7 @@ class _Output:
 class PartAnswer(Answer):
     """The answer for a part that was written. `part` is None if it is not whole."""
 
-    part: Part | None = None
+    part: ListedPart | None = None
 
 
 def write_part(chunk: RangeChunk, folder: Folder, work: Work) -> Answer:
@@ -131,7 +131,7 @@ def write_part(chunk: RangeChunk, folder: Folder, work: Work) -> Answer:
             assert output is not None
             _checked(output.finish, path_in(folder.path, name))
             digest = output.digest
-            part = Part(name, joined.kept + 1, joined.kept, digest.count, digest.text())
+            part = ListedPart(name, joined.kept + 1, joined.kept, digest.count, digest.text())
     except OSError as fault:
         joined.fault = fault if isinstance(fault, CityseqError) else read_fault(fault, chunk.file)
     finally:
@@ -225,7 +225,7 @@ def filter_to_folder(
     Raises:
         CityseqError: The folder is not whole, and is not there.
     """
-    parts: list[Part] = []
+    parts: list[ListedPart] = []
 
     def take(answer: Any, _: int) -> None:
         if getattr(answer, "part", None) is not None:

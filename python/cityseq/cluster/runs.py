@@ -14,18 +14,18 @@ from ..engine.judge import Answer
 from ..run.streams import Results, Stream, results_by
 from ..sources import is_path, is_url, name_of
 from ..sources.chunks import Chunk
-from ..sources.ranges import (
+from . import AHEAD, HELD, PART, Batch, Cluster, Job, Lost
+from .tasks import (
     SHORT,
     Begun,
     RangeChunks,
     Sight,
     Sizes,
     begin_all,
+    judge_packed,
     judge_range,
     sight_of,
 )
-from .jobs import AHEAD, HELD, PART, Batch, Cluster, Job, Lost
-from .tasks import judge_packed
 
 LOOKED_AT = 64  # files whose beginnings are read together
 PIECES = 3  # chunks of a file for each thread, if they are not short

@@ -22,11 +22,11 @@ from ..engine import CityseqError, RequestError, WriteFault, shown
 from ..engine.judge import Work
 from ..engine.reports import Report
 from ..indexes.index_run import Hashes, by_threads
-from ..run import Result, usual_jobs
+from ..run import Result, number_of_jobs
 from ..sources import is_path, part_of, refuse_same, size_of
-from ..sources.hashes import sha256_of, time_now
 from ..sources.outputs import Writer
 from ..sources.parts import regular_paths
+from ..sources.regular import sha256_of, time_now
 from .facts import Delivery, Run
 
 PACKAGES = {
@@ -165,10 +165,6 @@ class Lists:
         self._json.discard()
 
 
-def _nothing(result: Result) -> None:
-    """Takes the result of a file, and does nothing."""
-
-
 @dataclass
 class How:
     """How a page is made.
@@ -188,7 +184,7 @@ class How:
     title: str | None = None
     words: str = "cityseq.report"
     progress: Callable[[str, int], None] | None = None
-    take: Callable[[Result], None] = _nothing
+    take: Callable[[Result], None] = lambda result: None
     whole: bool | None = None
 
 
@@ -252,7 +248,7 @@ def report(paths: Any, output: Any, work: Work, how: How) -> Delivery:
     """Writes a page about files. Paths and output are those of `cityseq.report`."""
     names, page = checked(paths, output)
     needed("numpy") if page is None else need_all()
-    jobs = usual_jobs() if how.jobs is None else how.jobs
+    jobs = number_of_jobs(how.jobs)
     rules = work.line_limit, work.depth, work.tree, work.extensions
     run = Run(__version__, how.words, time_now(), 0.0, jobs, *rules)
     delivery = Delivery(how.title or _title(page), run)

@@ -45,7 +45,7 @@ def _state_of(path: str) -> Any:
         return None
 
 
-class Pool:
+class IndexPool:
     """An index that many threads use: each call has one to itself.
 
     Attributes:
@@ -107,7 +107,7 @@ class OpenStream:
         stream: What the index has of it.
     """
 
-    pool: Pool
+    pool: IndexPool
     stream: IndexedStream
 
     @cached_property

@@ -22,7 +22,6 @@ from ..engine.world import World
 from ..sources import CHANGED, Reader, is_url, open_raw, opened, remote_of, state_of
 from ..sources.packed import Packing, Unpacker
 from ..sources.regular import RegularFile
-from ..sources.remote import RangePlace
 from .database import INDEX_CHANGED
 
 # Finds the blocks that have the text of a stream between two places: where each begins in the text
@@ -40,6 +39,8 @@ BETWEEN = (
     " ORDER BY begin"
 )
 NEAR = 1 << 16  # bytes: lines that are nearer than this are read together
+FAR = 1 << 19  # the same by requests, each of which takes longer than to read these
+AHEAD = 1 << 16  # bytes that are read with the header
 MOST = 4 << 20  # bytes that are read together, unless one line has more
 NO_RANGES = "a packed stream has no ranges: serve it unpacked, or pack and index it again"
 SHORTER, OTHER_LINES = "the stream is shorter", "the stream has other lines"
@@ -203,6 +204,42 @@ def _confirm(stream: IndexedStream, file: Any) -> None:
         raise ReadFault(f"read fault: {CHANGED}", None, stream.path)
 
 
+class RangePlace:
+    """A stream that is read by its places, in few requests.
+
+    Attributes:
+        near: Lines with fewer bytes between them are read together.
+    """
+
+    near = FAR
+
+    def __init__(self, size: int) -> None:
+        """Takes the size of the stream."""
+        self._size = size
+        self._head = b""  # the beginning of the stream
+
+    def read(self, begin: int, end: int) -> bytes:
+        """Returns the bytes from one place to another, or as many as there are.
+
+        Raises:
+            OutOfDate: The stream is not the one of the index.
+            ReadFault: It cannot be read.
+        """
+        end = min(end, self._size)
+        if begin >= end:
+            return b""
+        if end <= len(self._head):
+            return self._head[begin:end]
+        if begin > 0:
+            return self.asked(begin, end)
+        self._head = self.asked(0, min(max(end, AHEAD), self._size))
+        return self._head[:end]
+
+    def asked(self, begin: int, end: int) -> bytes:
+        """Returns the bytes of a range."""
+        raise NotImplementedError
+
+
 class FilePlace(RangePlace):
     """The bytes of a plain file, or of one by its URL."""
 
@@ -284,7 +321,7 @@ def placed(stream: IndexedStream, base: str | None, find: Find) -> Iterator[Any]
         ReadFault: It cannot be opened or read.
     """
     if base is not None:
-        from ..sources.web import WebPlace  # few runs need it
+        from .web import WebPlace  # few runs need it
 
         with WebPlace(stream, base) as place:
             yield BlockPlace(stream, place, find) if stream.has_blocks else place

@@ -107,7 +107,7 @@ class Index:
             RequestError: The base is no URL.
         """
         if base is not None:
-            from ..sources.web import checked_base  # few runs need it
+            from .web import checked_base  # few runs need it
 
             checked_base(base)
         self.path, self.base = os.fsdecode(path), base
@@ -218,7 +218,7 @@ class Index:
         if not self.streams:
             raise self._fault("it has no streams")
         if self.base is not None:
-            from ..sources.web import url_of  # few runs need it
+            from .web import url_of  # few runs need it
 
             urls: dict[str, str] = {}
             for stream in self.streams:
@@ -491,7 +491,7 @@ class Index:
 
     def show(self) -> str:
         """Returns lines of text: what the index covers, and the ids that appear more than once."""
-        from .index_lines import lines  # few runs need it
+        from .index_run import lines  # few runs need it
 
         return "\n".join(lines(self))
 

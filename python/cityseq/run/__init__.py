@@ -296,14 +296,12 @@ class Fold:
             self._output.discard()
 
 
-def usual_jobs() -> int:
-    """Returns how many processors this process may use."""
-    return len(os.sched_getaffinity(0)) if hasattr(os, "sched_getaffinity") else os.cpu_count() or 1
-
-
 def number_of_jobs(jobs: int | None) -> int:
-    """Returns how many threads judge. Raises `RequestError` if that is no number of threads."""
-    jobs = usual_jobs() if jobs is None else jobs
+    """Returns how many threads there are: one for each processor that this process may use if it is
+    None. Raises `RequestError` if it is no number of threads."""
+    if jobs is None:
+        has_call = hasattr(os, "sched_getaffinity")
+        return len(os.sched_getaffinity(0)) if has_call else os.cpu_count() or 1
     if isinstance(jobs, bool) or not isinstance(jobs, int) or jobs < 1:
         raise RequestError(f"jobs are a whole number from 1: {jobs!r}")
     return jobs

@@ -24,10 +24,6 @@ class BodyFault(ReadFault):
     """A stream that arrives, and cannot be taken."""
 
 
-class Broken(BodyFault):
-    """One whose archive is broken."""
-
-
 class OtherPacking(BodyFault):
     """One that is packed in another way than by gzip."""
 
@@ -87,7 +83,7 @@ class Unpacking:
             try:
                 text = self._kind.more(member, part, UNPACKED)
             except self._kind.faults as fault:
-                raise Broken(f"the body is no archive of gzip: {fault}") from None
+                raise BodyFault(f"the body is no archive of gzip: {fault}") from None
             if member.eof:
                 at += len(part) - len(member.unused_data)
                 self._member, self._size, self._has_ended = None, FEW, True
@@ -101,10 +97,10 @@ class Unpacking:
         """Returns the rest.
 
         Raises:
-            Broken: The archive is cut short.
+            BodyFault: The archive is cut short.
         """
         if self._member is not None:
-            raise Broken("the body is a gzip archive that is cut short")
+            raise BodyFault("the body is a gzip archive that is cut short")
         return self._begin
 
 
@@ -173,7 +169,7 @@ class Fed:
         """Yields calls that judge the rest.
 
         Raises:
-            Broken: The body is cut short.
+            BodyFault: The body is cut short.
         """
         rest = self._unpacking.end()
         if self._whole is not None:

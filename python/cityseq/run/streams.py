@@ -275,20 +275,16 @@ def _answer_of(judge: Judge, chunk: Chunk) -> Answers:
 def _next_answers(judge: Judge, chunks: Iterator[Chunk], reading: Lock) -> Answers:
     """Reads and judges chunks: enough that to pass on the answers takes little of the time. Holds
     the lock meanwhile."""
-    with reading:
-        return _some_answers(judge, chunks)
-
-
-def _some_answers(judge: Judge, chunks: Iterator[Chunk]) -> Answers:
     answers: list[Answer] = []
     size = 0
-    for chunk in chunks:
-        answers.append(judge(chunk))
-        size += chunk.length
-        if chunk.is_last or answers[-1].status != CallStatus.COMPLETE or answers[-1].fault:
-            return answers, True
-        if size >= PART:
-            break
+    with reading:
+        for chunk in chunks:
+            answers.append(judge(chunk))
+            size += chunk.length
+            if chunk.is_last or answers[-1].status != CallStatus.COMPLETE or answers[-1].fault:
+                return answers, True
+            if size >= PART:
+                break
     return answers, not answers
 
 

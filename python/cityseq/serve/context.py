@@ -15,7 +15,7 @@ from aiohttp import web
 from ..coordinates import System
 from ..engine import RequestError
 from ..indexes.geopackage import Attribute
-from ..indexes.index_pages import OpenStream, Pool
+from ..indexes.index_pages import IndexPool, OpenStream
 from ..indexes.line_reader import NO_RANGES, IndexedStream
 from .answers import HTML, Format, Link, Links, Problem, choose, dumped, segment
 from .parameters import Parameter, Query, of_format
@@ -84,13 +84,15 @@ class Catalogue:
             RequestError: The base is no URL, or a stream that is below it is packed without blocks.
         """
         self._collections: dict[str, Collection] = {}
-        self._pools = [Pool(path, settings.base) for path in settings.indexes]
+        self._pools = [IndexPool(path, settings.base) for path in settings.indexes]
         for pool in self._pools:
             with pool.index() as index:
                 for stream in index.streams:
                     self._add(pool, stream, index.attributes)
 
-    def _add(self, pool: Pool, stream: IndexedStream, attributes: Mapping[str, Attribute]) -> None:
+    def _add(
+        self, pool: IndexPool, stream: IndexedStream, attributes: Mapping[str, Attribute]
+    ) -> None:
         if pool.base is not None and stream.is_slow:
             raise RequestError(f"{stream.path}: {NO_RANGES}")
         name = first = name_of(stream.told_path)

@@ -15,7 +15,7 @@ from aiohttp import web
 
 from ..engine import MemoryFault, give_back
 from ..indexes.index_pages import Page
-from ..run import usual_jobs
+from ..run import number_of_jobs
 from ..run.streams import Pool
 from .answers import Problem, accepted
 from .settings import Limits
@@ -101,9 +101,9 @@ PAUSE = 1.0  # seconds after a body until free memory is given back
 class Calls:
     """Threads that make calls for the tasks of an event loop, at most `jobs` at once."""
 
-    def __init__(self, jobs: Any = None) -> None:
+    def __init__(self, jobs: int | None = None) -> None:
         """Takes the number of threads; None is one for each processor."""
-        self.jobs: int = usual_jobs() if jobs is None else jobs
+        self.jobs = number_of_jobs(jobs)
         self.bodies = 0  # those that are judged now
         self._crew = Pool(self.jobs)
         self._ending: asyncio.TimerHandle | None = None

@@ -429,25 +429,18 @@ def part_of(path: str) -> str | None:
     return None if target is None else target + UNFINISHED
 
 
-def _state(thing: Any, standard: int) -> os.stat_result:
-    """Returns the system's state of a source or an output. `-` is the given standard descriptor."""
-    if is_path(thing):
-        return os.stat(thing)
-    return os.fstat(standard if isinstance(thing, str) else thing.fileno())
-
-
 def identity(thing: Any, standard: int) -> Identity | None:
-    """Returns the device and the inode of the file of a source or an output. None if it does not
-    exist, or is neither a regular file nor a block device."""
+    """Returns the device and the inode of the file of a source or an output. `-` is the given
+    standard descriptor. None if the file does not exist, or is neither a regular file nor a block
+    device."""
     try:
-        state = _state(thing, standard)
+        if not is_path(thing):
+            thing = standard if isinstance(thing, str) else thing.fileno()
+        state = os.stat(thing)
     except (AttributeError, OSError, ValueError):
         return None
-    return (
-        (state.st_dev, state.st_ino)
-        if stat.S_ISREG(state.st_mode) or stat.S_ISBLK(state.st_mode)
-        else None
-    )
+    is_kept = stat.S_ISREG(state.st_mode) or stat.S_ISBLK(state.st_mode)
+    return (state.st_dev, state.st_ino) if is_kept else None
 
 
 def _written_for(outputs: Iterable[Any]) -> Iterator[tuple[str, Any]]:

@@ -12,9 +12,9 @@ from contextlib import suppress
 from functools import partial
 from typing import IO, Any, Union
 
-from ..engine import RequestError, WriteFault, write_fault
+from ..engine import RequestError, Text, WriteFault, write_fault
 from . import UNFINISHED, is_path, name_of, target_of, wait_for, write_all
-from .packed import LEVEL, Packer, Packing, Text, pack, packing_by_name, require
+from .packed import LEVEL, Packer, Packing, pack, packing_by_name, require
 
 Target = Union[str, bytes, "os.PathLike[Any]", IO[bytes]]
 
@@ -52,10 +52,9 @@ def _new_name(target: str) -> str:
 
 def _mode_of(path: str) -> int | None:
     """Returns the mode of a file, or None if there is none."""
-    try:
+    with suppress(OSError):
         return stat.S_IMODE(os.stat(path).st_mode)
-    except OSError:
-        return None
+    return None
 
 
 class Part:

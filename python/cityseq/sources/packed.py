@@ -14,7 +14,8 @@ from collections.abc import Callable
 from importlib import import_module
 from typing import IO, Any
 
-Text = bytes | bytearray | memoryview
+from ..engine import Text as Text
+
 Note = Callable[[int, int, bool], None]
 
 READ = 1 << 17  # bytes of an archive that are read at once

@@ -11,15 +11,15 @@ from typing import Any
 
 from ..engine import RequestError, read_fault
 from . import PIECE, TextsFile, is_path, is_url, open_raw
-from .hashes import BlockHash
 from .packed import Packing, Unpacker, packing_of
+from .regular import BlockHash
 
 MANIFEST, KIND = "_manifest.json", "cityseq parts"
 HEAD = 1 << 16  # bytes that are read at once for a header
 
 
 @dataclass(frozen=True)
-class Part:
+class ListedPart:
     """A part in a manifest: its name, what is in it, and the hash of its bytes."""
 
     name: str
@@ -34,7 +34,7 @@ def path_in(folder: str, name: str) -> str:
     return f"{folder.rstrip('/')}/{name}" if is_url(folder) else os.path.join(folder, name)
 
 
-def manifest_of(parts: list[Part], program: str) -> bytes:
+def manifest_of(parts: list[ListedPart], program: str) -> bytes:
     """Returns the text of a manifest."""
     told = {
         "kind": KIND,
@@ -47,13 +47,13 @@ def manifest_of(parts: list[Part], program: str) -> bytes:
     return json.dumps(told, indent=1).encode() + b"\n"
 
 
-def parts_in(folder: str) -> list[Part]:
+def parts_in(folder: str) -> list[ListedPart]:
     """Returns the parts of a folder. Raises `OSError` if it has no manifest of this package."""
     with open_raw(path_in(folder, MANIFEST)) as file:
         text = file.read()
     try:
         told = json.loads(text)
-        parts = [Part(**each) for each in told["parts"]]
+        parts = [ListedPart(**each) for each in told["parts"]]
         is_right = told["kind"] == KIND and parts and all(map(_is_plain, parts))
     except (KeyError, TypeError, ValueError, RecursionError):
         is_right = False
@@ -62,7 +62,7 @@ def parts_in(folder: str) -> list[Part]:
     return parts
 
 
-def _is_plain(part: Part) -> bool:
+def _is_plain(part: ListedPart) -> bool:
     name = part.name
     return isinstance(name, str) and name.startswith("part-") and not {"/", "\0"} & set(name)
 
@@ -134,7 +134,7 @@ def open_parts(folder: str) -> TextsFile:
     return TextsFile(folder, _texts(folder, parts_in(folder)))
 
 
-def _texts(folder: str, parts: list[Part]) -> Generator[bytes, None, None]:
+def _texts(folder: str, parts: list[ListedPart]) -> Generator[bytes, None, None]:
     """Yields the text of the first part, and of each other one its lines without the header."""
     header = b""
     for part in parts:

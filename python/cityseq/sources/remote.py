@@ -12,18 +12,12 @@ from typing import Any
 from urllib.parse import urlsplit
 
 from ..engine import CityseqError, RequestError, why
+from . import name_of
 
 BLOCK = 4 << 20  # bytes of one request for lines that follow each other
 BUFFER = 1 << 20  # bytes that are read ahead of what is read once, such as a header
-NEAR = 1 << 19  # bytes: a request takes longer than to read these
-AHEAD = 1 << 16  # bytes that are read with the header
 # What shows that a file has changed, by the names that file systems give it.
 MARKS = "ETag etag Content-MD5 md5Hash LastModified last_modified updated mtime".split()
-
-
-def name_of_url(url: str) -> str:
-    """Returns the name of a file by its URL, without the query, which may have a key in it."""
-    return url.partition("?")[0]
 
 
 def system_of(url: str) -> tuple[Any, str]:
@@ -40,7 +34,7 @@ def system_of(url: str) -> tuple[Any, str]:
         return found
     except ImportError as missing:
         words = f"a URL needs fsspec and its package for this scheme: {why(missing)}"
-        raise CityseqError(words, None, name_of_url(url)) from None
+        raise CityseqError(words, None, name_of(url)) from None
     except Exception as fault:
         raise OSError(_words(fault)) from None
 
@@ -160,39 +154,3 @@ class _Raw(io.RawIOBase):
 def open_url(url: str) -> io.BufferedReader:
     """Opens the file of a URL. Raises `OSError` if that is not possible."""
     return io.BufferedReader(_Raw(RemoteFile(url)), BUFFER)
-
-
-class RangePlace:
-    """A stream that is read by its places, in few requests.
-
-    Attributes:
-        near: Lines with fewer bytes between them are read together.
-    """
-
-    near = NEAR
-
-    def __init__(self, size: int) -> None:
-        """Takes the size of the stream."""
-        self._size = size
-        self._head = b""  # the beginning of the stream
-
-    def read(self, begin: int, end: int) -> bytes:
-        """Returns the bytes from one place to another, or as many as there are.
-
-        Raises:
-            OutOfDate: The stream is not the one of the index.
-            ReadFault: It cannot be read.
-        """
-        end = min(end, self._size)
-        if begin >= end:
-            return b""
-        if end <= len(self._head):
-            return self._head[begin:end]
-        if begin > 0:
-            return self.asked(begin, end)
-        self._head = self.asked(0, min(max(end, AHEAD), self._size))
-        return self._head[:end]
-
-    def asked(self, begin: int, end: int) -> bytes:
-        """Returns the bytes of a range."""
-        raise NotImplementedError

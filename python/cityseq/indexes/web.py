@@ -18,8 +18,7 @@ from urllib.request import getproxies, proxy_bypass
 
 from .. import __version__
 from ..engine import CityseqError, OutOfDate, ReadFault, RequestError, read_fault
-from ..indexes.line_reader import SHORTER, IndexedStream
-from .remote import RangePlace
+from .line_reader import SHORTER, IndexedStream, RangePlace
 
 REDIRECTIONS = 5
 MOVED = (301, 302, 303, 307, 308)
@@ -43,7 +42,7 @@ FAULTS = (OSError, ValueError, urllib3.exceptions.HTTPError)
 _current = threading.local()  # the watch of the answer that this thread waits for
 
 
-class Watch:
+class AnswerWatch:
     """Watches an answer from a thread of its own. If fewer than `LEAST_RATE` bytes a second come
     during `PATIENCE` seconds, it closes the connection. So an answer of `size` bytes ends within
     `size / LEAST_RATE + 2 * PATIENCE` seconds, whatever the server sends.
@@ -61,7 +60,7 @@ class Watch:
         self._is_ended = threading.Event()
         self._thread = threading.Thread(target=self._run, name="watch", daemon=True)
 
-    def __enter__(self) -> Watch:
+    def __enter__(self) -> AnswerWatch:
         self._thread.start()
         _current.watch = self
         return self
@@ -166,7 +165,7 @@ def _proxy_for(parts: SplitResult) -> str | None:
     return url
 
 
-def ask(url: str, headers: Any, watch: Watch) -> Any:
+def ask(url: str, headers: Any, watch: AnswerWatch) -> Any:
     """Returns the answer to a request, before its body is read. The server may have closed a kept
     connection in the meantime: then the request is made again.
 
@@ -252,7 +251,7 @@ class WebPlace(RangePlace):
 
     def asked(self, begin: int, end: int) -> bytes:
         """Returns the bytes of a range that the server sends."""
-        with Watch() as watch:
+        with AnswerWatch() as watch:
             try:
                 answer = self._answer(begin, end, watch)
                 try:
@@ -283,7 +282,7 @@ class WebPlace(RangePlace):
     def _fault(self, words: str) -> ReadFault:
         return ReadFault(f"read fault: {words}", None, self._told)
 
-    def _answer(self, begin: int, end: int, watch: Watch) -> Any:
+    def _answer(self, begin: int, end: int, watch: AnswerWatch) -> Any:
         """Returns the answer of the server, after its redirections."""
         for _ in range(REDIRECTIONS + 1):
             headers = {
@@ -313,7 +312,7 @@ class WebPlace(RangePlace):
         else:
             answer.close()
 
-    def _checked(self, answer: Any, begin: int, end: int, watch: Watch) -> bytes:
+    def _checked(self, answer: Any, begin: int, end: int, watch: AnswerWatch) -> bytes:
         """Returns the body of an answer, if it is the range that was asked for."""
         stream = self._stream
         if answer.status == 200:
@@ -338,7 +337,7 @@ class WebPlace(RangePlace):
         self._state = state
         return self._body(answer, end - begin, watch)
 
-    def _body(self, answer: Any, size: int, watch: Watch) -> bytes:
+    def _body(self, answer: Any, size: int, watch: AnswerWatch) -> bytes:
         pieces: list[bytes] = []
         while watch.count < size:
             piece = answer.read(min(PIECE, size - watch.count))

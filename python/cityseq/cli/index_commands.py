@@ -1,14 +1,16 @@
-"""The command `filter --index`."""
+"""The commands `filter --index` and `index`."""
 from __future__ import annotations
 
+import json
 import os
 from collections.abc import Iterator, Sequence
 from contextlib import contextmanager, suppress
 from functools import partial
-from typing import Any
+from typing import TYPE_CHECKING, Any
 
-from ..engine import USUAL_DEPTH, USUAL_LINE, RequestError, shown
-from ..engine.judge import Work
+from .. import __version__
+from ..engine import USUAL_DEPTH, USUAL_LINE, RequestError, keep_room, quoted, shown
+from ..engine.judge import Work, asked
 from ..indexes.cut import cut, cut_each
 from ..indexes.line_reader import IndexedStream
 from ..indexes.lookup import Index
@@ -18,8 +20,12 @@ from ..sources.outputs import Limit, Writer
 from ..sources.packed import LEVEL
 from .filter_outputs import make_folder, targets_of
 from .options import RULES, Filter
-from .output import Bar, printer_for, say
-from .stream_commands import ids_of, texts_of, unmatched_of
+from .output import Bar, printer_for, put, say
+from .stream_commands import files_of, ids_of, texts_of, total_of, unmatched_of
+
+if TYPE_CHECKING:
+    from ..indexes.builder import Wanted
+    from .requests import WriteIndex
 
 # Options of `filter` that an index has no answer to, and why.
 UNFIT = {
@@ -34,7 +40,7 @@ UNFIT = {
 }
 
 
-def run(request: Filter) -> int:
+def run_cut(request: Filter) -> int:
     """Cuts streams by an index, and returns the status."""
     if request.index is None:
         if request.where is None:
@@ -151,3 +157,117 @@ def _results(
     folders = [os.path.dirname(output) for output in outputs]
     with _folders(list(dict.fromkeys([request.output_dir, *folders]))):
         return cut_each(index, work, output_of, request.jobs, writer, limit)
+
+
+def run_index(request: WriteIndex) -> int:
+    """Writes, refreshes or shows an index, and returns the status."""
+    if request.show is None and request.refresh is None:
+        return _build(request)
+    has_more = request.files or request.files_from is not None or request.output is not None
+    if has_more or None not in (request.show, request.refresh):
+        option = "--show" if request.refresh is None else "--refresh"
+        raise RequestError(f"{option} takes the name of an index alone")
+    return _show(request) if request.refresh is None else _refresh(request)
+
+
+def _show(request: WriteIndex) -> int:
+    from ..indexes.index_run import shown_object  # no cut needs it
+
+    with Index(request.show) as index:
+        put(json.dumps(shown_object(index, __version__)) if request.json else index.show())
+    return 0
+
+
+def _refresh(request: WriteIndex) -> int:
+    """Writes the new times of streams with the same content into an index."""
+    from ..indexes.index_run import refresh  # no cut needs it
+
+    if request.json:
+        raise RequestError("--refresh writes no JSON: leave --json out")
+    streams, new = refresh(request.refresh or "", request.jobs)
+    if not request.quiet:
+        put(f"streams {streams} refreshed {new}")
+    return 0
+
+
+def _wanted(request: WriteIndex) -> Wanted:
+    """Returns what the index has of the lines."""
+    from ..attributes import ALL  # no cut needs it
+    from ..attributes.columns import checked_names
+    from ..indexes.builder import Wanted
+
+    names = request.attributes
+    if request.cluster is not None:
+        for option, is_given in (("footprints", request.footprints), ("attributes", names)):
+            if is_given:
+                raise RequestError(f"--{option} and --cluster do not go together")
+    if names is None:
+        return Wanted(request.footprints)
+    listed = [name for name in names if name is not None]
+    return Wanted(request.footprints, checked_names(ALL if len(listed) < len(names) else listed))
+
+
+def _build(request: WriteIndex) -> int:
+    """Writes an index and the result of each file."""
+    from ..indexes.builder import Builder  # no cut needs it
+    from ..indexes.index_run import Indexed, by_threads, checked, written
+
+    output = request.output
+    if output is None or output == "-":
+        raise RequestError("an index is written to a file: name it by --output")
+    wanted = _wanted(request)
+    named = files_of(request)
+    refuse_read([*named, request.files_from], [output])
+    files = checked(named, output)
+    work = asked("check", **request.rules)
+    keep_room()
+    worst = 0
+    with Bar(total_of(files, request.progress), request.progress) as bar:
+        printer = printer_for(request, bar, len(files) > 1)
+
+        def take(result: Result) -> None:
+            nonlocal worst
+            worst = max(worst, result.status)
+            printer.result(result)
+
+        builder = Builder(output, wanted)
+        size, is_elsewhere = request.part_size, request.cluster is not None
+        streams = (
+            Indexed(
+                number,
+                file,
+                work,
+                builder,
+                size,
+                printer.report,
+                partial(bar.add, file),
+                is_elsewhere,
+            )
+            for number, file in enumerate(files, 1)
+        )
+        begun: list[Indexed] = []
+        noted = (begun.append(each) or each for each in streams)  # type: ignore[func-returns-value]
+        if request.cluster is None:
+            written(builder, lambda: by_threads(noted, request.jobs), work, take)
+        else:
+            from ..cluster import PART, connected  # few runs need it
+            from ..dask import write_index
+
+            with connected(request.cluster) as client:
+                write_index(client, builder, noted, work, request.part_size or PART, take)
+        printer.close()
+    if not request.quiet and not request.json:
+        _say_slow([each.path for each in begun if each.is_slow])
+        for name in builder.unmet:
+            say(f"no feature has a value of the attribute {quoted(name)}")
+    return worst
+
+
+def _say_slow(packed: list[str]) -> None:
+    """Says which packed streams a cut unpacks from their beginning, and what ends that."""
+    if packed:
+        several = f"{len(packed):,} packed streams"
+        say(
+            f"{shown(packed[0]) if len(packed) == 1 else several}: a cut unpacks all of it;"
+            " run 'cityseq-run pack' on it and index it again, to make cuts fast"
+        )

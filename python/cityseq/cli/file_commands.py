@@ -1,15 +1,26 @@
-"""The command `pack`: packs files in blocks (BGZF), so that they can be cut. It also verifies
-archives."""
+"""The commands that make files of files: `pack`, `split`, `collect` and `report`. `pack` makes
+blocks (BGZF), so that archives can be cut. It also verifies archives."""
 from __future__ import annotations
 
+import json
 import os
+import shlex
 from collections import deque
 from collections.abc import Callable, Iterator, Sequence
 from dataclasses import dataclass, field
 from functools import partial
 
-from ..engine import READ_FAULTS, CityseqError, ReadFault, RequestError, read_fault, shown
-from ..run import number_of_jobs
+from ..engine import (
+    READ_FAULTS,
+    CityseqError,
+    ReadFault,
+    RequestError,
+    keep_room,
+    read_fault,
+    shown,
+)
+from ..engine.judge import asked
+from ..run import Result, number_of_jobs
 from ..run.streams import Job, Pool
 from ..sources import CHANGED, PIECE, Reader, Watch, opened, refuse_read, watch_of
 from ..sources.outputs import Writer
@@ -23,8 +34,10 @@ from ..sources.packed import (
     is_block,
     packing_by_name,
 )
-from .output import Bar, put, say
-from .requests import Pack
+from . import program_name
+from .options import options_of
+from .output import Bar, counts, put, say
+from .requests import CollectStreams, Pack, SplitFile, WriteReport
 from .stream_commands import files_of, total_of
 
 TOGETHER = 16 * BLOCK  # bytes of text that a thread packs
@@ -33,7 +46,7 @@ Progress = Callable[[int], None]
 
 
 @dataclass(frozen=True)
-class Sizes:
+class ArchiveSize:
     """How long an archive is: its text, and its file. `blocks` is None if it is not of blocks."""
 
     text: int
@@ -72,7 +85,7 @@ def _pieces(reader: Reader, watch: Watch | None, progress: Progress) -> Iterator
 
 def pack_file(
     path: str, output: str, jobs: int, level: int = LEVEL, progress: Progress = lambda size: None
-) -> Sizes:
+) -> ArchiveSize:
     """Packs a file in blocks, and returns how long the archive is. The output is whole or absent.
 
     Args:
@@ -94,7 +107,7 @@ def pack_file(
         writer.close(True)
     finally:
         writer.discard()
-    return Sizes(text, os.path.getsize(output))
+    return ArchiveSize(text, os.path.getsize(output))
 
 
 def _pack(pieces: Iterator[bytes], writer: Writer, pool: Pool, most: int) -> int:
@@ -139,7 +152,7 @@ class _Members:
         self.are_all, self._last = self.are_all and is_block, place
 
 
-def verify_file(path: str, progress: Progress = lambda size: None) -> Sizes:
+def verify_file(path: str, progress: Progress = lambda size: None) -> ArchiveSize:
     """Reads an archive whole, and returns how long it is.
 
     Args:
@@ -166,10 +179,10 @@ def verify_file(path: str, progress: Progress = lambda size: None) -> Sizes:
         if watch.is_changed():
             raise ReadFault(f"read fault: {CHANGED}", None, path)
         is_of_blocks = members.are_all and unpacker.packing is Packing.GZIP
-        return Sizes(text, unpacker.taken, members.blocks if is_of_blocks else None)
+        return ArchiveSize(text, unpacker.taken, members.blocks if is_of_blocks else None)
 
 
-def run(request: Pack) -> int:
+def run_pack(request: Pack) -> int:
     """Packs or verifies each file, in order, and returns the greatest status."""
     if not request.files and request.files_from is None:
         raise RequestError("pack takes files: name each FILE")
@@ -226,7 +239,7 @@ def _done(request: Pack, file: str, output: str, bar: Bar) -> str:
     return _told("packed", pack_file(file, output, jobs, level, partial(bar.add, file)))
 
 
-def _told(what: str, sizes: Sizes) -> str:
+def _told(what: str, sizes: ArchiveSize) -> str:
     blocks = "" if sizes.blocks is None else f" blocks={sizes.blocks}"
     return f"{what} text={sizes.text} bytes={sizes.file}{blocks}"
 
@@ -238,3 +251,95 @@ def _begins_with_block(path: str) -> bool:
             return is_block(file.read(HEAD))
     except OSError:
         return False
+
+
+def run_split(request: SplitFile) -> int:
+    """Makes a stream of a whole file, and returns the status."""
+    from ..convert.splitting import split  # no other command needs it
+
+    if len(request.files) > 1:
+        raise RequestError("split takes one FILE: name the output by --output")
+    file = request.files[0] if request.files else "-"
+    refuse_read([file], [request.output])
+    made = split(file, request.output, line_limit=request.line_limit)
+    _print_counts(
+        request, f"features={made.features} objects={made.objects} vertices={made.vertices}"
+    )
+    return 0
+
+
+def run_collect(request: CollectStreams) -> int:
+    """Makes one whole file of streams, and returns the status."""
+    from ..convert.collecting import collect  # no other command needs it
+
+    files = files_of(request)
+    refuse_read([*files, request.files_from], [request.output])
+    made = collect(list(files), request.output, line_limit=request.line_limit, depth=request.depth)
+    _print_counts(
+        request, f"features={made.features} objects={made.objects} vertices={made.vertices}"
+    )
+    if not request.quiet:
+        for note in made.notes:
+            say(shown(note))
+    return 0
+
+
+def _print_counts(request: SplitFile | CollectStreams, counts: str) -> None:
+    """Prints the counts, unless the output is there."""
+    if request.output != "-" and not request.quiet:
+        put(counts)
+
+
+def run_report(request: WriteReport) -> int:
+    """Writes a report about files, and returns the status."""
+    from ..delivery import How, checked, report  # no other command needs it
+
+    output = None if request.output == "-" else request.output
+    if output is None and not request.json:
+        raise RequestError("a report is written to a file: name it by --output")
+    if not request.files and request.files_from is None:
+        raise RequestError("a report is about files: name each FILE")
+    named = files_of(request)
+    refuse_read([*named, request.files_from], [output])
+    files, _ = checked(named, output)
+    work = asked("check", **{**request.rules, "keep_going": True})
+    keep_room()
+    with Bar(total_of(files, request.progress), request.progress) as bar:
+
+        def take(result: Result) -> None:
+            bar.clear()
+            _print_result(result, request)
+
+        words = _words(request)
+        whole = request.whole or None
+        how = How(request.jobs, request.part_size, request.title, words, bar.add, take, whole)
+        delivery = report(files, output, work, how)
+    if request.json:
+        put(json.dumps(delivery.json_object()))
+    return delivery.status
+
+
+def _words(request: WriteReport) -> str:
+    """Returns a command line that has the same effect."""
+    words = [program_name(), "report"]
+    for option in options_of(WriteReport):
+        value = getattr(request, option.field)
+        if value != option.usual:
+            words += [f"--{option.name}", *([] if option.value is None else [str(value)])]
+    return shlex.join([*words, *request.files])
+
+
+def _print_result(result: Result, request: WriteReport) -> None:
+    """Prints the result of a file."""
+    name = shown(result.file)
+    if result.fault is not None:
+        say(f"{shown(result.fault_file or result.file)}: {shown(result.fault)}")
+    elif request.json or request.quiet:
+        return
+    elif result.end is not None:
+        say(f"{name}: {result.end}")
+        for hint in result.hints:
+            say(f"{name}: {hint}")
+    else:
+        numbers = counts(result.lines, result.features, result.refused)
+        put(f"{name}: {result.status.verdict} {numbers}")
