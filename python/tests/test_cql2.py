@@ -14,7 +14,7 @@ from unittest import mock
 import cityseq
 from cityseq import RequestError
 from cityseq.attributes import cql2
-from cityseq.attributes.where import Pattern, bound, instant
+from cityseq.attributes.cql2 import Pattern, bound, instant
 from cityseq.indexes import database
 
 from .support import HEADER, InFolder, command

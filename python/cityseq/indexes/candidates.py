@@ -16,8 +16,7 @@ from .geopackage import TREE, Attribute
 from .geopackage import quoted as named
 
 if TYPE_CHECKING:
-    from ..attributes.cql2 import Filter
-    from ..attributes.where import Condition
+    from ..attributes.cql2 import Condition, Filter
 
 CREATE_WANTED = "CREATE TEMP TABLE wanted (id TEXT, exact BLOB)"
 # The features that have an id of `temp.wanted`.
@@ -153,7 +152,7 @@ def condition_of(
         RequestError: It is no filter, or has no meaning for these attributes.
     """
     from ..attributes.cql2 import parsed  # few runs need it
-    from ..attributes.where import Translation
+    from ..attributes.cql2 import Translation
 
     base.know_filters()
     filter = parsed(where) if isinstance(where, str) else where

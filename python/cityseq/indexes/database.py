@@ -172,7 +172,7 @@ class Database:
 
     def know_filters(self) -> None:
         """Gives SQL the functions that filters call."""
-        from ..attributes.where import INSTANT, LIKE, instant, is_like  # few runs need it
+        from ..attributes.cql2 import INSTANT, LIKE, instant, is_like  # few runs need it
 
         def is_like_soon(pattern: Any, text: Any) -> bool | None:
             try:

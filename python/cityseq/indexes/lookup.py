@@ -36,8 +36,7 @@ from .line_reader import (
 )
 
 if TYPE_CHECKING:
-    from ..attributes.cql2 import Filter
-    from ..attributes.where import Condition
+    from ..attributes.cql2 import Condition, Filter
 
 TOGETHER = 500  # footprints of one query: older versions of SQLite take at most 999 values
 REPEATED = (
