@@ -14,12 +14,14 @@ from unittest import mock
 
 import cityseq
 from cityseq.engine.judge import asked
-from cityseq.run.feed import Fed, Unpacking
 from cityseq.sources.packed import Gzip
 
 from . import support
 from .serving import EXAMPLES, MISSING, Served, Within, rest_of
 from .support import HEADER, command, feature
+
+if not MISSING:
+    from cityseq.serve.bodies import Fed, Unpacking
 
 
 @unittest.skipIf(MISSING, MISSING)
@@ -135,7 +137,7 @@ class Verdicts(Served):
             except cityseq.InvalidStream as fault:
                 wanted = fault.result
             body = gzip.compress(text) if seed % 3 == 0 else text
-            with mock.patch("cityseq.run.feed.SMALL", chance.choice((1, 300, 1 << 19))):
+            with mock.patch("cityseq.serve.bodies.SMALL", chance.choice((1, 300, 1 << 19))):
                 fed = Fed(asked("filter", **options), Unpacking(None, 1 << 30), 1_000, False)
                 kept = b""
                 while body:
@@ -194,7 +196,7 @@ class Verdicts(Served):
             (gzip.compress(text) + bytes(1 << 18), 4),
         ):
             given.clear()
-            with mock.patch("cityseq.run.feed.Gzip", Counted):
+            with mock.patch("cityseq.serve.bodies.Gzip", Counted):
                 unpacking = Unpacking(True, 1 << 30)
             found = b"".join(
                 piece

@@ -13,9 +13,8 @@ from .serving import MISSING, Served, Serving, Within, rest_of
 from .support import HEADER, command, feature
 
 if not MISSING:
-    from cityseq.run.feed import Fed
     from cityseq.serve.answers import Problem
-    from cityseq.serve.bodies import Body, Judgement
+    from cityseq.serve.bodies import Body, Fed, Judgement
     from cityseq.serve.sending import Pace, Places
     from cityseq.serve.settings import Limits
 

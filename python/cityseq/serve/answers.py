@@ -26,16 +26,34 @@ from ..engine import (
 )
 from ..engine.world import deep
 from ..indexes.index_pages import Replaced
-from ..run.feed import BodyFault, OtherPacking, TooLong
 from .settings import Settings
 
 LONGEST_DETAIL = 1_000  # characters of a detail: it may contain what a client sent
 NO_DESCRIPTOR = (errno.EMFILE, errno.ENFILE)
-CLIENTS = (InvalidStream, RequestError, BodyFault, Replaced)  # faults that clients cause
 SOON = {"Retry-After": "1"}
 LONGEST_NAME = 100  # characters of the name of a file
 Link = dict[str, str]
 LONGEST_HEADER = 2_000  # characters of a header with links
+
+
+class BodyFault(ReadFault):
+    """A stream that arrives, and cannot be taken."""
+
+
+class OtherPacking(BodyFault):
+    """One that is packed in another way than by gzip."""
+
+
+class TooLong(BodyFault):
+    """One that is longer than its limit."""
+
+    @classmethod
+    def than(cls, limit: int) -> TooLong:
+        """Returns the fault of one that is longer than this."""
+        return cls(f"a body has at most {limit:,} bytes, also after it is unpacked")
+
+
+CLIENTS = (InvalidStream, RequestError, BodyFault, Replaced)  # faults that clients cause
 
 
 class Problem(Exception):
