@@ -15,7 +15,7 @@ from dataclasses import dataclass, field
 from importlib import import_module
 from typing import TYPE_CHECKING, Any, TextIO
 
-from ..engine import fitting, quoted, shown, write_fault
+from ..engine import quoted, shown, write_fault
 from ..run import Info, Result
 from ..sources import size_of, write_all
 from .options import Check, Request
@@ -99,9 +99,10 @@ def write_whole_outputs() -> None:
             setattr(sys, name, _whole(output, name == "stderr" or output.isatty()))
 
 
-def encoding() -> str:
-    """Returns the encoding of standard error."""
-    return getattr(sys.stderr, "encoding", None) or "utf-8"
+def fitting(text: str) -> str:
+    """Returns a text with a replacement for each character that standard error cannot have."""
+    encoding = getattr(sys.stderr, "encoding", None) or "utf-8"
+    return text.encode(encoding, "replace").decode(encoding)
 
 
 def is_terminal(output: Any) -> bool:
@@ -354,7 +355,7 @@ class Printer:
         if report.id is not None:
             yield f"    feature {quoted(report.id)}"
         if report.excerpt:
-            yield f"    {fitting(report.excerpt, encoding())}"
+            yield f"    {fitting(report.excerpt)}"
             yield f"    {' ' * report.column}{self._painted(GREEN, '^')}"
         if report.met is not None:
             yield f"    Hint: {report.met}."

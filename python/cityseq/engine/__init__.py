@@ -154,19 +154,15 @@ def shown(text: str) -> str:
     return text if text.isprintable() else "".join(map(_escaped, text))
 
 
+def shortened(text: str, most: int) -> str:
+    """Returns a text, or its first characters and an ellipsis if it has more than `most`."""
+    return text if len(text) <= most else f"{text[:most]}\u2026"
+
+
 def quoted(text: str) -> str:
     """Returns a text as a JSON string. Characters that can be printed are not escaped. A long text
     is cut after its beginning."""
-    return shown(
-        json.dumps(
-            text if len(text) <= MOST_SHOWN else f"{text[:MOST_SHOWN]}\u2026", ensure_ascii=False
-        )
-    )
-
-
-def fitting(text: str, encoding: str) -> str:
-    """Returns a text with a replacement for each character that the encoding lacks."""
-    return text.encode(encoding, "replace").decode(encoding)
+    return shown(json.dumps(shortened(text, MOST_SHOWN), ensure_ascii=False))
 
 
 class CallStatus(enum.IntEnum):

@@ -21,6 +21,7 @@ from ..engine import (
     OutOfDate,
     ReadFault,
     RequestError,
+    shortened,
     shown,
     why,
 )
@@ -72,16 +73,11 @@ class Problem(Exception):
     def told(self) -> dict[str, Any]:
         """Returns the members of the problem."""
         title = HTTPStatus(self.status).phrase
-        detail = (
-            self.detail
-            if len(self.detail) <= LONGEST_DETAIL
-            else f"{self.detail[:LONGEST_DETAIL]}\u2026"
-        )
         return {
             "type": "about:blank",
             "title": title,
             "status": self.status,
-            "detail": shown(detail),
+            "detail": shown(shortened(self.detail, LONGEST_DETAIL)),
             "code": title.title().replace(" ", "").replace("-", ""),
         }
 
