@@ -18,7 +18,7 @@ from typing import Any
 
 from .. import __version__
 from ..cli.json_output import report_object
-from ..engine import CityseqError, RequestError, WriteFault, shown
+from ..engine import CityseqError, RequestError, WriteFault, shortened, shown
 from ..engine.judge import Work
 from ..engine.reports import Report
 from ..indexes.index_run import Hashes, by_threads
@@ -91,8 +91,7 @@ def names_of_lists(page: str) -> tuple[str, str]:
 def cell(text: str) -> str:
     """Returns a text as a cell, on one line. No spreadsheet takes it for a formula, or a part of it
     if another sign separates cells there."""
-    short = text if len(text) <= LONGEST else f"{text[:LONGEST]}\u2026"
-    told = LATER_CELL.sub(r"\1'", shown(short))
+    told = LATER_CELL.sub(r"\1'", shown(shortened(text, LONGEST)))
     return f"'{told}" if text.startswith(FORMULAS) or told.startswith(FORMULAS) else told
 
 
@@ -209,24 +208,20 @@ def checked(paths: Any, output: Any) -> tuple[list[str], str | None]:
     return named, os.fsdecode(output)
 
 
-class _Output:
+class _Output(Lists):
     """The page, and the lists next to it."""
 
-    def __init__(self, names: Sequence[str], output: str) -> None:
-        refuse_same(names, [output, *names_of_lists(output)])
-        self.page = Writer(output)
-        self.lists = Lists(output)
+    def __init__(self, names: Sequence[str], page: str) -> None:
+        refuse_same(names, [page, *names_of_lists(page)])
+        super().__init__(page)
+        self._page = Writer(page)
 
     def open(self) -> None:
-        """Opens all files. An interrupt may come at once, so who calls it must call `discard`.
+        """Opens all files. An interrupt may come at once, so who calls it must call `discard`."""
+        super().open()
+        self._page.write(b"")
 
-        Raises:
-            WriteFault: One cannot be opened.
-        """
-        self.lists.open()
-        self.page.write(b"")
-
-    def close(self, delivery: Delivery) -> None:
+    def finish(self, delivery: Delivery) -> None:
         """Writes the page, and gives all files their names.
 
         Raises:
@@ -234,14 +229,13 @@ class _Output:
         """
         from .page import html
 
-        self.page.write(html(delivery).encode("utf-8"))
-        self.lists.close()
-        self.page.close(True)
+        self._page.write(html(delivery).encode("utf-8"))
+        self.close()
+        self._page.close(True)
 
     def discard(self) -> None:
-        """Removes files that are not whole."""
-        self.lists.discard()
-        self.page.discard()
+        super().discard()
+        self._page.discard()
 
 
 def report(paths: Any, output: Any, work: Work, how: How) -> Delivery:
@@ -256,10 +250,10 @@ def report(paths: Any, output: Any, work: Work, how: How) -> Delivery:
     try:
         if made is not None:
             made.open()
-        _survey(delivery, names, work, how, None if made is None else made.lists)
+        _survey(delivery, names, work, how, made)
         if made is not None:
-            delivery.report_files = tuple(os.path.basename(name) for name in made.lists.names)
-            made.close(delivery)
+            delivery.report_files = tuple(map(os.path.basename, made.names))
+            made.finish(delivery)
         return delivery
     finally:
         if made is not None:
