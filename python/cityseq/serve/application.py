@@ -20,7 +20,7 @@ from aiohttp import web
 from .. import __version__
 from ..cli.output import say
 from ..coordinates import around
-from ..engine import CityseqError, shown
+from ..engine import CityseqError, shortened, shown
 from ..engine.world import deep
 from ..indexes.index_pages import Found
 from . import bodies
@@ -75,7 +75,7 @@ ALLOWED = {
 def brief(text: str) -> str:
     """Returns a text from a stream as a page shows it: one line, without the rest if it is long.
     Characters that cannot be printed are escaped, so that none changes the line."""
-    return shown(text if len(text) <= LONGEST else f"{text[:LONGEST]}\u2026")
+    return shown(shortened(text, LONGEST))
 
 
 def told(value: Any) -> str:
@@ -293,13 +293,12 @@ class Server:
         self._looked = now
         if await self.calls.call(self.catalogue.is_changed):
             try:
-                before, self.catalogue = self.catalogue, await self.calls.call(
-                    Catalogue, self.settings
-                )
+                new = await self.calls.call(Catalogue, self.settings)
             except CityseqError as fault:
                 say(logged(fault) or str(fault))
             else:
-                before.close()
+                self.catalogue.close()
+                self.catalogue = new
 
     async def answer(self, resource: Resource, request: web.Request) -> web.StreamResponse:
         """Answers a request for a resource."""

@@ -57,11 +57,6 @@ def request_logger(is_quiet: bool) -> logging.Logger:
     return _logger("requests", logging.INFO, _Output(sys.stdout) if has_output else None)
 
 
-def fault_logger() -> logging.Logger:
-    """Returns the logger of what fails in aiohttp. It writes to standard error."""
-    return _logger("faults", logging.ERROR, _Faults())
-
-
 def _quoted(text: Any) -> str:
     """Returns a client's text in quotes. No character of it ends the quotes or the line."""
     told = "-" if text is None else str(text)[:LONGEST].encode("utf-8", "replace").decode("utf-8")
@@ -153,7 +148,7 @@ def runner_of(server: Server, is_quiet: bool) -> web.AppRunner:
     """Returns what carries the application of a server."""
     return web.AppRunner(
         application(server),
-        logger=fault_logger(),
+        logger=_logger("faults", logging.ERROR, _Faults()),
         access_log=request_logger(is_quiet),
         access_log_class=Combined,
         auto_decompress=False,

@@ -17,7 +17,7 @@ from ..engine import MemoryFault, give_back
 from ..indexes.index_pages import Page
 from ..run import number_of_jobs
 from ..run.streams import Pool
-from .answers import Problem, accepted
+from .answers import SOON, Problem, accepted
 from .settings import Limits
 
 T = TypeVar("T")
@@ -47,9 +47,7 @@ class Places:
             Problem: All are taken.
         """
         if self.taken >= self._most:
-            raise Problem(
-                503, f"the server has {self._most} {self._what} already", {"Retry-After": "1"}
-            )
+            raise Problem(503, f"the server has {self._most} {self._what} already", SOON)
         self.taken += 1
         try:
             yield
