@@ -11,7 +11,7 @@ import select
 import stat
 import sys
 from collections.abc import Generator, Iterable, Iterator
-from typing import IO, TYPE_CHECKING, Any, Protocol, Union
+from typing import IO, TYPE_CHECKING, Any, Union
 
 from ..engine import READ_FAULTS, CityseqError, InvalidStream, ReadFault, RequestError, read_fault
 from .packed import Packing, Text, Unpacker, may_be_packed, packing_by_mark, packing_of
@@ -27,6 +27,9 @@ if TYPE_CHECKING:
 Source = Union[str, "os.PathLike[Any]", "Buffer", IO[bytes]]
 
 State = tuple[int, int]  # of a file
+Watch = Union[
+    "LocalFile", "RemoteFile"
+]  # each shows whether the file has changed since it was made
 Identity = tuple[int, int]
 ENDINGS = (".city.json", ".city.json.gz")  # of the names of whole CityJSON files
 CHANGED = "changed while it was read"
@@ -270,15 +273,6 @@ def state_of(file: Any) -> State:
         return remote.state_now()
     told = os.fstat(file if isinstance(file, int) else file.fileno())
     return told.st_size, told.st_mtime_ns
-
-
-class Watch(Protocol):
-    """Shows whether a file has changed since the watch was made."""
-
-    state: State
-
-    def is_changed(self) -> bool:
-        """Whether the file is in another state than at the beginning."""
 
 
 class LocalFile:
