@@ -173,16 +173,12 @@ def _is_flat(text: bytes) -> bool:
 # ---- the values of some names
 
 
-def _read_text(spelled: bytes) -> str:
-    return readable(json.loads(spelled))
-
-
 # how the groups of `VALUE` are read
 READ: tuple[Callable[[bytes], Any], ...] = (
     lambda spelled: whole(spelled.decode("ascii")),
     lambda spelled: fraction(spelled.decode("ascii")),
     bytes.decode,
-    _read_text,
+    lambda spelled: readable(json.loads(spelled)),
     lambda _: True,
     lambda _: False,
     lambda _: None,

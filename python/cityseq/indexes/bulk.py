@@ -236,15 +236,15 @@ def keys_of(x: Sequence[float], y: Sequence[float]) -> tuple[int, ...]:
     return found
 
 
-@lru_cache(maxsize=64)
-def _boxes(count: int) -> struct.Struct:
-    """Returns what reads the extents of so many cells."""
-    return struct.Struct(">" + "8x4f" * count)
+@lru_cache(maxsize=192)
+def _reader(pattern: str, count: int) -> struct.Struct:
+    """Returns what reads a pattern so many times."""
+    return struct.Struct(">" + pattern * count)
 
 
 def _around(cells: bytes) -> tuple[float, float, float, float]:
     """Returns the extent of all cells together."""
-    edges = _boxes(len(cells) // CELL.size).unpack(cells)
+    edges = _reader("8x4f", len(cells) // CELL.size).unpack(cells)
     return min(edges[::4]), max(edges[1::4]), min(edges[2::4]), max(edges[3::4])
 
 
@@ -327,24 +327,13 @@ class Tree:
 
 def numbers_of(cells: bytes) -> Sequence[int]:
     """Returns the numbers of cells."""
-    found: Sequence[int] = _numbers(len(cells) // CELL.size).unpack(cells)
+    found: Sequence[int] = _reader("q16x", len(cells) // CELL.size).unpack(cells)
     return found
-
-
-@lru_cache(maxsize=64)
-def _numbers(count: int) -> struct.Struct:
-    return struct.Struct(">" + "q16x" * count)
-
-
-@lru_cache(maxsize=64)
-def _rows(count: int) -> struct.Struct:
-    """Returns what reads so many cells that have keys."""
-    return struct.Struct(f"{KEY}x{CELL.size}s" * count)
 
 
 def _without_keys(rows: bytes) -> bytes:
     """Returns the cells of rows."""
-    return b"".join(_rows(len(rows) // ROW).unpack(rows))
+    return b"".join(_reader(f"{KEY}x{CELL.size}s", len(rows) // ROW).unpack(rows))
 
 
 class Columns(NamedTuple):
