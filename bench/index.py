@@ -215,7 +215,7 @@ def written(count, path):
     """Writes an index of made-up records, and returns the seconds that this took, by the clock and
     of the processor."""
     import cityseq
-    from cityseq.engine.judge import asked
+    from cityseq.engine.judge import Options, work_of
     from cityseq.indexes.builder import Builder, File
     from cityseq.run import Result
 
@@ -231,7 +231,7 @@ def written(count, path):
         builder.add(entry, part, lines)
     result = Result("", cityseq.Status.VALID, count + 1, count, 0, 0, 0, 0)
     builder.end(entry, File(str(OUT / "records.jsonl"), None, (0, 0), ""), result)
-    builder.finish(asked("check"), cityseq.__version__)
+    builder.finish(work_of("check", Options()), cityseq.__version__)
     return time.monotonic() - begun - made, time.process_time() - processor - made
 
 

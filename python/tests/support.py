@@ -20,8 +20,7 @@ PROGRAM = os.path.join(ROOT, "crates", "cityseq", "out", "cityseq")
 sys.path[:0] = [os.path.join(ROOT, "python"), os.path.join(ROOT, "vectors")]
 
 import table  # noqa: E402
-from cityseq.engine.judge import asked  # noqa: E402
-from cityseq.engine.judge import judge_lines  # noqa: E402
+from cityseq.engine.judge import Limits, Options, Query, judge_lines, work_of  # noqa: E402
 
 HEADER = (
     b'{"type":"CityJSON","version":"2.0",'
@@ -31,6 +30,14 @@ HEADER = (
 PLAIN = (
     b'{"type":"CityJSONFeature","id":"b","CityObjects":{"b":{"type":"Building"}},"vertices":[]}\n'
 )
+
+
+def asked(kind, *, keep_going=False, tree=False, extensions=False, exact_lods=False, **more):
+    """The work for these options, limits and conditions of a query."""
+    names = {"line_limit": "line", "depth": "depth"}
+    limits = Limits(**{names[name]: more.pop(name) for name in [*more] if name in names})
+    options = Options(limits, keep_going, tree, extensions=extensions)
+    return work_of(kind, options, Query(**more), exact_lods)
 
 
 def feature(name, kind="Building", lod="2.2", last=3, x=0):

@@ -16,12 +16,11 @@ from unittest import mock
 
 import cityseq
 from cityseq.cluster.tasks import RangeChunks, Sight, Sizes, begin
-from cityseq.engine.judge import asked
 from cityseq.sources.packed import BLOCK, Packer
 
 from . import clusters, support
 from .clusters import WithCluster, distributed
-from .support import HEADER, InFolder, feature, ran
+from .support import HEADER, InFolder, asked, feature, ran
 
 if distributed is not None:
     import dask

@@ -12,12 +12,12 @@ import cityseq
 
 from . import support
 from .clusters import HOST, WithCluster, distributed, listening
-from .support import HEADER, InFolder, feature, numbered
+from .support import HEADER, InFolder, asked, feature, numbered
 
 if distributed is not None:
     import cityseq.dask
     from cityseq.cluster.tasks import RangeChunks, Sizes, begin, judge_range
-    from cityseq.engine.judge import Answer, asked
+    from cityseq.engine.judge import Answer
 
 
 def by_ranges(path, each, work):

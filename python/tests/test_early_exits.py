@@ -117,10 +117,10 @@ class Exits(InFolder):
     def test_an_output_that_is_left_half_way(self):
         script = (
             "import sys, cityseq\n"
-            "from cityseq.engine.judge import asked\n"
+            "from cityseq.engine.judge import Options, work_of\n"
             "from cityseq.sources.outputs import Writer\n"
             "from cityseq.run.streams import Stream, results\n"
-            "streams = (Stream(sys.argv[1], asked('filter'), output=Writer(name))"
+            "streams = (Stream(sys.argv[1], work_of('filter', Options()), output=Writer(name))"
             " for name in ('a.jsonl', 'b.jsonl', 'c.jsonl'))\n"
             "found = results(streams, 4)\n"
             "print(next(found).features)\n"

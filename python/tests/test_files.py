@@ -8,12 +8,12 @@ from dataclasses import replace
 from unittest import mock
 
 import cityseq
-from cityseq.engine.judge import asked, judge, judge_lines
+from cityseq.engine.judge import judge, judge_lines
 from cityseq.sources.chunks import Chunks
 from cityseq.sources.regular import FileChunk, RegularFile, regular_file
 
 from . import support
-from .support import HEADER, PLAIN, InFolder, feature
+from .support import HEADER, PLAIN, InFolder, asked, feature
 
 READ = os.preadv
 

@@ -8,10 +8,10 @@ from unittest import mock
 import cityseq
 from cityseq.engine import ids as ids_of
 from cityseq.engine.ids import MANY, MOST, _ids_in, _sorted, ids_for, in_order, part_size_for
-from cityseq.engine.judge import asked, lines_of
+from cityseq.engine.judge import lines_of
 
 from . import support
-from .support import HEADER, PLAIN, feature
+from .support import HEADER, PLAIN, asked, feature
 
 FEW = [f"other-{number:05}" for number in range(MANY // 8)]  # that are in no stream here
 LINES = (  # each with the text of its id

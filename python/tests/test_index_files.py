@@ -11,12 +11,11 @@ from contextlib import closing
 from unittest import mock
 
 import cityseq
-from cityseq.engine.judge import asked
 from cityseq.indexes import builder
 from cityseq.indexes import database as replacement
 
 from . import support
-from .support import HEADER, ROOT, InFolder, command, feature
+from .support import HEADER, ROOT, InFolder, asked, command, feature
 from .test_cut import SAMPLE, TOWN, cut
 from .test_index import NOBODY
 

@@ -5,11 +5,11 @@ import random
 import unittest
 
 from cityseq.engine import CallStatus, RawAnswer, RawRequest, RawTally, library
-from cityseq.engine.judge import Answer, asked, judge_lines
+from cityseq.engine.judge import Answer, judge_lines
 from cityseq.sources.chunks import whole_lines
 
 from . import support
-from .support import HEADER, PLAIN, feature
+from .support import HEADER, PLAIN, asked, feature
 
 STREAMS = 300
 OPTIONS = ({}, {"types": "Road"}, {"lods": ["2.2"]}, {"exclude": True, "ids": ["b1", "b2"]})

@@ -13,12 +13,11 @@ from concurrent.futures import Future
 from unittest import mock
 
 import cityseq
-from cityseq.engine.judge import asked
 from cityseq.run.streams import Stream, _Order, results
 from cityseq.sources.packed import BLOCK, LAST, Packer, Packing, Unpacker, pack
 
 from . import support
-from .support import HEADER, PLAIN, InFolder, command, feature, numbered
+from .support import HEADER, PLAIN, InFolder, asked, command, feature, numbered
 
 try:
     import zstandard

@@ -10,11 +10,10 @@ import unittest
 from concurrent.futures import ThreadPoolExecutor
 
 import cityseq
-from cityseq.engine.judge import asked
 from cityseq.sources.chunks import Chunks
 
 from . import support
-from .support import HEADER, PLAIN, in_one, numbered
+from .support import HEADER, PLAIN, asked, in_one, numbered
 
 
 def parts_of(text, size, line_limit=1_000, keep_going=False, piece=7):
@@ -39,14 +38,14 @@ def filtered(text, **options):
 CALLS = """
 import resource
 from cityseq.engine import keep_room
-from cityseq.engine.judge import judge_lines
-from cityseq.engine.judge import asked
+from cityseq.engine.judge import Options, judge_lines, work_of
 from cityseq.run.streams import in_thread
 line = (
     b'{"type":"CityJSONFeature","id":"b",'
     b'"CityObjects":{"b":{"type":"Building","attributes":{"a":[%s0]}}},"vertices":[]}'
 )
-part, header, work = bytearray(line % (b"0," * NUMBERS)), HEADER, asked("check")
+part, header = bytearray(line % (b"0," * NUMBERS)), HEADER
+work = work_of("check", Options())
 keep_room(1)
 def judge_often():
     for count in 3, 10:

@@ -13,12 +13,11 @@ from itertools import islice
 from unittest import mock
 
 import cityseq
-from cityseq.engine.judge import asked
 from cityseq.sources.packed import Gzip
 
 from . import support
 from .serving import EXAMPLES, MISSING, Served, Within, rest_of
-from .support import HEADER, command, feature
+from .support import HEADER, asked, command, feature
 
 if not MISSING:
     from cityseq.serve.bodies import Fed, Unpacking

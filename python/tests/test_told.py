@@ -13,12 +13,11 @@ from decimal import Decimal
 import cityseq
 from cityseq.engine import quoted, shown
 from cityseq.engine.hints import met
-from cityseq.engine.judge import asked
 from cityseq.engine.reports import excerpt_of, find_id
 from cityseq.engine.world import box_of, normal, plain
 
 from . import support
-from .support import HEADER, PLAIN, feature
+from .support import HEADER, PLAIN, asked, feature
 
 sys.path.insert(0, os.path.join(support.ROOT, "python"))
 import make_reasons  # noqa: E402

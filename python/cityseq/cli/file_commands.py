@@ -7,7 +7,7 @@ import os
 import shlex
 from collections import deque
 from collections.abc import Callable, Iterator, Sequence
-from dataclasses import dataclass, field
+from dataclasses import dataclass, field, replace
 from functools import partial
 
 from ..engine import (
@@ -19,7 +19,7 @@ from ..engine import (
     read_fault,
     shown,
 )
-from ..engine.judge import asked
+from ..engine.judge import work_of
 from ..run import Result, number_of_jobs
 from ..run.streams import Job, Pool
 from ..sources import CHANGED, PIECE, Reader, Watch, opened, refuse_read, watch_of
@@ -302,7 +302,7 @@ def run_report(request: WriteReport) -> int:
     named = files_of(request)
     refuse_read([*named, request.files_from], [output])
     files, _ = checked(named, output)
-    work = asked("check", **{**request.rules, "keep_going": True})
+    work = work_of("check", replace(request.judging, keep_going=True))
     keep_room()
     with Bar(total_of(files, request.progress), request.progress) as bar:
 

@@ -10,7 +10,7 @@ from typing import TYPE_CHECKING, Any
 
 from .. import __version__
 from ..engine import USUAL_DEPTH, USUAL_LINE, RequestError, keep_room, quoted, shown
-from ..engine.judge import Work, asked
+from ..engine.judge import Work, work_of
 from ..indexes.cut import cut, cut_each
 from ..indexes.line_reader import IndexedStream
 from ..indexes.lookup import Index
@@ -219,7 +219,7 @@ def _build(request: WriteIndex) -> int:
     named = files_of(request)
     refuse_read([*named, request.files_from], [output])
     files = checked(named, output)
-    work = asked("check", **request.rules)
+    work = work_of("check", request.judging)
     keep_room()
     worst = 0
     with Bar(total_of(files, request.progress), request.progress) as bar:

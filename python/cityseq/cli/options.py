@@ -11,6 +11,7 @@ from collections.abc import Callable, Iterable
 from typing import Any, ClassVar, Generic, TypeVar
 
 from ..engine import DEPTH_LIMITS, LINE_LIMITS, USUAL_DEPTH, USUAL_LINE
+from ..engine.judge import Limits, Options
 
 T = TypeVar("T")
 UNITS = {"K": 10, "M": 20, "G": 30}  # each is a power of two
@@ -217,9 +218,11 @@ class Request:
         vars(self).update(fields)
 
     @property
-    def rules(self) -> dict[str, Any]:
-        """The options on how lines are judged."""
-        return {name: getattr(self, name) for name in RULES}
+    def judging(self) -> Options:
+        """How lines are judged."""
+        given: Any = self  # not each command has all of these
+        limits = Limits(given.line_limit, given.depth)
+        return Options(limits, given.keep_going, given.tree, extensions=given.extensions)
 
     @property
     def options(self) -> dict[str, Any]:

@@ -12,7 +12,7 @@ from typing import TYPE_CHECKING, Any
 
 from .. import __version__
 from ..engine import RequestError, keep_room, library
-from ..engine.judge import Work, asked
+from ..engine.judge import Query, Work, work_of
 from ..run import Result
 from ..run.streams import Results, Stream, results
 from ..sources import is_path, refuse_read, size_of, stream_of
@@ -128,15 +128,10 @@ def _work_of(request: Request, ids: list[str] | bytes | None) -> Work:
     """Returns the work that the options ask for, checked."""
     if not isinstance(request, Filter):
         exact_lods = isinstance(request, Info) and request.lods
-        return asked(request.command, exact_lods=exact_lods, **request.rules)
-    return asked(
-        "filter",
-        exclude=request.exclude,
-        ids=ids,
-        types=texts_of(request.type),
-        lods=texts_of(request.lod),
-        box=request.bbox,
-        **request.rules,
+        return work_of(request.command, request.judging, exact_lods=exact_lods)
+    types, lods = texts_of(request.type), texts_of(request.lod)
+    return work_of(
+        "filter", request.judging, Query(ids, types, lods, request.bbox, request.exclude)
     )
 
 

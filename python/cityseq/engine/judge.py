@@ -213,23 +213,6 @@ def _request(work: Work, ids: bytes | None, line_limit: int) -> RawRequest:
     )
 
 
-def asked(
-    kind: str,
-    *,
-    line_limit: int = USUAL_LINE,
-    depth: int = USUAL_DEPTH,
-    keep_going: bool = False,
-    tree: bool = False,
-    extensions: bool = False,
-    exact_lods: bool = False,
-    **query: Any,
-) -> Work:
-    """Returns the work for these options and for a query with these conditions. Raises
-    `RequestError` if they are not allowed."""
-    options = Options(Limits(line_limit, depth), keep_going, tree, extensions=extensions)
-    return work_of(kind, options, Query(**query), exact_lods)
-
-
 def work_of(kind: str, options: Options, query: Query = Query(), exact_lods: bool = False) -> Work:
     """Returns the work for these options and this query.
 

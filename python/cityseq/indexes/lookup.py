@@ -9,7 +9,7 @@ from operator import itemgetter
 from typing import TYPE_CHECKING, Any
 
 from ..engine import CallStatus, OutOfDate, RawFeature, ReadFault, RequestError, library
-from ..engine.judge import Box, Texts, Work, asked
+from ..engine.judge import Box, Limits, Options, Query, Texts, Work, work_of
 from ..engine.records import id_of
 from ..run import Result
 from ..run.features import Feature, fault_of, feature_of
@@ -253,17 +253,9 @@ class Index:
         Raises:
             RequestError: An argument has a value that it may not have.
         """
-        work = asked(
-            "filter",
-            ids=ids,
-            types=types,
-            lods=lods,
-            box=box,
-            tree=self.tree,
-            extensions=self.extensions,
-            line_limit=self.line_limit,
-            depth=self.depth,
-        )
+        limits = Limits(self.line_limit, self.depth)
+        rules = Options(limits, tree=self.tree, extensions=self.extensions)
+        work = work_of("filter", rules, Query(ids, types, lods, box))
         return work if where is None else replace(work, where=self._condition(where))
 
     def _condition(self, where: str | Filter) -> Condition:

@@ -19,7 +19,9 @@ from aiohttp import web
 from ..cli.json_output import reasons_object, report_object, result_object
 from ..cli.options import Check, Filter
 from ..engine import InvalidStream, Text
-from ..engine.judge import SMALL, Answer, Work, asked, judge
+from ..engine.judge import SMALL, Answer
+from ..engine.judge import Query as Selection
+from ..engine.judge import Work, judge, work_of
 from ..engine.reports import Report
 from ..run import Fold, Result
 from ..sources.chunks import Chunk, Cutter
@@ -247,15 +249,9 @@ def _asked_of(command: str, query: Query) -> Wanted:
 
 
 def _work(wanted: Wanted, query: Query) -> Work:
-    return asked(
-        wanted.command,
-        **wanted.rules,
-        exclude=query.flag("exclude"),
-        ids=query.texts("id"),
-        types=query.texts("type"),
-        lods=query.texts("lod"),
-        box=query.text("bbox"),
-    )
+    ids, types, lods = map(query.texts, ("id", "type", "lod"))
+    selection = Selection(ids, types, lods, query.text("bbox"), query.flag("exclude"))
+    return work_of(wanted.command, wanted.judging, selection)
 
 
 def _is_packed(request: web.Request, most: int) -> bool | None:
