@@ -171,10 +171,14 @@ def run_index(request: WriteIndex) -> int:
 
 
 def _show(request: WriteIndex) -> int:
-    from ..indexes.index_run import shown_object  # no cut needs it
+    from ..indexes.index_run import described  # no cut needs it
+    from .json_output import object_of
 
     with Index(request.show) as index:
-        put(json.dumps(shown_object(index, __version__)) if request.json else index.show())
+        if request.json:
+            put(json.dumps(object_of("index", described(index, __version__))))
+        else:
+            put(index.show())
     return 0
 
 

@@ -416,41 +416,36 @@ def lines(index: Index) -> Iterator[str]:
         yield from (f"    {shown(path)} line {line}" for path, line in repeated.places)
 
 
-def shown_object(index: Index, program: str) -> dict[str, Any]:
-    """Returns the same as a JSON object."""
-    from ..cli.json_output import object_of
-
-    return object_of(
-        "index",
-        {
-            "index": index.path,
-            "cityseq": program,
-            "features": sum(stream.features for stream in index.streams),
-            "bbox": _extent(index.streams),
-            "fault": _fault(index),
-            "attributes": [
-                {name: getattr(each, name) for name in ("name", "column", "type", "format")}
-                for each in index.attributes.values()
-            ],
-            "streams": [
-                {
-                    "file": stream.path,
-                    **{name: getattr(stream, name) for name in MEMBERS},
-                    "bbox": _extent([stream]),
-                    "fault": _state(index, stream),
-                    "reports": [
-                        dict(zip(("line", "byte", "code", "text", "id"), report))
-                        for report in index.reports(stream)
-                    ],
-                }
-                for stream in index.streams
-            ],
-            "repeated_ids": [
-                {
-                    "id": each.id,
-                    "places": [{"file": path, "line": line} for path, line in each.places],
-                }
-                for each in index.repeated_ids()
-            ],
-        },
-    )
+def described(index: Index, program: str) -> dict[str, Any]:
+    """Returns the same as the members of a JSON object."""
+    return {
+        "index": index.path,
+        "cityseq": program,
+        "features": sum(stream.features for stream in index.streams),
+        "bbox": _extent(index.streams),
+        "fault": _fault(index),
+        "attributes": [
+            {name: getattr(each, name) for name in ("name", "column", "type", "format")}
+            for each in index.attributes.values()
+        ],
+        "streams": [
+            {
+                "file": stream.path,
+                **{name: getattr(stream, name) for name in MEMBERS},
+                "bbox": _extent([stream]),
+                "fault": _state(index, stream),
+                "reports": [
+                    dict(zip(("line", "byte", "code", "text", "id"), report))
+                    for report in index.reports(stream)
+                ],
+            }
+            for stream in index.streams
+        ],
+        "repeated_ids": [
+            {
+                "id": each.id,
+                "places": [{"file": path, "line": line} for path, line in each.places],
+            }
+            for each in index.repeated_ids()
+        ],
+    }
