@@ -92,8 +92,8 @@ row_what_nobody_expected() {
   "$python" -c 'import sys
 from cityseq import cli
 from cityseq.cli import stream_commands
-def asked(*_, **__): raise KeyError("x")
-stream_commands.asked = asked
+def work_of(*_, **__): raise KeyError("x")
+stream_commands.work_of = work_of
 sys.exit(cli.main(["check", "-"]))' > "$scratch/out" 2> "$scratch/said" < /dev/null
   same 70 $? && same 1 "$(wc -l < "$scratch/said")" && grep -q 'KeyError.*please report' "$scratch/said"
 }
