@@ -532,10 +532,10 @@ class Refreshed(InFolder):
 
     def test_a_stream_that_changes_while_it_is_hashed(self):
         from cityseq.indexes import index_run
-        from cityseq.sources import hashes
+        from cityseq.sources import regular
 
         before = self.index.read_bytes()
-        content, path = hashes.HashedFile.content, self.paths[0]
+        content, path = regular.HashedFile.content, self.paths[0]
 
         def changed(file_of_stream):
             with open(path, "ab") as file:
@@ -544,8 +544,8 @@ class Refreshed(InFolder):
 
         packed = self.file(HEADER + PLAIN, "packed.jsonl.gz")
         told = mock.Mock()
-        told.submit.return_value.result.return_value = hashes.Digest("", (1, 2), (1, 3))
-        with mock.patch.object(hashes.HashedFile, "content", changed):
+        told.submit.return_value.result.return_value = regular.Digest("", (1, 2), (1, 3))
+        with mock.patch.object(regular.HashedFile, "content", changed):
             self.refused_as_changed(path)
         with mock.patch.object(index_run, "Hashes") as made:
             made.return_value.__enter__.return_value = told
