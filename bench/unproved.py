@@ -1,19 +1,24 @@
 #!/usr/bin/env python3
-"""Builds the program from its sources without a proof, to see what a change does to its speed.
+"""Builds the program or the library for C from its sources without a proof.
 
     bench/unproved.py FILE [TREE]
+    bench/unproved.py --library [TREE]
 
-It writes the program of TREE, or of this tree, to FILE in one to three minutes. Compare its counts
-with those of another such build. On usual, tiny and huge lines they are those of the proved program
-within 1 %, and on lines of many names within 7 %. On texts they are 2.5 times as high, since
-`rt try` does not use the byte shuffles of the processor. It is for measurements alone: nothing has
-shown that it is safe.
+It writes the program of TREE, or of this tree, to FILE in one to three minutes, to see what a
+change does to its speed. Or it writes the library to c/out and python/cityseq, to try the package
+over a change. It is for trials alone: nothing has shown that what it builds is safe.
+
+Compare counts of a program with those of another such build. On usual, tiny and huge lines they are
+those of the proved program within 1 %, and on lines of many names within 7 %. On texts they are 2.5
+times as high, since `rt try` does not use the byte shuffles of the processor.
 
 `rt try` makes one module of LLVM for the whole program, and puts checks and fills of memory into
 it. They are taken out here. Functions get the inline attributes of the sources, and the module is
-compiled as the build does it. It needs a C compiler to link."""
+compiled as the build does it. The module of the library is that of its tests, which call each
+function. It needs a C compiler to link."""
 import os
 import re
+import shutil
 import subprocess
 import sys
 import tempfile
@@ -25,8 +30,11 @@ from typing import Dict, Iterable, Iterator, Set, Tuple
 ROOT = Path(__file__).resolve().parent.parent
 KIT = Path(subprocess.check_output(["rt", "doc"], text=True).strip()).parent
 MODULE = "module.bc"  # in the temporary folder of `rt try`
+PROGRAM = ("cityseq", "--steps", "1000", "--", "check")  # a crate, and words for `rt try`
+LIBRARY = ("cityseq_c", "--steps", "1000", "--test")
+PROTOTYPE = re.compile(r"^((?:struct )?\w+) (cityseq_\w+)\(([^()]*)\)[^;{]*;", re.MULTILINE)
 # How the build has machine code made, but for the levels that `rt try` sets.
-CODE = ["-O3", "-march=x86-64-v2", "-fPIE", "-ffunction-sections", "-fdata-sections"]
+CODE = ["-O3", "-march=x86-64-v2", "-ffunction-sections", "-fdata-sections"]
 for word in (
     "-no-trap-after-noreturn",
     "-trap-unreachable",
@@ -59,8 +67,8 @@ def keep_modules(folder: Path, kept: Path, ended: threading.Event) -> None:
         time.sleep(0.01)
 
 
-def module_of(tree: Path, folder: Path) -> Path:
-    """Returns the module of the program, as `rt try` makes it."""
+def module_of(tree: Path, folder: Path, crate: str, *words: str) -> Path:
+    """Returns the module of a crate, as `rt try` makes it with these words."""
     used, kept, ended = folder / "used", folder / "kept", threading.Event()
     used.mkdir()
     kept.mkdir()
@@ -68,8 +76,8 @@ def module_of(tree: Path, folder: Path) -> Path:
     keeper.start()
     try:
         subprocess.run(
-            ["rt", "try", "--steps", "1000", "--", "check"],
-            cwd=tree / "crates" / "cityseq",
+            ["rt", "try", *words],
+            cwd=tree / "crates" / crate,
             env={**os.environ, "TMPDIR": str(used)},
             stdin=subprocess.DEVNULL,
             stdout=subprocess.DEVNULL,
@@ -80,7 +88,7 @@ def module_of(tree: Path, folder: Path) -> Path:
         keeper.join()
     found = sorted(kept.iterdir(), key=lambda path: path.stat().st_size)
     if not found:
-        sys.exit("rt try made no module: run it in crates/cityseq to see why")
+        sys.exit(f"rt try made no module: run it in crates/{crate} to see why")
     return found[-1]
 
 
@@ -140,56 +148,91 @@ def without_checks(lines: Iterable[str], attributes: Attributes) -> Iterator[str
         yield line
 
 
-def compile_module(module: Path, tree: Path, target: str) -> None:
-    """Compiles the module without its checks, and links the program."""
+def compiled(module: Path, tree: Path, position: str) -> Path:
+    """Compiles a module without its checks, and returns the object file. `position` is the option
+    on where the code may stand."""
     read, plain, code = (module.with_suffix(suffix) for suffix in (".ll", ".plain.ll", ".o"))
-    clang = [
-        str(KIT / "toolchain" / "bin" / "clang"),
-        "--target=x86_64-unknown-linux-gnu",
-        "--no-default-config",
-        "-x",
-        "ir",
-    ]
-    subprocess.run(
-        [
-            *clang,
-            "-S",
-            "-emit-llvm",
-            "-Xclang",
-            "-disable-llvm-passes",
-            str(module),
-            "-o",
-            str(read),
-        ],
-        check=True,
-    )
+    clang = [str(KIT / "toolchain" / "bin" / "clang"), "--target=x86_64-unknown-linux-gnu"]
+    clang += ["--no-default-config", "-x", "ir"]
+    as_text = ["-S", "-emit-llvm", "-Xclang", "-disable-llvm-passes"]
+    subprocess.run([*clang, *as_text, str(module), "-o", str(read)], check=True)
     with open(read, encoding="utf-8") as source, open(plain, "w", encoding="utf-8") as sink:
-        sink.writelines(without_checks(source, all_attributes(tree)))
-    subprocess.run([*clang, "-c", *CODE, str(plain), "-o", str(code)], check=True)
+        for line in without_checks(source, all_attributes(tree)):
+            line = re.sub(r'@"cityseq_c::(cityseq_\w+)"', r"@rattle_\1", line)
+            sink.write(re.sub(r"^define internal (.*@rattle_)", r"define \1", line))
+    subprocess.run([*clang, "-c", position, *CODE, str(plain), "-o", str(code)], check=True)
+    return code
+
+
+def compiler() -> str:
+    """Returns the C compiler."""
+    return os.environ.get("CC", "cc")
+
+
+def link_program(code: Path, target: str) -> None:
+    """Links the program."""
     libraries = [str(KIT / "c" / name) for name in ("libos_c.a", "liblibc_c.a")]
-    subprocess.run(
-        [
-            os.environ.get("CC", "cc"),
-            "-pie",
-            "-Wl,--gc-sections",
-            "-o",
-            target,
-            str(code),
-            *libraries,
-            "-lm",
-        ],
-        check=True,
-    )
+    words = ["-pie", "-Wl,--gc-sections", "-o", target, str(code), *libraries, "-lm"]
+    subprocess.run([compiler(), *words], check=True)
+
+
+def wrappers(header: str) -> Iterator[str]:
+    """Yields functions of C that call those of the module. There a struct is returned through a
+    first argument."""
+    yield '#include "cityseq.h"'
+    for kind, name, text in PROTOTYPE.findall(header):
+        given = [] if text == "void" else [" ".join(each.split()) for each in text.split(",")]
+        names = [re.split(r"\W+", each)[-1] for each in given]
+        if kind.startswith("struct"):
+            inner, call = [f"{kind} *made", *given], ", ".join(["&made", *names])
+            yield f"void rattle_{name}({', '.join(inner)});"
+            body = f"{kind} made; rattle_{name}({call}); return made;"
+        else:
+            yield f"{kind} rattle_{name}({text});"
+            body = f"return rattle_{name}({', '.join(names)});"
+        yield f"{kind} {name}({text}) {{ {body} }}"
+
+
+def link_library(code: Path, tree: Path) -> None:
+    """Links the library, as c/build.sh does it."""
+    header, out = (tree / "c" / "cityseq.h").read_text("utf-8"), tree / "c" / "out"
+    source, calls, archive = (code.with_name(name) for name in ("calls.c", "calls.o", "all.a"))
+    source.write_text("\n".join(wrappers(header)) + "\n", "utf-8")
+    include = ["-O2", "-fPIC", "-I", str(tree / "c")]
+    subprocess.run([compiler(), *include, "-c", str(source), "-o", str(calls)], check=True)
+    subprocess.run(["ar", "rcs", str(archive), str(code), str(calls)], check=True)
+    system = str(KIT / "c" / "liblibc_c.a")
+    out.mkdir(exist_ok=True)
+    script = f"CREATE {out}/libcityseq.a\nADDLIB {archive}\nADDLIB {system}\nSAVE\nEND\n"
+    subprocess.run(["ar", "-M"], input=script, text=True, check=True)
+    for old in out.glob("libcityseq.so*"):
+        old.unlink()
+    interface = re.findall(r"#define CITYSEQ_INTERFACE (\d+)", header)[0]
+    shared = out / f"libcityseq.so.{interface}"
+    words = [f"-Wl,-soname,{shared.name}", "-Wl,-z,relro,-z,now,-z,defs"]
+    words += [f"-Wl,--version-script={tree / 'c' / 'cityseq.map'}"]
+    words += ["-Wl,--whole-archive", str(archive), "-Wl,--no-whole-archive", system]
+    words += [str(KIT / "c" / "libos_c.a"), "-lm"]
+    subprocess.run([compiler(), "-shared", "-o", str(shared), *words], check=True)
+    (out / "libcityseq.so").symlink_to(shared.name)
+    copy = tree / "python" / "cityseq" / "libcityseq.so"
+    copy.unlink(missing_ok=True)  # to write over it would break a process that has it open
+    shutil.copy(shared, copy)
 
 
 def main(target: str, tree: str = str(ROOT)) -> None:
-    """Builds the program."""
+    """Builds the program, or the library."""
+    top, is_library = Path(tree).resolve(), target == "--library"
     with tempfile.TemporaryDirectory() as folder:
-        top = Path(tree).resolve()
-        compile_module(module_of(top, Path(folder)), top, target)
+        module = module_of(top, Path(folder), *(LIBRARY if is_library else PROGRAM))
+        code = compiled(module, top, "-fPIC" if is_library else "-fPIE")
+        if is_library:
+            link_library(code, top)
+        else:
+            link_program(code, target)
 
 
 if __name__ == "__main__":
     if len(sys.argv) not in (2, 3):
-        sys.exit("Usage: bench/unproved.py FILE [TREE]")
+        sys.exit("Usage: bench/unproved.py FILE|--library [TREE]")
     main(*sys.argv[1:])
