@@ -1,12 +1,12 @@
 #!/usr/bin/env python3
-"""Builds the program or the library for C from its sources without a proof.
+"""Builds the program or the shared library for C from its sources without a proof.
 
     bench/unproved.py FILE [TREE]
     bench/unproved.py --library [TREE]
 
 It writes the program of TREE, or of this tree, to FILE in one to three minutes, to see what a
-change does to its speed. Or it writes the library to c/out and python/cityseq, to try the package
-over a change. It is for trials alone: nothing has shown that what it builds is safe.
+change does to its speed. Or it writes the shared library to c/out and python/cityseq, to try the
+package over a change. It is for trials alone: nothing has shown that what it builds is safe.
 
 Compare counts of a program with those of another such build. On usual, tiny and huge lines they are
 those of the proved program within 1 %, and on lines of many names within 7 %. On texts they are 2.5
@@ -194,26 +194,20 @@ def wrappers(header: str) -> Iterator[str]:
 
 
 def link_library(code: Path, tree: Path) -> None:
-    """Links the library, as c/build.sh does it."""
+    """Links the shared library, as c/build.sh does it, and copies it for the package."""
     header, out = (tree / "c" / "cityseq.h").read_text("utf-8"), tree / "c" / "out"
-    source, calls, archive = (code.with_name(name) for name in ("calls.c", "calls.o", "all.a"))
-    source.write_text("\n".join(wrappers(header)) + "\n", "utf-8")
-    include = ["-O2", "-fPIC", "-I", str(tree / "c")]
-    subprocess.run([compiler(), *include, "-c", str(source), "-o", str(calls)], check=True)
-    subprocess.run(["ar", "rcs", str(archive), str(code), str(calls)], check=True)
-    system = str(KIT / "c" / "liblibc_c.a")
+    calls = code.with_name("calls.c")
+    calls.write_text("\n".join(wrappers(header)) + "\n", "utf-8")
     out.mkdir(exist_ok=True)
-    script = f"CREATE {out}/libcityseq.a\nADDLIB {archive}\nADDLIB {system}\nSAVE\nEND\n"
-    subprocess.run(["ar", "-M"], input=script, text=True, check=True)
     for old in out.glob("libcityseq.so*"):
         old.unlink()
     interface = re.findall(r"#define CITYSEQ_INTERFACE (\d+)", header)[0]
     shared = out / f"libcityseq.so.{interface}"
-    words = [f"-Wl,-soname,{shared.name}", "-Wl,-z,relro,-z,now,-z,defs"]
+    words = ["-shared", "-O2", "-fPIC", "-I", str(tree / "c"), "-o", str(shared), str(calls)]
+    words += [str(code), *(str(KIT / "c" / name) for name in ("liblibc_c.a", "libos_c.a"))]
+    words += [f"-Wl,-soname,{shared.name}", "-Wl,-z,relro,-z,now,-z,defs", "-lm"]
     words += [f"-Wl,--version-script={tree / 'c' / 'cityseq.map'}"]
-    words += ["-Wl,--whole-archive", str(archive), "-Wl,--no-whole-archive", system]
-    words += [str(KIT / "c" / "libos_c.a"), "-lm"]
-    subprocess.run([compiler(), "-shared", "-o", str(shared), *words], check=True)
+    subprocess.run([compiler(), *words], check=True)
     (out / "libcityseq.so").symlink_to(shared.name)
     copy = tree / "python" / "cityseq" / "libcityseq.so"
     copy.unlink(missing_ok=True)  # to write over it would break a process that has it open
