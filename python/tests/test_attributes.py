@@ -238,6 +238,15 @@ class Values(unittest.TestCase):
         self.assertEqual(found, {"a": [deep], "b": [1]})
         self.assertEqual(columns_of([b'{"a":%b}' % deep.encode()], "all"), {"a": [deep]})
 
+    def test_values_without_members_next_to_objects_in_objects(self):
+        for other in (b"null", b"7", b'"x"', b""):
+            for count in range(3):
+                texts = [b'{"a":{"b":"x"}}', b'{"b":"y"}', *[other] * count]
+                found = columns_of(texts, ("a", "b"))
+                rest = [None] * count
+                self.assertEqual(found["a"], ['{"b":"x"}', None, *rest], texts)
+                self.assertEqual(found["b"], [None, "y", *rest], texts)
+
     def test_a_long_text(self):
         text = "x" * (1 << 20)
         self.assertEqual(columns_of([b'{"a":"%b"}' % text.encode()], ("a",)), {"a": [text]})

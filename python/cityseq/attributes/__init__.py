@@ -227,15 +227,16 @@ def _is_simple(text: bytes) -> bool:
     return _is_flat(text) and (b"\\" not in text or ESCAPED_NAME.search(text) is None)
 
 
-def _has_flat(texts: Sequence[bytes], joined: bytes) -> bool:
-    """Whether all texts are flat. The empty ones are features without attributes."""
-    return b"[" not in joined and joined.count(b"{") + texts.count(b"") == len(texts)
+def _are_flat(joined: bytes) -> bool:
+    """Whether all texts are flat, each of which stands after an LF. No text has one, so each brace
+    then begins a text. Some texts may be no objects."""
+    return b"[" not in joined and joined.count(b"{") == joined.count(b"\n{")
 
 
 def _some(texts: Sequence[bytes], names: tuple[str, ...]) -> Columns:
     """Returns the values of these names. Others are not read in simple texts."""
-    needles, joined = _needles(names), b"".join(texts)
-    if needles is not None and b"\\" not in joined and _has_flat(texts, joined):
+    needles, joined = _needles(names), b"\n".join([b"", *texts])
+    if needles is not None and b"\\" not in joined and _are_flat(joined):
         return {
             name: _strings(texts, joined, needle) or _sought(texts, needle)
             for name, needle in zip(names, needles)
