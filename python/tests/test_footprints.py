@@ -1,6 +1,7 @@
 """The layer `footprints` of an index: the ground of each feature."""
 import json
 import random
+import re
 import sqlite3
 import struct
 import unittest
@@ -252,6 +253,28 @@ class Layer(InFolder):
         ):
             with self.subTest(text=text[:400]):
                 self.assertEqual(self.indexed(text.strip().encode() + b"\n"), [[GROUND]])
+
+    def test_some_numbers_in_other_forms(self):
+        """Any of those of vertices, boundaries and semantic values, by chance."""
+        low, high = [[0, 1, 2, 3]], [[8, 9, 10, 11]]
+        told = line(
+            [
+                surfaces([[[low, high, WALL, low]], [[high]], [[low, WALL]]], kind="MultiSolid")
+                | {"semantics": semantic(["x", "GroundSurface"], [[[1, 0, 0, 1]], None, [[1, 0]]])},
+                surfaces([low, low, high, WALL, low], "1.2")
+                | {"semantics": semantic(["x", "GroundSurface"], [0, 0, 1, 0, 0])},
+            ],
+            [surfaces([[low, low, low, high]], "0", "Solid")],
+        ).decode()
+        chance, lines = random.Random(1), []
+        for flat in ("0", "2") * 300:
+            text = re.sub(
+                r'(?<![\w".])\d+(?![\w".])',
+                lambda found: found[0] + chance.choice(("", "", "", ".0", "e0")),
+                told.replace('"lod": "0"', f'"lod": "{flat}"'),
+            )
+            lines.append(text.encode())
+        self.assertEqual(self.indexed(*lines), [[GROUND] * 3 + [ROOFED], [ROOFED]] * 300)
 
     def test_many_vertices_and_surfaces(self):
         """Made by chance: grounds of many triangles, by a slow reference over the JSON text."""

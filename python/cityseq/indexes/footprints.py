@@ -70,15 +70,31 @@ class _Line:
         texts[1::2] = [b"-%d" % (FIRST + number) for number in range(len(self._arrays))]
         self._told = _read(b"".join(texts))
 
-    def _array(self, value: Any) -> Any:
-        """Returns an array, which may have been cut out."""
-        return value if isinstance(value, list) else json.loads(self._arrays[-value - FIRST])
+    def _array(self, value: Any, depth: int) -> list[Any]:
+        """Returns so many levels of lists. They may have been cut out, or some of their items. One
+        number stands for all of these that follow one another."""
+        found: list[Any] = []
+        if not isinstance(value, list):
+            (found,) = self._cut_out(value)
+            return found
+        if depth == 1 or not self._arrays:
+            return value
+        for item in value:
+            if isinstance(item, int):
+                found += self._cut_out(item)
+            else:
+                found.append(None if item is None else self._array(item, depth - 1))
+        return found
+
+    def _cut_out(self, number: int) -> list[Any]:
+        """Returns the arrays that a number stands for."""
+        arrays: list[Any] = json.loads(b"[%s]" % self._arrays[-number - FIRST])
+        return arrays
 
     def _boundaries(self, value: Any, levels: int) -> list[Any]:
         """Returns boundaries, whose surfaces may be texts: most are not needed."""
         texts = None if isinstance(value, list) else _nested(self._arrays[-value - FIRST], levels)
-        found: list[Any] = self._array(value) if texts is None else texts
-        return found
+        return self._array(value, levels + 3) if texts is None else texts
 
     def _items(self, value: Any) -> list[Any]:
         """Returns the items of an array that are not numbers."""
@@ -94,7 +110,7 @@ class _Line:
         """Returns vertices by their numbers. If these are few, other vertices are not read."""
         told = self._told["vertices"]
         if isinstance(told, list) or len(numbers) > FEW:
-            listed = self._array(told)
+            listed = self._array(told, 2)
             return [_whole(listed[int(number)]) for number in numbers]
         texts = self._arrays[-told - FIRST].split(b"]")
         return [_whole(texts[number].rpartition(b"[")[2].split(b",")) for number in numbers]
@@ -127,7 +143,7 @@ class _Line:
         if not grounds or semantics["values"] is None:
             return []
         boundaries = self._boundaries(geometry["boundaries"], levels)
-        values = self._array(semantics["values"])
+        values = self._array(semantics["values"], levels + 1)
         listed = zip(_surfaces(boundaries, levels), _values(boundaries, values, levels))
         return [surface for surface, value in listed if value in grounds]
 
