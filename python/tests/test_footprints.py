@@ -247,6 +247,7 @@ class Layer(InFolder):
             told.decode().replace("[", "[ ").replace("]", "\t]"),
             told.decode().replace("boundaries", "\\u0062oundaries").replace('"0"', '"\\u0030"'),
             told.decode().replace("4000", "4e3").replace("[0, 1, 2, 3]", "[0, 1.0, 2, 30e-1]"),
+            told.decode().replace("[0, 1, 2, 3]", "[0, 1.0, 2, 30e-1]"),
             told.decode().replace('"vertices"', '"x": -1000000000000000, "vertices"'),
             told.decode().replace('"b0"', '"b0 [0]"'),
             told.decode().replace("{", '{"x": [[1], 2, "]"], ', 1),

@@ -113,7 +113,7 @@ class _Line:
             listed = self._array(told, 2)
             return [_whole(listed[int(number)]) for number in numbers]
         texts = self._arrays[-told - FIRST].split(b"]")
-        return [_whole(texts[number].rpartition(b"[")[2].split(b",")) for number in numbers]
+        return [_whole(texts[int(number)].rpartition(b"[")[2].split(b",")) for number in numbers]
 
     def ground(self) -> list[Surface]:
         """Returns the surfaces of the ground: for each its exterior ring and then its holes."""
