@@ -109,6 +109,24 @@ class Ids(InFolder):
             {"kind": "ids", "version": 1, "ids_from": str(listed), "unmatched": 1, "first": ["c"]},
         )
 
+    def test_an_id_far_behind_in_a_line(self):
+        """The line may be longer or deeper than Python reads JSON, and may have longer numbers."""
+        for value in ('"%s"' % ("x" * (1 << 20)), "1" * 5_000, "[" * 1_000 + "]" * 1_000):
+            told = f'{{"a":{{"type":"Road","attributes":{{"x":{value}}}}}}}'
+            line = f'{{"type":"CityJSONFeature","CityObjects":{told},"vertices":[],"id":"a"}}\n'
+            line = line.encode()
+            path, listed = self.file(HEADER + line), self.file(b"a\n", "ids")
+            words = ("--depth", "1024", "--ids-from", listed, path)
+            self.assertEqual(command("filter", *words), (HEADER + line, "", 0))
+
+    def test_the_header_is_no_feature(self):
+        listed = self.file(b"a\n", "ids")
+        for old, new in ((b'{"type"', b'{"id":"a","type"'), (b'"version"', b'"id":"a","version"')):
+            header = HEADER.replace(old, new)
+            path = self.file(header + feature("b"))
+            said = f'{listed}: 1 id matched no feature: "a"\n'
+            self.assertEqual(command("filter", "--ids-from", listed, path), (header, said, 0))
+
     def test_a_cut_by_an_index(self):
         path, index = self.file(GOOD), self.folder / "it.gpkg"
         command("index", "--output", index, path)

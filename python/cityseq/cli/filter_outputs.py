@@ -2,12 +2,14 @@
 nothing."""
 from __future__ import annotations
 
+import json
 import os
 from collections.abc import Sequence
 from typing import Any
 
 from ..engine import RequestError, Text, quoted, shown, write_fault
-from ..engine.reports import USUAL_BEGIN, find_id
+from ..engine.records import unescaped
+from ..engine.reports import USUAL_BEGIN
 from .options import Filter
 from .output import put_object, say
 
@@ -80,21 +82,28 @@ def make_folder(path: str) -> None:
 
 
 def ids_in(text: Text) -> set[bytes]:
-    """Returns the ids of the features in some whole lines. A header is no feature."""
+    """Returns the ids of the features in some whole lines, which are valid. Only the first line may
+    be a header, which is no feature."""
     lines, found, begin = bytes(text), set(), 0
     while begin < len(lines):
         end = lines.find(b"\n", begin)
         end = len(lines) if end < 0 else end
-        usual = USUAL_BEGIN.match(lines, begin, end)
-        spelled = None if usual is None else usual.group(1)
-        if spelled is not None and b"\\" not in spelled:
-            found.add(spelled[1:-1])
-        else:
-            name = find_id(lines[begin:end])
-            if name is not None:
-                found.add(name.encode("utf-8", "surrogatepass"))
+        usual = USUAL_BEGIN.match(lines, begin, end) if begin else None
+        spelled = _spelled_id(lines[begin:end]) if usual is None else usual.group(1)
+        if spelled is not None:
+            found.add(unescaped(spelled[1:-1]).encode("utf-8", "surrogatepass"))
         begin = end + 1
     return found
+
+
+def _spelled_id(line: bytes) -> bytes | None:
+    """Returns the id of a feature as its line spells it, wherever it is. None if the line is blank,
+    or is a header."""
+    from ..attributes import members  # few runs need it
+
+    told = members(line) if line else {}
+    is_header = json.loads(told.get("type", "0")) == "CityJSON"
+    return None if is_header or "id" not in told else told["id"].encode("utf-8")
 
 
 class UnmatchedIds:
