@@ -407,6 +407,21 @@ class Packs(Archives):
         self.assertEqual(command("pack", str(path)), (told, "", 0))
         self.assertEqual(path.stat().st_ino, before.st_ino)
 
+    def test_what_only_begins_with_blocks(self):
+        text = stream(8)
+        path, made = self.archive(text), packed(text)
+        path.write_bytes(made + gzip.compress(b"\n"))
+        output, said, status = command("pack", str(path))
+        self.assertEqual((said, status), ("", 0))
+        self.assertIn(b": packed text=%d bytes=" % len(text + b"\n"), output)
+        self.assertEqual(b"".join(blocks(path.read_bytes())), text + b"\n")
+        for end in (len(made) - len(LAST), len(made) - len(LAST) - 1, 100):
+            path.write_bytes(made[:end])
+            output, said, status = command("pack", str(path))
+            self.assertEqual((output, status), (b"", 3), end)
+            self.assertIn("cut short", said)
+            self.assertEqual(path.read_bytes(), made[:end])
+
     def test_names(self):
         for name, wanted in (("a", "a.gz"), ("a.gz", "a.gz"), ("b/a.jsonl.zst", "b/a.jsonl.gz")):
             self.assertEqual(packed_name(name), wanted)

@@ -7,6 +7,7 @@ import os
 import shlex
 from collections import deque
 from collections.abc import Callable, Iterator, Sequence
+from contextlib import suppress
 from dataclasses import dataclass, field, replace
 from functools import partial
 
@@ -27,6 +28,7 @@ from ..sources.outputs import Writer
 from ..sources.packed import (
     BLOCK,
     HEAD,
+    LAST,
     LEVEL,
     Packing,
     Unpacker,
@@ -233,7 +235,7 @@ def _done(request: Pack, file: str, output: str, bar: Bar) -> str:
     """Packs or verifies a file, and returns what to print."""
     if request.verify:
         return _told("whole", verify_file(file, partial(bar.add, file)))
-    if file == output and _begins_with_block(file):
+    if file == output and _is_of_blocks(file):
         return "is packed in blocks"
     jobs, level = number_of_jobs(request.jobs), request.level or LEVEL
     return _told("packed", pack_file(file, output, jobs, level, partial(bar.add, file)))
@@ -244,13 +246,18 @@ def _told(what: str, sizes: ArchiveSize) -> str:
     return f"{what} text={sizes.text} bytes={sizes.file}{blocks}"
 
 
-def _begins_with_block(path: str) -> bool:
-    """Whether a file can be read, and begins with a block of BGZF."""
-    try:
-        with open(path, "rb") as file:
-            return is_block(file.read(HEAD))
-    except OSError:
-        return False
+def _is_of_blocks(path: str) -> bool:
+    """Whether a file can be read, and has blocks of BGZF alone, by the lengths that they give
+    themselves, up to the mark of the end."""
+    with suppress(OSError), open(path, "rb") as file:
+        at, end = 0, os.fstat(file.fileno()).st_size - len(LAST)
+        while at < end:
+            head = os.pread(file.fileno(), HEAD, at)
+            if not is_block(head):
+                return False
+            at += block_length(head)
+        return at == end and os.pread(file.fileno(), len(LAST), at) == LAST
+    return False
 
 
 def run_split(request: SplitFile) -> int:
