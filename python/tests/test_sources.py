@@ -5,9 +5,12 @@ import os
 import subprocess
 import sys
 import threading
+import time
 import unittest
+from unittest import mock
 
 import cityseq
+from cityseq.cli.stream_commands import ids_of
 from cityseq.engine.judge import work_of
 from cityseq.sources.chunks import Chunks
 
@@ -54,6 +57,33 @@ class Sources(InFolder):
                 [results[0].file, results[2].file, results[4].file],
                 [str(path), str(packed), "<bytes>"],
             )
+
+    def waiting(self, pieces):
+        """A pipe that does not block, to which a thread writes these pieces with pauses."""
+        end, begin = os.pipe()
+        os.set_blocking(end, False)
+
+        def write():
+            with open(begin, "wb", buffering=0) as pipe:
+                for piece in pieces:
+                    time.sleep(0.2)
+                    pipe.write(piece)
+
+        thread = threading.Thread(target=write)
+        thread.start()
+        self.addCleanup(thread.join)
+        return open(end, "rb")
+
+    def test_a_pipe_that_does_not_block(self):
+        """A pause is not its end, also where the text or an archive could end."""
+        lines = GOOD.splitlines(keepends=True)
+        for pieces in (lines, list(map(gzip.compress, lines)), [GOOD[:200], GOOD[200:]]):
+            with self.waiting(pieces) as file:
+                result = cityseq.check(file)
+            self.assertEqual((result.status, result.lines), (0, 3))
+        with self.waiting([b"a\n", b"b\n"]) as file:
+            with mock.patch("sys.stdin", io.TextIOWrapper(file)):
+                self.assertEqual(ids_of(None, "-", False), b"a\nb")
 
     def test_a_line_that_is_too_long_ends_an_open_input(self):
         """No read follows it, which would wait, however long its judgement takes."""

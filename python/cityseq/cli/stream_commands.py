@@ -15,8 +15,8 @@ from ..engine import RequestError, keep_room, library
 from ..engine.judge import Query, Work, work_of
 from ..run import Result
 from ..run.streams import Results, Stream, results
-from ..sources import is_path, refuse_read, size_of, stream_of
-from ..sources.packed import LEVEL
+from ..sources import PIECE, is_path, refuse_read, size_of, stream_of
+from ..sources.packed import LEVEL, read_some
 from .options import Check, Filter, Info
 from .options import Request as AnyRequest
 from .output import Bar, Reports, is_terminal, printer_for, put, say
@@ -46,7 +46,7 @@ def _read(path: str, what: str) -> bytes:
                 return source.read()
         if sys.stdin is None:
             raise OSError("standard input is closed")
-        return sys.stdin.buffer.read()
+        return b"".join(iter(partial(read_some, sys.stdin.buffer, PIECE), b""))
     except OSError as fault:
         raise RequestError(f"{path}: {what}: {fault.strerror or fault}") from fault
 

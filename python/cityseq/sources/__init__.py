@@ -11,10 +11,11 @@ import select
 import stat
 import sys
 from collections.abc import Generator, Iterable, Iterator
+from functools import partial
 from typing import IO, TYPE_CHECKING, Any, Union
 
 from ..engine import READ_FAULTS, CityseqError, InvalidStream, ReadFault, RequestError, read_fault
-from .packed import Packing, Text, Unpacker, may_be_packed, packing_by_mark, packing_of
+from .packed import Packing, Text, Unpacker, may_be_packed, packing_by_mark, packing_of, read_some
 
 if TYPE_CHECKING:
     from array import array
@@ -117,7 +118,7 @@ class Reader:
         """Takes a file object and its name. If it is not known to be a text, it is unpacked if its
         first bytes show that it is packed."""
         self.file, self.name = file, name
-        self._read: Any = getattr(file, "read1", None) or file.read
+        self._read: Any = partial(read_some, file)
         self.fault: CityseqError | None = None
         self._poll = _poll_of(file)
         self._has_begun = is_text

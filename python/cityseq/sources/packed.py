@@ -8,9 +8,12 @@ from __future__ import annotations
 
 import enum
 import io
+import os
+import select
 import struct
 import zlib
 from collections.abc import Callable
+from functools import partial
 from importlib import import_module
 from typing import IO, Any
 
@@ -77,6 +80,27 @@ def block_length(head: bytes) -> int:
     return int.from_bytes(head[16:HEAD], "little") + 1
 
 
+def _blocks(file: Any) -> bool:
+    """Whether a read of a file waits for bytes."""
+    try:
+        return os.get_blocking(file.fileno())
+    except (AttributeError, OSError, ValueError):  # no file of the system
+        return True
+
+
+def read_some(file: Any, most: int) -> Any:
+    """Returns at most so many bytes of a file object, and none at its end. A buffered file that
+    does not block gives none too if none are ready: then this waits for the next one."""
+    piece = (getattr(file, "read1", None) or file.read)(most)
+    if piece != b"" or not isinstance(file, io.BufferedReader) or _blocks(file):
+        return piece
+    room, poll = bytearray(1), select.poll()
+    poll.register(file.fileno(), select.POLLIN)
+    while (count := file.readinto1(room)) is None:
+        poll.poll()
+    return bytes(room[:count])
+
+
 class Gzip:
     """Unpacks the members of a gzip archive."""
 
@@ -133,7 +157,7 @@ class Unpacker(io.RawIOBase):
         """Takes the file, how it is packed, and the bytes of it that were read before."""
         super().__init__()
         self._file, self._mark, self.packing = file, packing.mark, packing
-        self._read: Any = getattr(file, "read1", file.read)
+        self._read: Any = partial(read_some, file)
         self._kind: Gzip | _Zstd = Gzip() if packing is Packing.GZIP else _Zstd()
         self._member: Any = None
         self._has_begun = False
