@@ -58,21 +58,31 @@ class Sources(InFolder):
                 [str(path), str(packed), "<bytes>"],
             )
 
-    def waiting(self, pieces):
-        """A pipe that does not block, to which a thread writes these pieces with pauses."""
-        end, begin = os.pipe()
-        os.set_blocking(end, False)
+    def write(self, target, pieces):
+        """A thread that writes these pieces to a pipe, with pauses."""
 
-        def write():
-            with open(begin, "wb", buffering=0) as pipe:
+        def run():
+            with open(target, "wb", buffering=0) as pipe:
                 for piece in pieces:
                     time.sleep(0.2)
                     pipe.write(piece)
 
-        thread = threading.Thread(target=write)
+        thread = threading.Thread(target=run)
         thread.start()
         self.addCleanup(thread.join)
+
+    def waiting(self, pieces):
+        """A pipe that does not block, to which these pieces are written with pauses."""
+        end, begin = os.pipe()
+        os.set_blocking(end, False)
+        self.write(begin, pieces)
         return open(end, "rb")
+
+    def test_an_archive_that_comes_byte_by_byte(self):
+        path, packed = self.folder / "pipe", gzip.compress(GOOD)
+        os.mkfifo(path)
+        self.write(path, [packed[:1], packed[1:2], packed[2:]])
+        self.assertEqual(cityseq.check(path).lines, 3)
 
     def test_a_pipe_that_does_not_block(self):
         """A pause is not its end, also where the text or an archive could end."""

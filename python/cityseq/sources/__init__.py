@@ -340,7 +340,7 @@ def opened(source: Source) -> Iterator[Reader]:
             raise
         raise read_fault(fault, name) from fault
     with file:
-        yield Reader(file, name, is_text=True)
+        yield Reader(file, name, is_text=not isinstance(file, io.BufferedReader))
 
 
 def is_whole(source: Any, whole: bool | None = None) -> bool:
