@@ -2,6 +2,7 @@
 import gzip
 import io
 import os
+import socket
 import subprocess
 import sys
 import threading
@@ -94,6 +95,34 @@ class Sources(InFolder):
         with self.waiting([b"a\n", b"b\n"]) as file:
             with mock.patch("sys.stdin", io.TextIOWrapper(file)):
                 self.assertEqual(ids_of(None, "-", False), b"a\nb")
+
+    def test_a_socket_that_is_also_written_and_does_not_block(self):
+        """Its file has no descriptor, so nothing can wait for it: a pause is a fault."""
+        lines = GOOD.splitlines(keepends=True)
+        archive = b"".join(map(gzip.compress, lines))
+        first = len(gzip.compress(lines[0]))
+        for whole, cut in ((GOOD, len(lines[0])), (archive, 10), (archive, first)):
+            ours, theirs = socket.socketpair()
+            ours.setblocking(False)
+            with ours, theirs, ours.makefile("rwb") as file:
+                theirs.sendall(whole[:cut])
+                with self.assertRaises(cityseq.ReadFault) as told:
+                    cityseq.check(file)
+                self.assertIn("no bytes were ready", str(told.exception))
+            ours, theirs = socket.socketpair()
+            ours.setblocking(False)
+            with ours, ours.makefile("rwb") as file:
+                with theirs:
+                    theirs.sendall(whole)
+                self.assertEqual(cityseq.check(file).lines, 3)
+
+    def test_a_raw_file_of_an_archive_that_does_not_block(self):
+        end, begin = os.pipe()
+        os.set_blocking(end, False)
+        with open(end, "rb", buffering=0) as file, open(begin, "wb", buffering=0) as pipe:
+            pipe.write(gzip.compress(GOOD))
+            with self.assertRaises(cityseq.ReadFault):
+                cityseq.check(file)
 
     def test_a_line_that_is_too_long_ends_an_open_input(self):
         """No read follows it, which would wait, however long its judgement takes."""

@@ -15,7 +15,16 @@ from functools import partial
 from typing import IO, TYPE_CHECKING, Any, Union
 
 from ..engine import READ_FAULTS, CityseqError, InvalidStream, ReadFault, RequestError, read_fault
-from .packed import Packing, Text, Unpacker, may_be_packed, packing_by_mark, packing_of, read_some
+from .packed import (
+    NOT_READY,
+    Packing,
+    Text,
+    Unpacker,
+    may_be_packed,
+    packing_by_mark,
+    packing_of,
+    read_some,
+)
 
 if TYPE_CHECKING:
     from array import array
@@ -152,9 +161,7 @@ class Reader:
         if isinstance(piece, (bytes, bytearray)):
             return bytes(piece)
         is_text = isinstance(piece, str)
-        raise OSError(
-            "the source gives text: open it as binary" if is_text else "no bytes were ready"
-        )
+        raise OSError("the source gives text: open it as binary" if is_text else NOT_READY)
 
     def _text_of(self, head: bytes, most: int) -> bytes:
         """Returns the first text of a file with these first bytes."""

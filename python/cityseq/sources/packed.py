@@ -24,6 +24,9 @@ Note = Callable[[int, int, bool], None]
 READ = 1 << 17  # bytes of an archive that are read at once
 HEAD = 18  # bytes before the text of a block of BGZF
 READ_ZSTD = 1 << 11  # fewer, since all that they unpack to is in memory
+NOT_READY = "no bytes were ready"
+# Files that give no bytes also if none are ready.
+BUFFERED = io.BufferedReader, io.BufferedRWPair, io.BufferedRandom
 BLOCK = 65_280  # bytes of a text in a block of BGZF
 LEVEL = 4  # how well a text is packed, from 1 to 9
 # The last block of an archive. It is empty, and shows that nothing was cut off.
@@ -81,24 +84,39 @@ def block_length(head: bytes) -> int:
 
 
 def _blocks(file: Any) -> bool:
-    """Whether a read of a file waits for bytes."""
+    """Whether a read of a file is known to wait for bytes."""
     try:
         return os.get_blocking(file.fileno())
-    except (AttributeError, OSError, ValueError):  # no file of the system
-        return True
+    except (AttributeError, OSError, ValueError):  # no file of the system, or one that is hidden
+        return False
 
 
 def read_some(file: Any, most: int) -> Any:
     """Returns at most so many bytes of a file object, and none at its end. A buffered file that
-    does not block gives none too if none are ready: then this waits for the next one."""
+    does not block gives none too if none are ready: then this waits for the next one.
+
+    Raises:
+        OSError: The file does not block, no bytes are ready, and nothing shows when they are.
+    """
     piece = (getattr(file, "read1", None) or file.read)(most)
-    if piece != b"" or not isinstance(file, io.BufferedReader) or _blocks(file):
+    if piece is None:
+        raise OSError(NOT_READY)
+    if piece != b"" or not isinstance(file, BUFFERED) or _blocks(file):
         return piece
-    room, poll = bytearray(1), select.poll()
-    poll.register(file.fileno(), select.POLLIN)
+    room = bytearray(1)
     while (count := file.readinto1(room)) is None:
-        poll.poll()
+        _wait_for(file)
     return bytes(room[:count])
+
+
+def _wait_for(file: Any) -> None:
+    """Waits until a file has bytes. Raises `OSError` if it has no descriptor."""
+    poll = select.poll()
+    try:
+        poll.register(file.fileno(), select.POLLIN)
+    except io.UnsupportedOperation:
+        raise OSError(NOT_READY) from None
+    poll.poll()
 
 
 class Gzip:
