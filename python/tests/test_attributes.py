@@ -332,6 +332,16 @@ class Indexed(InFolder):
             _, values = self.indexed(*kinds, names=names)["v"]
             self.assertEqual(values, [None] * 8 + [1])
 
+    def test_a_part_without_features_has_no_attributes(self):
+        """So has a stream that is only a header, one of invalid lines, and a part of blank ones."""
+        for text in (b"", b"{}\n", b" \n" * 4, b" \n" * 400 + line("b0", '{"v":1}')):
+            path, index = self.file(HEADER + text), self.folder / "i.gpkg"
+            options = {"keep_going": True, "part_size": 200}
+            cityseq.index(path, index, attributes="all", **options)
+            with cityseq.Index(index) as opened:
+                found = [each.attributes for each in opened.select()]
+            self.assertEqual(found, [{"v": 1}] * text.count(b'"v"'))
+
     def test_only_the_main_city_object_counts(self):
         text = (
             b'{"type":"CityJSONFeature","id":"b","CityObjects":{"p":{"type":"BuildingPart",'

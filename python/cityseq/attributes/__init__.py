@@ -317,7 +317,7 @@ def _in_bits(number: int) -> int | Spelled:
 
 def _transposed(objects: list[dict[str, Any]]) -> Columns:
     """Returns the values of objects by the names. If these are too many, some are left out."""
-    names = list(objects[0])
+    names = list(objects[0]) if objects else []
     if len(names) <= MOST and all(list(each) == names for each in objects):
         return dict(zip(names, map(list, zip(*(each.values() for each in objects)))))
     some = islice(dict.fromkeys(chain.from_iterable(objects)), MOST + 1)
