@@ -13,13 +13,14 @@ from itertools import islice
 from unittest import mock
 
 import cityseq
-from cityseq.sources.packed import Gzip
+from cityseq.sources.packed import LAST, Gzip, Packing, pack
 
 from . import support
 from .serving import EXAMPLES, MISSING, Served, Within, rest_of
 from .support import HEADER, asked, command, feature
 
 if not MISSING:
+    from cityseq.serve.answers import BodyFault
     from cityseq.serve.bodies import Fed, Unpacking
 
 
@@ -221,6 +222,26 @@ class Verdicts(Served):
                 found += b"".join(unpacking.feed(packed[:size]))
                 packed = packed[size:]
             self.assertEqual(found + unpacking.end(), b"".join(texts))
+
+    def test_an_archive_of_blocks_without_its_last_block_is_cut_short(self):
+        """As for the command. Its empty last block shows that nothing was cut off."""
+        text, chance = HEADER + feature("a") + feature("b"), random.Random(5)
+        blocks = [pack(each, Packing.GZIP) for each in (HEADER, feature("a"), feature("b"))]
+        for step in (1, 7, 18, 19, 1 << 20, None):
+            for end, is_whole in ((b"", False), (LAST, True), (gzip.compress(b""), True)):
+                body, unpacking, found = b"".join(blocks) + end, Unpacking(None, 1 << 30), b""
+                while body:
+                    length = step or chance.randint(1, 40)
+                    found += b"".join(unpacking.feed(body[:length]))
+                    body = body[length:]
+                self.assertEqual(found, text)
+                with suppress() if is_whole else self.assertRaisesRegex(BodyFault, "cut short"):
+                    unpacking.end()
+        for path in ("/check", "/filter"):
+            answer = self.server.ask(path, "POST", b"".join(blocks[:2]))
+            self.assertEqual((answer.status, b"cut short" in answer.body), (400, True))
+            whole = self.server.ask(path, "POST", b"".join([*blocks, LAST]))
+            self.assertEqual(whole.status, 200)
 
     def test_filter_writes_what_the_command_writes(self):
         for name, query, words in (

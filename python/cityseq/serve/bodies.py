@@ -25,7 +25,7 @@ from ..engine.judge import Work, judge, work_of
 from ..engine.reports import Report
 from ..run import Fold, Result
 from ..sources.chunks import Chunk, Cutter
-from ..sources.packed import Gzip, Packing
+from ..sources.packed import HEAD, Gzip, Packing, is_block
 from .answers import (
     CITY_JSON,
     CITY_JSON_SEQ,
@@ -55,6 +55,7 @@ class Unpacking:
         self._kind = Gzip()
         self._member: Any = None
         self._size, self._has_ended = FEW, False  # of the next part; whether a member has ended
+        self._head, self._has_text = b"", False  # the first bytes of the last member
         self._begin = b""  # the first bytes, as long as they are too few to show it
         self._length = 0
 
@@ -88,27 +89,31 @@ class Unpacking:
             if self._member is None and self._has_ended and zeros:
                 at += zeros
                 continue
+            if self._member is None:
+                self._head, self._has_text = b"", False
             member = self._member = self._member or self._kind.member()
             try:
                 text = self._kind.more(member, part, UNPACKED)
             except self._kind.faults as fault:
                 raise BodyFault(f"the body is no archive of gzip: {fault}") from None
+            taken = len(part) - len(member.unused_data if member.eof else member.unconsumed_tail)
+            self._head += part[: min(taken, HEAD - len(self._head))]
+            at += taken
             if member.eof:
-                at += len(part) - len(member.unused_data)
                 self._member, self._size, self._has_ended = None, FEW, True
             else:
-                at += len(part) - len(member.unconsumed_tail)
                 self._size = min(2 * self._size, MANY)
             if text:
+                self._has_text = True
                 yield text
 
     def end(self) -> bytes:
         """Returns the rest.
 
         Raises:
-            BodyFault: The archive is cut short.
+            BodyFault: The archive is cut short, as one of blocks is without an empty last one.
         """
-        if self._member is not None:
+        if self._member is not None or (self._has_text and is_block(self._head)):
             raise BodyFault("the body is a gzip archive that is cut short")
         return self._begin
 
