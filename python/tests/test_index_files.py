@@ -205,6 +205,18 @@ class Read(InFolder):
         found = command(*words, preexec_fn=self.as_nobody)
         self.assertEqual(found, (open(SAMPLE, "rb").readline(), "", 0))
 
+    def test_a_cut_overwrites_neither_a_stream_nor_the_index(self):
+        stream, index = self.file(HEADER + feature("a"), "s.city.jsonl"), self.folder / "s.gpkg"
+        cityseq.index(stream, index)
+        link = self.folder / "link"
+        link.symlink_to(stream)
+        before = stream.read_bytes(), index.read_bytes()
+        with cityseq.Index(index) as opened, open(stream, "ab") as file:
+            for output in (stream, str(index), link, os.fsencode(stream), file):
+                with self.assertRaisesRegex(cityseq.RequestError, "is a file that is read"):
+                    opened.filter(output, ids="b")
+                self.assertEqual((stream.read_bytes(), index.read_bytes()), before)
+
     def test_no_pipe_is_opened(self):
         fifo = self.folder / "fifo"
         os.mkfifo(fifo)

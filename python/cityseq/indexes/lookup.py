@@ -13,7 +13,7 @@ from ..engine.judge import Box, Limits, Options, Query, Texts, Work, work_of
 from ..engine.records import id_of
 from ..run import Result
 from ..run.features import Feature, fault_of, feature_of
-from ..sources import is_url
+from ..sources import is_url, refuse_same
 from ..sources.outputs import Limit, Target
 from . import geopackage
 from .candidates import condition_of, has_more, reads_all, terms_of, want
@@ -437,10 +437,13 @@ class Index:
             whole streams, from the index.
 
         Raises:
-            CityseqError: As `select`, or a `WriteFault`.
+            CityseqError: As `select`, or a `WriteFault`. A `RequestError` too if the output is the
+                index or a stream.
         """
         from .cut import cut  # `select` does not need it
 
+        streams = self.streams if self.base is None else []
+        refuse_same([self.path, *(stream.path for stream in streams)], [output])
         work = self.work(ids, types, lods, box, where)
         return cut(self, work, output, jobs, limit=Limit.of(limit))
 
