@@ -14,9 +14,11 @@ import cityseq
 from cityseq.cli.stream_commands import ids_of
 from cityseq.engine.judge import work_of
 from cityseq.sources.chunks import Chunks
+from cityseq.sources.parts import ListedPart, manifest_of
+from cityseq.sources.regular import BlockHash
 
 from . import support
-from .support import HEADER, PLAIN, InFolder, feature, numbered
+from .support import HEADER, PLAIN, InFolder, command, feature, numbered
 
 GOOD = HEADER + feature("a") + feature("b", "Road")
 BROKEN = HEADER + feature("a") + feature("b", last=4) + feature("c")
@@ -123,6 +125,22 @@ class Sources(InFolder):
             pipe.write(gzip.compress(GOOD))
             with self.assertRaises(cityseq.ReadFault):
                 cityseq.check(file)
+
+    def test_a_folder_of_parts_is_not_overwritten(self):
+        folder, hashed = self.folder / "folder", BlockHash()
+        folder.mkdir()
+        hashed.add(GOOD)
+        part, manifest = folder / "part-00000.city.jsonl", folder / "_manifest.json"
+        listed = ListedPart(part.name, 3, 2, len(GOOD), hashed.text())
+        part.write_bytes(GOOD)
+        manifest.write_bytes(manifest_of([listed], cityseq.__version__))
+        for output in (part, manifest):
+            before = output.read_bytes()
+            with self.assertRaisesRegex(cityseq.RequestError, "is a file that is read"):
+                cityseq.filter(folder, output, ids="no")
+            words = ("filter", "--id", "no", "--output", str(output), str(folder))
+            self.assertEqual((command(*words)[2], output.read_bytes()), (2, before))
+        self.assertEqual(cityseq.filter(folder, folder / "other").features, 2)
 
     def test_a_line_that_is_too_long_ends_an_open_input(self):
         """No read follows it, which would wait, however long its judgement takes."""

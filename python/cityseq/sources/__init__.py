@@ -457,9 +457,21 @@ def _written_for(outputs: Iterable[Any]) -> Iterator[tuple[str, Any]]:
                 yield part, part
 
 
+def _read_for(sources: Iterable[Any]) -> Iterator[Any]:
+    """Yields each source that may be a file, and the files that are read for a folder of parts."""
+    for source in sources:
+        if isinstance(source, bytes):
+            continue
+        yield source
+        if is_path(source) and os.path.isdir(source):
+            from .parts import files_in  # few runs need it
+
+            yield from files_in(os.fsdecode(source))
+
+
 def _identities(sources: Iterable[Any]) -> set[Identity]:
     """Returns the identities of the files that are read."""
-    found = (identity(source, 0) for source in sources if not isinstance(source, bytes))
+    found = (identity(source, 0) for source in _read_for(sources))
     return {each for each in found if each}
 
 

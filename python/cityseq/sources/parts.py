@@ -62,6 +62,16 @@ def parts_in(folder: str) -> list[ListedPart]:
     return parts
 
 
+def files_in(folder: str) -> list[str]:
+    """Returns the paths of a folder's manifest and its parts. There are none if it cannot be read,
+    or is no folder of parts."""
+    try:
+        names = [MANIFEST, *(part.name for part in parts_in(folder))]
+    except OSError:
+        return []
+    return [path_in(folder, name) for name in names]
+
+
 def _is_plain(part: ListedPart) -> bool:
     name = part.name
     return isinstance(name, str) and name.startswith("part-") and not {"/", "\0"} & set(name)
