@@ -534,6 +534,16 @@ class Python(InFolder):
         found = [feature.attributes for feature in cityseq.features(path)]
         self.assertEqual(found, [{"a": 1.5, "t": "\0"}, {}, {}, {"o": {"b": 1}}])
 
+    def test_the_json_of_a_feature_nested_deeply(self):
+        """A valid line may be deeper than Python reads by itself."""
+        value, depth = "[" * 1_020 + "]" * 1_020, 0
+        text = HEADER + line("b", '{"a":%s}' % value)
+        for feature in cityseq.features(text, depth=1_024):
+            told = feature.json()["CityObjects"]["b"]["attributes"]["a"]
+            while told:
+                depth, (told,) = depth + 1, told
+        self.assertEqual(depth, 1_019)
+
     def test_tables(self):
         given = ('{"a":1.50,"id":"x"}', "", '{"a":[1],"Line":null}')
         path = self.file(HEADER + b"".join(line(f"b{n}", each) for n, each in enumerate(given)))

@@ -9,7 +9,7 @@ import sys
 from array import array
 from collections.abc import Iterator, Sequence
 from dataclasses import dataclass, field
-from functools import cached_property, lru_cache
+from functools import cached_property, lru_cache, partial
 from itertools import chain
 from math import nan
 from typing import TYPE_CHECKING, Any
@@ -28,7 +28,7 @@ from ..engine import (
 from ..engine import records as records_of
 from ..engine.judge import Work, held
 from ..engine.records import Range
-from ..engine.world import Axis, units_of
+from ..engine.world import Axis, deep, units_of
 from ..sources import Source, name_of
 from ..sources.chunks import Chunks
 
@@ -94,7 +94,7 @@ class Feature:
 
     def json(self) -> Any:
         """Returns the feature as Python's JSON reader gives it."""
-        return json.loads(self.bytes)
+        return deep(partial(json.loads, self.bytes))
 
     @property
     def extent(self) -> tuple[Extent, Extent, Extent]:
