@@ -2,14 +2,19 @@
 import json
 import random
 import sqlite3
+import sys
+import threading
+import time
 import unittest
 from contextlib import closing
 from decimal import Decimal
+from functools import partial
 from unittest import mock
 
 import cityseq
 from cityseq import OutOfDate, ReadFault, RequestError, WriteFault
 from cityseq.attributes import columns, columns_of, members, rows_of
+from cityseq.engine.world import NESTED, deep
 
 from .support import HEADER, InFolder, command
 
@@ -233,10 +238,33 @@ class Values(unittest.TestCase):
         )
 
     def test_attributes_nested_deeply(self):
-        deep = "[" * 1_000 + "]" * 1_000
-        found = columns_of([b'{"a":%b,"b":1}' % deep.encode()], ("a", "b"))
-        self.assertEqual(found, {"a": [deep], "b": [1]})
-        self.assertEqual(columns_of([b'{"a":%b}' % deep.encode()], "all"), {"a": [deep]})
+        value = "[" * 1_000 + "]" * 1_000
+        found = columns_of([b'{"a":%b,"b":1}' % value.encode()], ("a", "b"))
+        self.assertEqual(found, {"a": [value], "b": [1]})
+        self.assertEqual(columns_of([b'{"a":%b}' % value.encode()], "all"), {"a": [value]})
+
+    def test_threads_that_read_deeply_at_once(self):
+        """Python's limit is one for all threads: none lowers it while another reads."""
+        usual, seen = sys.getrecursionlimit(), []
+
+        def read(seconds):
+            limit = sys.getrecursionlimit()
+            if threading.current_thread() not in begun:
+                begun.add(threading.current_thread())
+                raise RecursionError
+            time.sleep(seconds)
+            seen.append((limit, sys.getrecursionlimit()))
+
+        begun = set()
+        threads = [
+            threading.Thread(target=deep, args=(partial(read, seconds),)) for seconds in (0.1, 0.3)
+        ]
+        for thread in threads:
+            thread.start()
+        for thread in threads:
+            thread.join()
+        self.assertEqual(seen, [(usual + NESTED, usual + NESTED)] * 2)
+        self.assertEqual(sys.getrecursionlimit(), usual)
 
     def test_values_without_members_next_to_objects_in_objects(self):
         for other in (b"null", b"7", b'"x"', b""):

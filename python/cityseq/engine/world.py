@@ -10,6 +10,7 @@ from collections.abc import Callable, Iterable, Sequence
 from decimal import Decimal
 from functools import partial
 from math import gcd, nextafter
+from threading import RLock
 from typing import Any, TypeVar
 
 from .records import Range
@@ -22,6 +23,7 @@ DIGITS = 200  # of a world coordinate, at most
 ENOUGH = 800  # digits: more than a number in the middle between two floats has
 NESTED = 1_100  # more arrays and objects than a line may have open at once
 Value = TypeVar("Value")
+_deepening = RLock()  # held while the limit of the whole process is raised
 
 
 def floor_of(count: int, unit: int) -> float:
@@ -187,12 +189,13 @@ def deep(read: Callable[[], Value]) -> Value:
     try:
         return read()
     except RecursionError:
-        limit = sys.getrecursionlimit()
-        sys.setrecursionlimit(limit + NESTED)
-        try:
-            return read()
-        finally:
-            sys.setrecursionlimit(limit)
+        with _deepening:
+            limit = sys.getrecursionlimit()
+            sys.setrecursionlimit(limit + NESTED)
+            try:
+                return read()
+            finally:
+                sys.setrecursionlimit(limit)
 
 
 def read_json(text: str) -> Any:
