@@ -228,6 +228,25 @@ class Sources(InFolder):
                     self.file(text, file)
         self.assertEqual(cityseq.check(self.file(text)).status, 0)
 
+    def test_a_file_that_changes_while_features_are_read(self):
+        """And by `table` and `collect`."""
+        path = self.file(HEADER + PLAIN * 20)
+
+        def change(*_):
+            with open(path, "ab") as file:
+                file.write(PLAIN)
+
+        for call in (
+            lambda: [change() for _ in cityseq.features(path)],
+            lambda: cityseq.table(path),
+            lambda: cityseq.collect(path, io.BytesIO()),
+        ):
+            with mock.patch("cityseq.run.features._Table.add", change), mock.patch(
+                "cityseq.convert.collecting.Collection.feature", change
+            ), self.assertRaises(cityseq.ReadFault) as caught:
+                call()
+            self.assertIn("changed while it was read", str(caught.exception))
+
     def test_what_cannot_be_read(self):
         with open(self.file(GOOD)) as text:
             for source, kind in (

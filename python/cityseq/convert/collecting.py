@@ -16,7 +16,7 @@ from typing import Any
 from ..engine import USUAL_DEPTH, USUAL_LINE, CallStatus, InvalidStream, RequestError, library
 from ..engine.judge import Limits, Options, Work, held, work_of
 from ..engine.world import transform_of, units_of
-from ..run.features import fault_of
+from ..run.features import confirm, fault_of
 from ..sources import Source, bytes_of, name_of, refuse_same
 from ..sources.chunks import Chunks
 from ..sources.outputs import Target, Whole, Writer
@@ -151,8 +151,8 @@ class Collected:
 
 def _lines(source: Source, work: Work) -> Iterator[tuple[int, bytes]]:
     """Yields the number and the text of the header and of each feature. All are valid."""
-    lines = 0
-    for chunk in Chunks(source, work):
+    lines, chunks = 0, Chunks(source, work)
+    for chunk in chunks:
         for _, view in chunk.parts(chunk.length or 1):
             header, part = chunk.header, held(view)
             request, room = work.request(header, part), part.count(b"\n") + 1
@@ -166,6 +166,7 @@ def _lines(source: Source, work: Work) -> Iterator[tuple[int, bytes]]:
             lines += answer.lines - 1
         if chunk.fault is not None:
             raise chunk.fault
+    confirm(chunks)
 
 
 class Collection:

@@ -22,6 +22,7 @@ from ..engine import (
     MemoryFault,
     RawAnswer,
     RawFeature,
+    ReadFault,
     Text,
     library,
 )
@@ -29,7 +30,7 @@ from ..engine import records as records_of
 from ..engine.judge import Work, held
 from ..engine.records import Range
 from ..engine.world import Axis, deep, units_of
-from ..sources import Source, name_of
+from ..sources import CHANGED, Source, name_of
 from ..sources.chunks import Chunks
 
 if TYPE_CHECKING:
@@ -143,11 +144,19 @@ def fault_of(answer: RawAnswer, header: bytes, part: Text, lines: int, file: str
 def parts_of(source: Source, work: Work, size: int | None = None) -> Iterator[tuple[bytes, Text]]:
     """Yields the header with each part. If no line follows it, yields it with an empty part. Raises
     the fault of a read after these."""
-    for chunk in Chunks(source, work, size):
+    chunks = Chunks(source, work, size)
+    for chunk in chunks:
         for _, part in chunk.parts(chunk.length or 1):
             yield chunk.header, part
         if chunk.fault is not None:
             raise chunk.fault
+    confirm(chunks)
+
+
+def confirm(chunks: Chunks) -> None:
+    """Raises `ReadFault` if a file has changed since its chunks were begun."""
+    if chunks.is_changed:
+        raise ReadFault(f"read fault: {CHANGED}", None, chunks.file)
 
 
 def features(source: Source, work: Work) -> Iterator[Feature]:
