@@ -1,18 +1,10 @@
 -- What an answer tells of a text that was judged.
-use Rattle.std.proofs.Common.{◌≡◌, ℕ, List, Option, Some, refl, sym, ap, ◌∙◌}
-use Rattle.cj_spans.specs.Meaning.Reason.{code_of}
-use Rattle.cj_spans.specs.declared.reason.Reason.{Reason}
+use Rattle.cityseq_c.proofs.Common.{Answer, Complete, End, IsJudged, IsUnread, List, Option, Reason, Rules, Some, WriteFault, ap, code_of, reason_with, refl, sym, ℕ, ◌∙◌, ◌≡◌}
 use Rattle.cj_spans.specs.declared.reason.Reason.TheVariants.{NoHeader, LineTooLong, NotUtf8, Syntax, TooDeep, MissingMember, DuplicateName, WrongKind, NumberRange, WrongType, WrongVersion, NotEmpty, NotThree, NotWhole, UnknownObjectType, IdNotFound, ChildNotFound, LinkNotMutual, NoParent, UnknownGeometryType, VertexIndex, SemanticsCount, SemanticsIndex, TemplateIndex, BadInstance, TransformNotFixed, NotReached}
-use Rattle.cj_stream.specs.declared.ending.End.{End}
-use Rattle.cj_stream.specs.declared.ending.End.TheVariants.{Complete, Refused, ReadFault, ReadLimit, WriteFault, Memory}
-use Rattle.cj_stream.specs.Cut.{IsUnread}
+use Rattle.cj_stream.specs.declared.ending.End.TheVariants.{Refused, ReadFault, ReadLimit, Memory}
 use Rattle.cj_stream.specs.Parts.{capped_end, moved_end}
-use Rattle.cj_stream.specs.Meaning.Rules.{Rules}
 use Rattle.cityseq_c.specs.Answer.{code_at, line_at, place_at, status_of}
 use Rattle.cityseq_c.specs.Joined.{ended_by, outcome_by, IsAnswerOf}
-use Rattle.cityseq_c.specs.Judged.{IsJudged}
-use Rattle.cityseq_c.specs.Words.{reason_with}
-use Rattle.cityseq_c.specs.declared.answer.Answer.{Answer}
 
 -- a reason is that of its code
 reason-known : (r : Reason) → reason_with (code_of r) ≡ Some r

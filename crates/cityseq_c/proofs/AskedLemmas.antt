@@ -1,9 +1,6 @@
 -- Texts that are asked for, and those that are UTF-8.
-use Rattle.std.proofs.Common.{◌≡◌, ℕ, List, Bool, true, false, Bor, Result, Some, Ok, Err, ap, refl, sym}
-use Rattle.std.specs.Prelude.{IsUtf8, MatchResult, is_ok, not}
-use Rattle.std.specs.Str.{is_utf8}
+use Rattle.cityseq_c.proofs.Common.{Bool, Bor, Err, IsUtf8, List, MatchResult, Ok, Result, Some, ap, false, is_ok, is_utf8, not, refl, sym, text_asked, true, ℕ, ◌≡◌}
 use Rattle.std.proofs.lemmas.Str.{is_utf8-from_IsUtf8, IsUtf8-from_is_utf8}
-use Rattle.cityseq_c.specs.Request.{text_asked}
 use Rattle.cityseq_c.specs.declared.request.Fault.TheVariants.{NotUtf8}
 
 pub asked-text : (asked : Bool) (s : List ℕ) → asked ≡ true → IsUtf8 s → text_asked asked s ≡ Ok (Some s)

@@ -1,19 +1,12 @@
 -- Numbers whose binary digits tell which numbers are among some.
-use Rattle.std.proofs.Common.{◌≡◌, ℕ, zero, suc, ◌+◌, ◌-◌, ◌*◌, ◌%◌, ◌^◌, ◌<◌, ◌≤◌, List, [], ◌∷◌, Bool, true, false, cond, get_or, refl, ap, sym, subst, ◌∙◌, arith, add-one, max, nat_eq, w64, length}
+use Rattle.cityseq_c.proofs.Common.{Bool, List, RisesBy, [], add-one, ap, arith, bits, capped, cond, eqb-false, false, filter, get_or, how_often, is_among, length, max, mod-le, nat_tests, pow_more, refl, subst, suc, sym, true, zero, ℕ, ◌+◌, ◌-◌, ◌<◌, ◌^◌, ◌∙◌, ◌∷◌, ◌≡◌, ◌≤◌}
+use Rattle.std.proofs.Common.{◌*◌, ◌%◌, nat_eq, w64, eqb-true, pow_pos}
 use Rattle.std.specs.Prelude.{nat_lt}
-use Rattle.std.specs.List.{filter}
 use Rattle.std.specs.Int.{bit_at}
 use Rattle.std.specs.Int.Bits.{bit_or}
-use Rattle.std.proofs.lemmas.Bool.{eqb-true, eqb-false}
-use Rattle.std.proofs.lemmas.Bool.Decides.{nat_tests}
-use Rattle.std.proofs.lemmas.Grind.{pow_more}
-use Rattle.std.proofs.Math.Nat.{mod-le}
 use Rattle.std.proofs.Math.Pow.{pow-lt}
-use Rattle.std.proofs.lemmas.Nat.{or_lt, pow_pos}
+use Rattle.std.proofs.lemmas.Nat.{or_lt}
 use Rattle.std.proofs.lemmas.Nat.Bits.{bit_at-lt, bit_at-zero, bit_at_above, bit_at_cat_high, bit_at_cat_low, bit_at_lowest, bit_at_set_other, bit_at_set_same, same_from_bits_below}
-use Rattle.cj_stream.specs.Tallied.{capped, how_often}
-use Rattle.cj_stream.specs.TallySink.{RisesBy}
-use Rattle.cityseq_c.specs.Features.{bits, is_among}
 
 pub bits-none : (p : ℕ → Bool) → bits p 0 ≡ 0
 unfolding bits

@@ -1,10 +1,6 @@
 -- What is set of a box, by what its text answers.
-use Rattle.std.proofs.Common.{◌≡◌, Result, Ok, Err, sym, ap, ◌∙◌}
-use Rattle.std.specs.Prelude.{MatchResult}
+use Rattle.cityseq_c.proofs.Common.{Box, Criteria, Err, MatchResult, Ok, QueryFault, Result, ap, edges_by, sym, ◌∙◌, ◌≡◌}
 use Rattle.cj_stream.specs.Adding.{with_box}
-use Rattle.cj_stream.specs.Meaning.Criteria.{Criteria, Box}
-use Rattle.cj_stream.specs.declared.query.fault.QueryFault.{QueryFault}
-use Rattle.cityseq_c.specs.Request.{edges_by}
 
 module _ (r : Result (Unit {0}) QueryFault) (old new : Criteria) where
   abbrev Sets : Result Box QueryFault → Type 0

@@ -1,22 +1,8 @@
 -- What a call answers, by how its stream was judged.
-use Rattle.std.proofs.Common.{◌≡◌, ◌⊎◌, ℕ, List, ◌++◌, Result, Ok, Err, false, subst, sym, ap, refl, ◌∙◌, inl, inr, arith}
-use Rattle.std.specs.Prelude.{IfOk, IfErr, OnErr, OnOk, is_ok}
-use Rattle.cj_stream.specs.declared.running.Outcome.{Outcome}
-use Rattle.cj_stream.specs.declared.ending.End.{End}
-use Rattle.cj_stream.specs.declared.ending.End.TheVariants.{Complete, Refused, ReadFault, ReadLimit, WriteFault, Memory as NoMemory}
-use Rattle.cj_stream.specs.Sink.{HasRisen, SinkLaw}
-use Rattle.cj_stream.specs.Meaning.Rules.{Rules}
-use Rattle.cj_stream.specs.Verdict.{stream_of}
+use Rattle.cityseq_c.proofs.Common.{Answer, Complete, Copied, DeclinesCall, End, Err, Fault, HasRisen, IfErr, IfOk, IsAsked, IsJudged, Judged, List, Memory, NotJudged, Ok, OnErr, OnOk, Outcome, Request, Result, Rules, SinkLaw, Told, WriteFault, ap, arith, false, inl, inr, is_ok, lent, refl, stream_of, subst, sym, ℕ, ◌++◌, ◌∙◌, ◌≡◌, ◌⊎◌}
+use Rattle.cj_stream.specs.declared.ending.End.TheVariants.{Refused, ReadFault, ReadLimit, Memory as NoMemory}
 use Rattle.cityseq_c.specs.Answer.{answer_to, not_judged, status_of}
-use Rattle.cityseq_c.specs.Called.{Copied, Filters, Goes, IsUnjudged, call}
-use Rattle.cityseq_c.specs.Judged.{IsJudged, Judged, lent}
-use Rattle.cityseq_c.specs.Query.{DeclinesCall}
-use Rattle.cityseq_c.specs.Request.{IsAsked}
-use Rattle.cityseq_c.specs.declared.answer.Answer.{Answer}
-use Rattle.cityseq_c.specs.declared.report_slice.Told.{Told}
-use Rattle.cityseq_c.specs.declared.request.NotJudged.{NotJudged}
-use Rattle.cityseq_c.specs.declared.request.NotJudged.TheVariants.{Fault, Memory}
-use Rattle.cityseq_c.specs.declared.request.Request.{Request}
+use Rattle.cityseq_c.specs.Called.{Filters, Goes, IsUnjudged, call}
 
 module _ {S : Type 0} (law : SinkLaw S) (r : Request) (header part : List ℕ) (s t : S) (old new : List Told) where
   pub goes : (also : Rules → Outcome → Type 0) → ((rules : Rules) (o : Outcome)

@@ -1,9 +1,6 @@
 -- Sums of counts.
-use Rattle.std.proofs.Common.{◌≡◌, ℕ, zero, suc, ◌+◌, ◌-◌, ◌<◌, List, [], ◌∷◌, Bool, true, false, cond, get_or, length, map, refl, arith}
-use Rattle.std.specs.Prelude.{Option, None, Some, ◌&&◌, nat_le, sum}
-use Rattle.std.proofs.lemmas.Bool.Decides.{nat_tests}
+use Rattle.cityseq_c.proofs.Common.{Bool, List, None, Option, Some, [], arith, capped, class_by, cond, false, get_or, how_often, length, map, nat_le, nat_tests, refl, suc, sum, true, zero, ℕ, ◌&&◌, ◌+◌, ◌-◌, ◌<◌, ◌∷◌, ◌≡◌}
 use Rattle.std.proofs.lemmas.List.Sums.{sum_by-cons}
-use Rattle.cj_stream.specs.Tallied.{capped, class_by, how_often}
 
 -- the sum of counts that were capped
 pub capped-sum : (xs ys : List ℕ) → length xs ≡ length ys

@@ -1,12 +1,8 @@
 -- The first line of some bytes, as a search for LF finds it.
-use Rattle.std.proofs.Common.{◌≡◌, ℕ, ◌+◌, ◌<◌, List, [], ◌∷◌, Some, None, false, length, take, drop, arith, refl, sym, ap, ◌∙◌, length-append, length-take}
-use Rattle.std.proofs.lemmas.List.{drop-drop, drop_all}
-use Rattle.memchr.specs.Find.{IsFirstByte, is_byte}
-use Rattle.cj_stream.specs.Meaning.Lines.{Line, ended_line, lines, raw}
+use Rattle.cityseq_c.proofs.Common.{IsFirstByte, Line, List, None, Passes, Place, Some, [], ap, arith, drop, drop-drop, drop_all, ended_line, false, is_byte, length, length-append, length-take, lines, past_from, raw, refl, sym, take, ℕ, ◌+◌, ◌<◌, ◌∙◌, ◌∷◌, ◌≡◌}
 use Rattle.cj_stream.proofs.LineLemmas.{begun-none, closed-none, lines-cut}
 use Rattle.cj_stream.proofs.PartsLemmas.{lines-headed}
 use Rattle.cj_stream.proofs.PieceSlices.{lf_found, NoLf-before, NoLf-nowhere}
-use Rattle.cityseq_c.specs.Features.{Passes, Place, past_from}
 
 abbrev pub place : ℕ → ℕ → List Line → Place
 place line begin left = record { line = line; begin = begin; left = left }

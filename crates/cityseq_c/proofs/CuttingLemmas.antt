@@ -1,13 +1,6 @@
 -- Where whole lines end.
-use Rattle.std.proofs.Common.{◌≡◌, ℕ, ◌+◌, ◌≤◌, List, [], ◌∷◌, ◌++◌, Some, None, Bool, true, false, ltb, length, map, take, drop, get_or, min, arith, refl, sym, ap, ◌∙◌, length-take, length-drop, add-one}
-use Rattle.std.specs.List.{flat_map}
-use Rattle.std.proofs.lemmas.List.{append-nil, get_or-drop, take-append-drop, take_all, take-take}
-use Rattle.std.proofs.lemmas.Bool.{eqb-true, ltb-true, ltb-false}
-use Rattle.std.proofs.lemmas.Bool.Decides.{nat_tests}
-use Rattle.std.proofs.Math.Seq.{take-suc}
-use Rattle.memchr.specs.Find.{IsFirstByte, IsLastByte, is_byte}
-use Rattle.cj_stream.specs.Lines.{NoLf, whole, closed, begun}
-use Rattle.cj_stream.specs.Meaning.Lines.{ended_line, raw}
+use Rattle.cityseq_c.proofs.Common.{Bool, IsFirstByte, IsLastByte, List, NoLf, None, Some, [], add-one, ap, append-nil, arith, begun, closed, drop, ended_line, false, flat_map, get_or, is_byte, length, length-take, ltb, ltb-false, ltb-true, map, min, nat_tests, raw, refl, sym, take, take-append-drop, take_all, true, whole, ℕ, ◌++◌, ◌+◌, ◌∙◌, ◌∷◌, ◌≡◌, ◌≤◌}
+use Rattle.std.proofs.Common.{length-drop, get_or-drop, take-take, eqb-true, take-suc}
 use Rattle.cj_stream.proofs.IsLinesLemmas.{whole-begun}
 use Rattle.cj_stream.proofs.LineLemmas.{NoLf-from_places, begun-lf, closed-ended, closed-more, closed-none}
 use Rattle.cj_stream.proofs.PieceSlices.{lf_found, lf_front, NoLf-before, NoLf-nowhere}

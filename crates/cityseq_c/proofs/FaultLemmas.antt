@@ -1,18 +1,11 @@
 -- What is wrong with a query is wrong with a request.
-use Rattle.std.proofs.Common.{◌≡◌, ℕ, List, Bool, true, false, cond, Option, None, Some, Result, Ok, Err, inl, inr, refl, subst}
-use Rattle.std.specs.Str.{is_utf8}
+use Rattle.cityseq_c.proofs.Common.{Bool, Box, ChosenTypes, Criteria, DeclinesCall, Err, Fault, IsFit, List, Memory, None, NotJudged, Ok, Option, QueryFault, Request, Result, Some, box_text, cond, edges_by, false, fault_of, inl, inr, is_utf8, items, refl, subst, text_asked, true, types_or_fault, ℕ, ◌≡◌}
 use Rattle.cj_stream.specs.Adding.{no_types, with_types}
-use Rattle.cj_stream.specs.BoxText.{box_text}
-use Rattle.cj_stream.specs.Meaning.Criteria.{Box, ChosenTypes, Criteria}
-use Rattle.cj_stream.specs.declared.query.fault.QueryFault.{QueryFault}
 use Rattle.cj_stream.specs.declared.query.fault.QueryFault.TheVariants.{Memory as NoMemory, UnknownTypeName, BadBox as BadBoxText, BoxRange as BoxTextRange, EmptyBox as EmptyBoxText}
-use Rattle.cityseq_c.specs.Query.{DeclinesCall, DeclinesPart, DeclinesQuery, DeclinesTexts, DeclinesTypes}
-use Rattle.cityseq_c.specs.Request.{AsksFor, IsFit, box_asked, box_by, edges_by, fault_of, ids_asked, items, lods_asked, or_fault, text_asked, texts_by, types_asked, types_by, types_or_fault}
+use Rattle.cityseq_c.specs.Query.{DeclinesPart, DeclinesQuery, DeclinesTexts, DeclinesTypes}
+use Rattle.cityseq_c.specs.Request.{AsksFor, box_asked, box_by, ids_asked, lods_asked, or_fault, texts_by, types_asked, types_by}
 use Rattle.cityseq_c.specs.declared.request.Fault.{Fault as WrongFault}
 use Rattle.cityseq_c.specs.declared.request.Fault.TheVariants.{LineLimit, DepthLimit, NoLine, NotUtf8, UnknownType, BadBox, BoxRange, EmptyBox, TooLong}
-use Rattle.cityseq_c.specs.declared.request.NotJudged.{NotJudged}
-use Rattle.cityseq_c.specs.declared.request.NotJudged.TheVariants.{Fault, Memory}
-use Rattle.cityseq_c.specs.declared.request.Request.{Request}
 
 -- a fault of a query
 abbrev IsOfQuery : WrongFault → Type 0

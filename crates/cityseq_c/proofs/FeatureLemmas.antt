@@ -1,13 +1,6 @@
 -- The records of the features of a header and a part.
-use Rattle.std.proofs.Common.{◌≡◌, ℕ, List, ◌++◌, subst, sym}
-use Rattle.cj_stream.specs.Meaning.Lines.{lines}
-use Rattle.cj_stream.specs.Meaning.Outputs.{Took}
-use Rattle.cj_stream.specs.Meaning.Rules.{Rules}
-use Rattle.cj_stream.specs.Verdict.{kept}
-use Rattle.cityseq_c.specs.Features.{HoldsRecords, ListsItem, listed_count, listed_loan, listed_place, listed_room, spots}
-use Rattle.cityseq_c.specs.Request.{AreCut}
-use Rattle.cityseq_c.specs.declared.features.listed.Listed.{Listed}
-use Rattle.cityseq_c.specs.declared.features.record_of.FeatureRecord.{FeatureRecord}
+use Rattle.cityseq_c.proofs.Common.{AreCut, FeatureRecord, List, Listed, Rules, Took, kept, lines, spots, subst, sym, ℕ, ◌++◌, ◌≡◌}
+use Rattle.cityseq_c.specs.Features.{HoldsRecords, ListsItem, listed_count, listed_loan, listed_place, listed_room}
 use Rattle.cityseq_c.proofs.RecordLemmas.{all-recorded}
 use Rattle.cityseq_c.proofs.SpotLemmas.{found_from, found-spots}
 

@@ -1,16 +1,8 @@
 -- Where lines begin, by the lines that were passed.
-use Rattle.std.proofs.Common.{◌≡◌, ℕ, zero, suc, ◌+◌, ◌-◌, ◌⊎◌, inl, inr, ◌≤◌, List, [], ◌∷◌, ◌++◌, drop, length, take, sym, ap, refl, ◌∙◌, arith, append_assoc, length-append}
-use Rattle.std.specs.List.{flat_map}
-use Rattle.std.proofs.lemmas.List.{append-nil, take_all}
-use Rattle.cj_stream.specs.Meaning.Lines.{Line, ended_line, lines, raw}
-use Rattle.cj_stream.specs.Lines.{begun, last_line, NoLf}
-use Rattle.std.proofs.lemmas.Grind.{flat_map-append}
+use Rattle.cityseq_c.proofs.Common.{AreBehind, AreCut, IsAlong, Line, List, NoLf, Passes, Place, [], ap, append-nil, append_assoc, arith, begin_of, begun, drop, ended_line, flat_map, flat_map-append, inl, inr, last_line, length, length-append, lines, past_from, raw, refl, suc, sym, take, take_all, zero, ℕ, ◌++◌, ◌+◌, ◌-◌, ◌∙◌, ◌∷◌, ◌≡◌, ◌≤◌, ◌⊎◌}
 use Rattle.cj_stream.proofs.IsLinesLemmas.{lines-are_lines}
 use Rattle.cj_stream.proofs.LineLemmas.{closed-none, lines-cut}
 use Rattle.cj_stream.proofs.PartsLemmas.{lines-headed}
-use Rattle.cityseq_c.specs.Features.{Passes, Place, past_from}
-use Rattle.cityseq_c.specs.Begins.{AreBehind, IsAlong, begin_of}
-use Rattle.cityseq_c.specs.Request.{AreCut}
 use Rattle.cityseq_c.proofs.CursorLemmas.{place}
 
 -- at the beginning of a part no line was passed

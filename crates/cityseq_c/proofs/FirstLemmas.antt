@@ -1,8 +1,7 @@
 -- The first lines of a text are the lines of their bytes.
-use Rattle.std.proofs.Common.{◌≡◌, ℕ, zero, suc, List, [], ◌∷◌, take, inl, refl, sym}
+use Rattle.cityseq_c.proofs.Common.{Line, List, [], inl, lines, refl, suc, sym, take, zero, ℕ, ◌∷◌, ◌≡◌}
 use Rattle.cj_stream.specs.Bound.{first_lines}
 use Rattle.cj_stream.specs.IsLines.{AreEnded, HaveNoLf}
-use Rattle.cj_stream.specs.Meaning.Lines.{Line, lines}
 use Rattle.cj_stream.proofs.IsLinesLemmas.{lines-are_lines, only-lines}
 
 HaveNoLf-take : (n : ℕ) (ls : List Line) → HaveNoLf ls → HaveNoLf (take n ls)

@@ -1,12 +1,5 @@
 -- What is written of a text is not longer than it.
-use Rattle.std.proofs.Common.{◌≡◌, ℕ, zero, suc, ◌+◌, ◌≤◌, List, [], ◌∷◌, ◌++◌, Bool, true, false, cond, length, take, Option, Some, ap, arith}
-use Rattle.std.specs.List.{flat_map}
-use Rattle.std.specs.Prelude.{slice_get}
-use Rattle.std.proofs.lemmas.List.{length-append}
-use Rattle.cj_stream.specs.Items.{Item, raw_item}
-use Rattle.cj_stream.specs.Meaning.Lines.{Line, lines, raw}
-use Rattle.cj_stream.specs.Meaning.Rules.{Rules}
-use Rattle.cj_stream.specs.Verdict.{is_kept, item_after, kept_from, output_first, verdict}
+use Rattle.cityseq_c.proofs.Common.{Bool, Item, Line, List, Option, Rules, Some, [], ap, arith, cond, false, flat_map, is_kept, item_after, kept_from, length, length-append, lines, output_first, raw, raw_item, slice_get, suc, take, true, verdict, zero, ℕ, ◌++◌, ◌+◌, ◌∷◌, ◌≡◌, ◌≤◌}
 use Rattle.cj_stream.proofs.IsLinesLemmas.{lines-are_lines}
 
 -- the bytes of some items, and of some lines

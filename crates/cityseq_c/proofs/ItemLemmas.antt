@@ -1,7 +1,6 @@
 -- The items of a text.
-use Rattle.std.proofs.Common.{◌≡◌, ℕ, List, [], ◌∷◌, length, refl, nat_eq, false}
-use Rattle.std.specs.List.{slice_split}
-use Rattle.cityseq_c.specs.Request.{items}
+use Rattle.cityseq_c.proofs.Common.{List, [], false, items, length, refl, slice_split, ℕ, ◌∷◌, ◌≡◌}
+use Rattle.std.proofs.Common.{nat_eq}
 
 -- the items of a text that is not empty
 pub items-some : (s : List ℕ) → nat_eq (length s) 0 ≡ false → items s ≡ slice_split (λ c. nat_eq c 10) s

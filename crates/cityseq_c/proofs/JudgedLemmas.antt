@@ -1,35 +1,14 @@
 -- A header and a part are one text, of which an engine was given the header, or all.
-use Rattle.std.proofs.Common.{◌≡◌, ℕ, zero, suc, ◌+◌, ◌⊎◌, inl, inr, ◌≤◌, List, [], ◌∷◌, ◌++◌, length, take, Option, Some, None, subst, sym, ap, refl, ◌∙◌, arith, append_assoc, add-one}
-use Rattle.std.specs.Prelude.{◌≢◌, slice_get}
-use Rattle.std.specs.List.{filter, flat_map}
-use Rattle.std.proofs.lemmas.List.{append-nil, take-append-le}
+use Rattle.cityseq_c.proofs.Common.{AreCut, Complete, Counts, CountsAll, Delivers, End, Ends, Faults, Holds, IsBounded, IsJudged, IsUnhindered, Judged, Line, List, NoLf, None, Noted, Option, Outcome, Peaks, PutsPieces, Rules, SinkLaw, Some, Told, Took, WriteFault, [], add-one, ap, append-nil, append_assoc, arith, ended_line, ending, filter, flat_map, in_pieces, inl, inr, is_feature, is_kept, item_after, joined, kept, kept_from, length, lent, lines, raw, refl, slice_get, stream_of, subst, suc, sym, take, take-append-le, up_to, verdict, zero, ℕ, ◌++◌, ◌+◌, ◌∙◌, ◌∷◌, ◌≡◌, ◌≢◌, ◌≤◌, ◌⊎◌}
 use Rattle.cj_budget.specs.Meaning.Limits.{LimitPair}
-use Rattle.cj_budget.specs.declared.limits.Peaks.{Peaks}
-use Rattle.cj_stream.specs.declared.ending.End.{End}
-use Rattle.cj_stream.specs.declared.ending.End.TheVariants.{Complete, Refused, ReadFault, ReadLimit, WriteFault, Memory}
-use Rattle.cj_stream.specs.declared.running.Outcome.{Outcome}
+use Rattle.cj_stream.specs.declared.ending.End.TheVariants.{Refused, ReadFault, ReadLimit, Memory}
 use Rattle.cj_stream.specs.Bound.{IsBelow, IsExact, exact_peaks, first_lines}
-use Rattle.cj_stream.specs.Meaning.Bound.{IsBounded}
-use Rattle.cj_stream.specs.Meaning.Lines.{Line, ended_line, lines, raw}
-use Rattle.cj_stream.specs.Lines.{joined, NoLf}
-use Rattle.cj_stream.specs.Cut.{PutsPieces, in_pieces}
-use Rattle.cj_stream.specs.Engine.{Counts, Delivers, Faults}
-use Rattle.cj_stream.specs.Meaning.Headline.{IsUnhindered}
-use Rattle.cj_stream.specs.Items.{is_feature}
 use Rattle.cj_stream.specs.Parts.{headed}
 use Rattle.cj_stream.proofs.LineLemmas.{first-length}
 use Rattle.cj_stream.specs.ReportSink.{Notes}
-use Rattle.cj_stream.specs.Run.{CountsAll, Ends}
-use Rattle.cj_stream.specs.Meaning.Outputs.{Took}
-use Rattle.cj_stream.specs.Sink.{SinkLaw}
-use Rattle.cj_stream.specs.Meaning.Rules.{Rules}
-use Rattle.cj_stream.specs.Verdict.{ending, good, item_after, is_kept, kept, kept_from, reported, reported_first, reported_from, refusal_in, verdict, stretch, up_to, stream_of}
+use Rattle.cj_stream.specs.Verdict.{good, reported, reported_first, reported_from, refusal_in, stretch}
 use Rattle.cj_stream.proofs.PartsLemmas.{first-headed, lines-headed}
-use Rattle.cityseq_c.specs.Judged.{IsJudged, Judged, lent}
-use Rattle.cityseq_c.specs.ReportSlice.{count_of, noted_loan, noted_room, noted_text, Holds, NotesOne}
-use Rattle.cityseq_c.specs.Request.{AreCut}
-use Rattle.cityseq_c.specs.declared.report_slice.Noted.{Noted}
-use Rattle.cityseq_c.specs.declared.report_slice.Told.{Told}
+use Rattle.cityseq_c.specs.ReportSlice.{count_of, noted_loan, noted_room, noted_text, NotesOne}
 use Rattle.cityseq_c.proofs.ReportLemmas.{all-held}
 
 take-nothing : (k : ℕ) → take {A = List ℕ} k [] ≡ []

@@ -1,12 +1,8 @@
 -- A header and a part, cut behind the first line or not.
-use Rattle.std.proofs.Common.{◌≡◌, ℕ, ◌+◌, List, [], ◌∷◌, length, take, drop, None, Some, inl, inr, sym, ap, ◌∙◌, arith, length-take, refl, nat_eq, true}
-use Rattle.std.proofs.lemmas.Bool.{eqb-true}
-use Rattle.std.proofs.lemmas.List.{take_all, length-append}
-use Rattle.memchr.specs.Find.{IsFirstByte, is_byte}
-use Rattle.cj_stream.specs.Lines.{closed}
+use Rattle.cityseq_c.proofs.Common.{AreCut, IsFirstByte, List, None, Some, [], ap, arith, closed, drop, inl, inr, is_byte, length, length-append, length-take, refl, sym, take, take_all, true, ℕ, ◌+◌, ◌∙◌, ◌∷◌, ◌≡◌}
+use Rattle.std.proofs.Common.{nat_eq, eqb-true}
 use Rattle.cj_stream.proofs.LineLemmas.{closed-ended, closed-none}
 use Rattle.cj_stream.proofs.PieceSlices.{lf_found, lf_front, NoLf-before, NoLf-nowhere}
-use Rattle.cityseq_c.specs.Request.{AreCut}
 
 module _ (header part : List ℕ) where
   -- the first LF is the last byte

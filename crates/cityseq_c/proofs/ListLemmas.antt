@@ -1,12 +1,6 @@
 -- What a search makes of the sink of records.
-use Rattle.std.specs.Prelude.{slice_set}
-use Rattle.std.proofs.lemmas.Bool.Decides.{nat_tests}
-use Rattle.cityseq_c.specs.declared.features.record_of.FeatureRecord.{FeatureRecord}
-use Rattle.std.proofs.Common.{◌≡◌, ℕ, ◌+◌, ◌<◌, ◌≤◌, List, [], ◌∷◌, true, false, ltb, Some, None, length, arith, subst}
-use Rattle.cj_stream.specs.Items.{Item}
-use Rattle.cj_stream.specs.Meaning.Lines.{Line}
-use Rattle.cityseq_c.specs.Features.{AddsAt, AddsRecord, IsRecordOf, KeepsRoom, listed_count, listed_loan, listed_room, ListsFeature, Seeks, Spot, listed_place, seek}
-use Rattle.cityseq_c.specs.declared.features.listed.Listed.{Listed}
+use Rattle.cityseq_c.proofs.Common.{FeatureRecord, IsRecordOf, Item, Line, List, Listed, None, Some, Spot, [], arith, false, length, ltb, nat_tests, seek, slice_set, subst, true, ℕ, ◌+◌, ◌<◌, ◌∷◌, ◌≡◌, ◌≤◌}
+use Rattle.cityseq_c.specs.Features.{AddsAt, AddsRecord, KeepsRoom, listed_count, listed_loan, listed_room, ListsFeature, Seeks, listed_place}
 
 module _ (i : Item) (a b : Listed) (content : List ℕ) (same : content ≡ i.line.content) where
   none-added : (ls : List Line) (x : Spot) → ls ≡ [] → KeepsRoom a b → AddsAt ls x a b

@@ -1,14 +1,7 @@
 -- The main city object, as a walk over the city objects finds it.
-use Rattle.std.proofs.Common.{◌≡◌, ℕ, List, ◌∷◌, Bool, true, false, Option, None, Some, refl, ap, sym, ◌∙◌}
-use Rattle.std.specs.Prelude.{IfSome, codes, length, option_map}
-use Rattle.std.specs.Str.{chars}
-use Rattle.cj_spans.specs.Meaning.Parts.{are_same_texts, first_named, has_text, member_of, text_of}
-use Rattle.cj_spans.specs.Meaning.Tree.{Tree, start_of}
-use Rattle.cj_spans.specs.Places.{spelling_of}
-use Rattle.cj_spans.specs.View.{line_of, tree}
+use Rattle.cityseq_c.proofs.Common.{Bool, HasSpan, IfSome, List, None, Option, Some, Tree, ap, chars, codes, false, first_named, length, line_of, main_object, objects_of, option_map, refl, spelling_of, start_of, sym, text_of, tree, true, ℕ, ◌∙◌, ◌∷◌, ◌≡◌}
+use Rattle.cj_spans.specs.Meaning.Parts.{are_same_texts, has_text, member_of}
 use Rattle.cj_spans.specs.declared.node.Node.{Node}
-use Rattle.cj_stream.specs.Meaning.Criteria.{objects_of}
-use Rattle.cityseq_c.specs.Features.{HasSpan, main_object}
 
 -- it is the first one with the text of the id
 pub main-first : (t id : Tree) (x : List ℕ) → member_of (chars (codes "id")) t ≡ Some id → text_of id ≡ Some x

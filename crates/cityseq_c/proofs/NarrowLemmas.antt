@@ -1,40 +1,13 @@
 -- What is told of a text does not hang on a line limit that is above all its lines.
-use Rattle.std.proofs.Common.{◌≡◌, ℕ, zero, suc, ◌+◌, ◌⊎◌, inl, inr, ◌<◌, ◌≤◌, List, [], ◌∷◌, ◌++◌, Bool, true, false, cond, ltb, length, map, take, Some, None, Result, Ok, Err, subst, sym, ap, refl, ◌∙◌, append_assoc, arith, length-append}
-use Rattle.std.specs.Prelude.{max, min, slice_get, IfOk, IfErr}
-use Rattle.std.specs.List.{filter, flat_map, list_all}
-use Rattle.std.proofs.Math.Nat.{min-eq_left}
-use Rattle.std.proofs.lemmas.Bool.{cases_lt}
-use Rattle.std.proofs.lemmas.Bool.Decides.{nat_tests}
-use Rattle.std.proofs.lemmas.List.{append-nil}
-use Rattle.cj_budget.specs.declared.limits.Peaks.{Peaks}
+use Rattle.cityseq_c.proofs.Common.{AreCut, Bool, Complete, Counts, CountsAll, DeclinesCall, Delivers, End, Ends, Err, Faults, Holds, IfErr, IfOk, IsAsked, IsBounded, IsFit, IsJudged, Judged, Line, List, Memory, None, NotJudged, Ok, Outcome, Peaks, Request, Result, Rules, SinkLaw, Some, Told, Took, Tree, WriteFault, [], ap, append-nil, append_assoc, arith, cases_lt, cond, ended_line, ending, false, fault_of, filter, flat_map, good_from, greatest, inl, inr, is_feature, is_kept, kept, kept_first, kept_from, later_of, length, length-append, lent, lines, list_all, ltb, map, max, min, min-eq_left, nat_tests, needed_limits, of_first, raw, refl, slice_get, stream_of, subst, suc, sym, take, true, up_to, verdict, zero, ℕ, ◌++◌, ◌+◌, ◌<◌, ◌∙◌, ◌∷◌, ◌≡◌, ◌≤◌, ◌⊎◌}
 use Rattle.cj_spans.specs.Meaning.Judgement.{Judgement, spelled, broken, sunk}
-use Rattle.cj_spans.specs.Meaning.Tree.{Tree}
 use Rattle.cj_spans.proofs.Judgements.{judgement}
-use Rattle.cj_stream.specs.declared.ending.End.{End}
-use Rattle.cj_stream.specs.declared.ending.End.TheVariants.{Complete, Refused, ReadFault, ReadLimit, WriteFault, Memory as NoMemory}
-use Rattle.cj_stream.specs.declared.running.Outcome.{Outcome}
+use Rattle.cj_stream.specs.declared.ending.End.TheVariants.{Refused, ReadFault, ReadLimit, Memory as NoMemory}
 use Rattle.cj_stream.specs.Bound.{exact_peaks, first_lines, held_length, is_legible, is_readable, is_text, tree_nest, tree_size, IsExact, IsBelow}
-use Rattle.cj_stream.specs.Meaning.Bound.{greatest, of_first, IsBounded}
-use Rattle.cj_stream.specs.Engine.{Counts, Delivers, Faults}
-use Rattle.cj_stream.specs.Items.{is_feature}
-use Rattle.cj_stream.specs.Meaning.Lines.{Line, ended_line, lines, raw}
-use Rattle.cj_stream.specs.Lines.{later_of}
-use Rattle.cj_stream.specs.Run.{CountsAll, Ends}
-use Rattle.cj_stream.specs.Meaning.Outputs.{Took}
-use Rattle.cj_stream.specs.Sink.{SinkLaw}
-use Rattle.cj_stream.specs.Meaning.Rules.{Rules}
-use Rattle.cj_stream.specs.Verdict.{ending, ending_of, good, good_from, is_kept, kept, kept_first, kept_from, refusal_from, reported, reported_first, reported_from, text_verdict, verdict, verdict_at, stretch, up_to, stream_of}
+use Rattle.cj_stream.specs.Verdict.{ending_of, good, refusal_from, reported, reported_first, reported_from, text_verdict, verdict_at, stretch}
 use Rattle.cj_stream.proofs.IsLinesLemmas.{lines-are_lines}
 use Rattle.cj_stream.proofs.PartsLemmas.{lines-headed}
 use Rattle.cityseq_c.proofs.FirstLemmas.{lines-first}
-use Rattle.cityseq_c.specs.Judged.{IsJudged, Judged, lent}
-use Rattle.cityseq_c.specs.ReportSlice.{Holds}
-use Rattle.cityseq_c.specs.Query.{DeclinesCall}
-use Rattle.cityseq_c.specs.Request.{AreCut, IsAsked, IsFit, fault_of, needed_limits}
-use Rattle.cityseq_c.specs.declared.report_slice.Told.{Told}
-use Rattle.cityseq_c.specs.declared.request.NotJudged.{NotJudged}
-use Rattle.cityseq_c.specs.declared.request.NotJudged.TheVariants.{Memory}
-use Rattle.cityseq_c.specs.declared.request.Request.{Request}
 
 -- no content is longer than this
 abbrev AreShort : ℕ → List Line → Type 0

@@ -1,15 +1,10 @@
 -- What an item of a list is: a number, an edge.
-use Rattle.std.proofs.Common.{◌≡◌, ℕ, List, Bool, true, false, Option, Some, None, Result, Ok, Err, ℤ, refl, sym, ap, ◌∙◌}
-use Rattle.std.specs.Prelude.{if◌then◌else◌, is_ok, is_some}
+use Rattle.cityseq_c.proofs.Common.{Bool, Err, List, None, Ok, Option, QueryFault, Result, Some, ap, false, has_edge, if◌then◌else◌, is_edge, is_number, is_number_by, is_ok, is_some, refl, sym, there_is, true, ℕ, ℤ, ◌∙◌, ◌≡◌}
 use Rattle.cj_decimal.specs.Meaning.Class.{Class, no_number, out_of_range, not_whole, whole, value_by}
 use Rattle.cj_decimal.specs.Meaning.Number.{is_fixed}
 use Rattle.cj_decimal.proofs.Classes.{class}
-use Rattle.cj_stream.specs.BoxText.{is_edge, is_number, is_number_by}
-use Rattle.cj_stream.specs.Meaning.Criteria.{there_is}
 use Rattle.cj_stream.proofs.Apart.{false-true}
-use Rattle.cj_stream.specs.declared.query.fault.QueryFault.{QueryFault}
 use Rattle.cj_stream.specs.declared.query.fault.QueryFault.TheVariants.{BadBox}
-use Rattle.cityseq_c.specs.FaultPlace.{has_edge}
 
 -- ---- numbers
 

@@ -1,9 +1,5 @@
 -- The ranges of a record.
-use Rattle.std.proofs.Common.{◌≡◌, ℕ, zero, suc, ◌<◌, List, [], ◌∷◌, Option, None, get_or, arith, refl}
-use Rattle.std.specs.Prelude.{ℤ}
-use Rattle.cj_stream.specs.Tallied.{IsRange}
-use Rattle.cj_stream.specs.TallySink.{no_tally}
-use Rattle.cityseq_c.specs.Tally.{range_of}
+use Rattle.cityseq_c.proofs.Common.{IsRange, List, None, Option, [], arith, get_or, no_tally, range_of, refl, suc, zero, ℕ, ℤ, ◌<◌, ◌∷◌, ◌≡◌}
 use Rattle.cityseq_c.specs.declared.tally.Range.{Range}
 
 pub ranges-told : (rs : List (Option (ℤ × ℤ))) (a b c : Range) → a ≡ range_of (get_or rs 0 None)

@@ -1,16 +1,6 @@
 -- What room for records has after some items.
-use Rattle.std.proofs.Common.{◌≡◌, ℕ, zero, suc, ◌+◌, ◌-◌, ◌<◌, ◌≤◌, List, [], ◌∷◌, ◌++◌, Bool, true, false, ltb, Option, Some, None, length, min, take, drop, refl, sym, ap, ◌∙◌, subst, arith, append_assoc}
-use Rattle.std.specs.Prelude.{is_some, slice_set}
-use Rattle.std.specs.List.{AllZip}
-use Rattle.std.proofs.lemmas.Bool.{ltb-true, ltb-false}
-use Rattle.std.proofs.lemmas.List.{append-nil, take_more_set, drop-set-lt, length-set}
-use Rattle.cj_spans.specs.Meaning.Tree.{Tree}
-use Rattle.cj_stream.specs.Items.{Item}
-use Rattle.cj_stream.specs.Meaning.Lines.{Line}
-use Rattle.cj_stream.specs.Meaning.Outputs.{Took}
-use Rattle.cityseq_c.specs.Features.{AddsAt, HoldsRecords, IsRecordOf, KeepsRoom, ListsBy, ListsItem, Place, Spot, StoresBy, listed_count, listed_loan, listed_place, listed_room, seek}
-use Rattle.cityseq_c.specs.declared.features.record_of.FeatureRecord.{FeatureRecord}
-use Rattle.cityseq_c.specs.declared.features.listed.Listed.{Listed}
+use Rattle.cityseq_c.proofs.Common.{AllZip, Bool, FeatureRecord, IsRecordOf, Item, Line, List, Listed, None, Option, Place, Some, Spot, Took, Tree, [], ap, append-nil, append_assoc, arith, drop, drop-set-lt, false, is_some, length, length-set, ltb, ltb-false, ltb-true, min, refl, seek, slice_set, subst, suc, sym, take, take_more_set, true, zero, ℕ, ◌++◌, ◌+◌, ◌-◌, ◌<◌, ◌∙◌, ◌∷◌, ◌≡◌, ◌≤◌}
+use Rattle.cityseq_c.specs.Features.{AddsAt, HoldsRecords, KeepsRoom, ListsBy, ListsItem, StoresBy, listed_count, listed_loan, listed_place, listed_room}
 use Rattle.cityseq_c.proofs.SpotLemmas.{found_from, spot_at}
 
 -- of c and the list l: records were written behind the first c, as many as fit, and made d and m of them

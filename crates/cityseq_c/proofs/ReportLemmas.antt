@@ -1,13 +1,7 @@
 -- What room for reports has of some reports.
-use Rattle.std.proofs.Common.{◌≡◌, ℕ, zero, suc, subst, cond, ◌+◌, ◌-◌, ◌<◌, ◌≤◌, List, [], ◌∷◌, ◌++◌, Bool, true, false, ltb, map, length, min, take, drop, refl, sym, ap, ◌∙◌, arith, append_assoc}
-use Rattle.std.specs.Prelude.{slice_set}
-use Rattle.std.proofs.lemmas.Bool.{ltb-true, ltb-false}
-use Rattle.std.proofs.lemmas.List.{append-nil, take_more_set, drop-set-lt, length-set}
-use Rattle.cj_stream.specs.Meaning.Outputs.{Took}
+use Rattle.cityseq_c.proofs.Common.{Bool, Holds, List, Noted, Told, Took, [], ap, append-nil, append_assoc, arith, cond, drop, drop-set-lt, false, length, length-set, ltb, ltb-false, ltb-true, map, min, refl, slice_set, subst, suc, sym, take, take_more_set, true, zero, ℕ, ◌++◌, ◌+◌, ◌-◌, ◌<◌, ◌∙◌, ◌∷◌, ◌≡◌, ◌≤◌}
 use Rattle.cj_stream.specs.declared.report_sink.Report.{Report}
-use Rattle.cityseq_c.specs.ReportSlice.{count_of, noted_loan, noted_room, noted_text, told as told_of, Holds, NotesOne}
-use Rattle.cityseq_c.specs.declared.report_slice.Noted.{Noted}
-use Rattle.cityseq_c.specs.declared.report_slice.Told.{Told}
+use Rattle.cityseq_c.specs.ReportSlice.{count_of, noted_loan, noted_room, noted_text, told as told_of, NotesOne}
 
 take-nothing : (n : ℕ) → take {A = Told} n [] ≡ []
 take-nothing zero = refl

@@ -1,19 +1,6 @@
 -- What is in room that is lent for an output.
-use Rattle.std.proofs.Common.{◌≡◌, ℕ, subst, ◌+◌, ◌-◌, ◌≤◌, List, [], ◌∷◌, ◌++◌, Some, drop, length, take, refl, sym, ap, ◌∙◌, arith, append_assoc}
-use Rattle.std.specs.List.{flat_map}
-use Rattle.std.proofs.lemmas.List.{append-nil, drop-drop, length-append}
-use Rattle.cj_stream.specs.declared.ending.End.TheVariants.{WriteFault}
-use Rattle.cj_stream.specs.Engine.{Faults}
-use Rattle.cj_stream.specs.Meaning.Headline.{IsUnhindered}
-use Rattle.cj_stream.specs.Items.{Item, raw_item}
-use Rattle.cj_stream.specs.Meaning.Outputs.{Took}
-use Rattle.cj_stream.specs.Meaning.Rules.{Rules}
-use Rattle.cj_stream.specs.Verdict.{kept, kept_first, output, up_to, stream_of}
-use Rattle.cj_stream.specs.declared.running.Outcome.{Outcome}
+use Rattle.cityseq_c.proofs.Common.{Copied, Faults, IsFull, IsUnhindered, IsWritten, Item, Judged, List, Outcome, Rules, Some, Told, Took, WriteFault, [], ap, append-nil, append_assoc, arith, drop, drop-drop, flat_map, kept, kept_first, length, length-append, lent, output, raw_item, refl, stream_of, subst, sym, take, up_to, ℕ, ◌++◌, ◌+◌, ◌-◌, ◌∙◌, ◌∷◌, ◌≡◌, ◌≤◌}
 use Rattle.cityseq_c.proofs.FitLemmas.{first-fits}
-use Rattle.cityseq_c.specs.Called.{Copied, IsFull, IsWritten}
-use Rattle.cityseq_c.specs.Judged.{Judged, lent}
-use Rattle.cityseq_c.specs.declared.report_slice.Told.{Told}
 use Rattle.cityseq_c.specs.Room.{room_bytes, room_loan, written_of, in_room, room_law}
 use Rattle.cityseq_c.specs.declared.room.Room.{Room}
 

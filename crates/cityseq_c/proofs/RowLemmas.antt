@@ -1,38 +1,24 @@
 -- Worked rows: where features stand, and the record of one.
-use Rattle.std.proofs.Common.{◌≡◌, ℕ, zero, suc, false, true, ◌<◌, List, [], ◌∷◌, ◌++◌, None, Some, get_or, length, lit≤, map, refl, arith, ◌∙◌}
-use Rattle.std.specs.List.{filter}
-use Rattle.std.specs.Str.{chars}
+use Rattle.cityseq_c.proofs.Common.{IsRecordOf, Line, List, None, Reason, Rules, Some, Spot, Tree, [], arith, bits, chars, ended_line, false, filter, get_or, good_from, is_feature, is_number, is_utf8, length, lit≤, map, range_of, raw, refl, spots_from, suc, tree_of, true, verdict, zero, ℕ, ◌++◌, ◌<◌, ◌∙◌, ◌∷◌, ◌≡◌}
 use lib.Utf8.{encode}
-use Rattle.std.specs.Str.{is_utf8}
-use Rattle.cj_decimal.specs.Meaning.Reading.{digits_front, digits_rest, begins}
-use Rattle.cj_decimal.specs.Meaning.Reading.{is_empty, begins_digit, body, is_int, is_frac, frac_digits, after_frac}
-use Rattle.cj_decimal.specs.Meaning.Reading.{exp_digits, is_whole_digits, is_exp, exp_value}
+use Rattle.cj_decimal.specs.Meaning.Reading.{digits_front, digits_rest, begins, is_empty, begins_digit, body, is_int, is_frac, frac_digits, after_frac, exp_digits, is_whole_digits, is_exp, exp_value}
 use Rattle.cj_decimal.proofs.Classes.{class}
 use Rattle.cj_decimal.proofs.Grammar.{spells_test}
-use Rattle.cj_spans.specs.declared.reason.Reason.{Reason}
 use Rattle.cj_spans.specs.declared.reason.Reason.TheVariants.{Syntax}
 use Rattle.cj_spans.specs.Meaning.Text.{text, code_points_after, first_code_point, first_width}
-use Rattle.cj_spans.specs.Meaning.Tree.{Tree}
 use Rattle.cj_geometry.specs.Meaning.ObjectTypes.{object_types}
 use Rattle.cj_feature.specs.Examples.{plain_header}
 use Rattle.cj_feature.proofs.Worked.{plain_feature}
 use Rattle.cj_stream.specs.GoingRows.{going}
-use Rattle.cj_stream.specs.Items.{is_feature}
-use Rattle.cj_stream.specs.Item.{tree_of}
-use Rattle.cj_stream.specs.Meaning.Lines.{Line, ended_line, raw}
 use Rattle.cj_stream.specs.Rows.{small_feature, small_header, wide_rules}
 use Rattle.cj_stream.specs.Meaning.Verdict.{Blank, Invalid, Kept}
-use Rattle.cj_stream.specs.Meaning.Rules.{Rules}
-use Rattle.cj_stream.specs.Verdict.{good_from, verdict, verdict_at}
+use Rattle.cj_stream.specs.Verdict.{verdict_at}
 use Rattle.cj_stream.proofs.GoingRowLemmas.{same-verdict}
 use Rattle.cj_stream.proofs.RowLemmas.{comma_second, feature_third, feature_tree, header_first, header_tree, open_line}
 use Rattle.cj_stream.proofs.VerdictLemmas.{verdict-blank}
 use Rattle.cj_stream.proofs.BoxRowLemmas.{one, zero as naught}
 use Rattle.cj_stream.proofs.BoxTextLemmas.{no-class}
-use Rattle.cj_stream.specs.BoxText.{is_number}
-use Rattle.cityseq_c.specs.Features.{IsRecordOf, Spot, bits, spots_from}
 use Rattle.cityseq_c.specs.Rows.{AttributesRow, BetweenRow, BitRow, BlankRow, FaultRow, RecordRow, small_record}
-use Rattle.cityseq_c.specs.Tally.{range_of}
 
 -- the lines of the features that are kept of some lines, and where these begin
 abbrev places_of : Rules → List Line → List (ℕ × ℕ)

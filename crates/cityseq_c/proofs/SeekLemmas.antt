@@ -1,8 +1,5 @@
 -- A search for a content, line by line.
-use Rattle.std.proofs.Common.{◌≡◌, ℕ, ◌+◌, List, ◌∷◌, true, false, length, refl, sym, ap, ◌∙◌}
-use Rattle.std.specs.Str.{bytes_eq}
-use Rattle.cj_stream.specs.Meaning.Lines.{Line, raw}
-use Rattle.cityseq_c.specs.Features.{Passes, Place, past_from, seek, seek_from}
+use Rattle.cityseq_c.proofs.Common.{Line, List, Passes, Place, ap, bytes_eq, false, length, past_from, raw, refl, seek, seek_from, sym, true, ℕ, ◌+◌, ◌∙◌, ◌∷◌, ◌≡◌}
 use Rattle.cityseq_c.proofs.CursorLemmas.{place}
 
 module _ (content : List ℕ) (a : Place) (c : List ℕ) (b : Place) (h : Passes a c b) where

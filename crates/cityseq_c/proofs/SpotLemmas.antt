@@ -1,23 +1,10 @@
 -- A search along the lines of a part finds each kept feature at its place.
-use Rattle.std.proofs.Common.{◌≡◌, ℕ, ◌+◌, List, [], ◌∷◌, ◌++◌, Bool, true, false, cond, eqb, length, drop, arith, refl, sym, ap, ◌∙◌, inl, inr, append_assoc, length-append}
-use Rattle.std.specs.Prelude.{is_some}
-use Rattle.std.specs.List.{filter, flat_map}
-use Rattle.std.specs.Str.{bytes_eq}
-use Rattle.std.proofs.lemmas.Bool.Decides.{nat_tests}
-use Rattle.std.proofs.lemmas.Grind.{flat_map-append}
-use Rattle.std.proofs.lemmas.List.{append-nil, take-append-drop}
+use Rattle.cityseq_c.proofs.Common.{AreCut, Bool, Item, Line, List, NoLf, Place, Rules, Spot, [], ap, append-nil, append_assoc, arith, bytes_eq, cond, drop, ended_line, eqb, false, filter, flat_map, flat_map-append, good_from, inl, inr, is_feature, is_kept, is_some, item_after, kept, kept_from, length, length-append, lines, nat_tests, past, raw, refl, refusal_of, seek, spot_after, spots, spots_from, sym, take-append-drop, true, verdict, ℕ, ◌++◌, ◌+◌, ◌∙◌, ◌∷◌, ◌≡◌}
 use Rattle.std.proofs.lemmas.Slice.Eq.{bytes_eq-Decides}
-use Rattle.cj_stream.specs.Items.{Item, is_feature}
-use Rattle.cj_stream.specs.Meaning.Lines.{Line, ended_line, lines, raw}
-use Rattle.cj_stream.specs.Lines.{NoLf}
-use Rattle.cj_stream.specs.Meaning.Rules.{Rules}
-use Rattle.cj_stream.specs.Verdict.{good_from, is_kept, item_after, kept, kept_from, refusal_of, verdict}
 use Rattle.cj_stream.proofs.GoodLemmas.{good-take}
 use Rattle.cj_stream.proofs.LineLemmas.{begun-none, closed-none, lines-cut}
 use Rattle.cj_stream.proofs.MovedLemmas.{after-same}
 use Rattle.cj_stream.proofs.PartsLemmas.{lines-headed}
-use Rattle.cityseq_c.specs.Features.{Place, Spot, past, seek, spot_after, spots, spots_from}
-use Rattle.cityseq_c.specs.Request.{AreCut}
 
 -- the spot of a feature whose line was found at a place, or none
 abbrev pub spot_at : Place → List Line → Item → List Spot

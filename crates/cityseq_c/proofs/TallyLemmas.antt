@@ -1,30 +1,12 @@
 -- What a sink has tallied of a text.
-use Rattle.std.proofs.Common.{◌≡◌, ℕ, ◌+◌, ◌^◌, ◌<◌, List, [], ◌∷◌, ◌++◌, Option, None, Some, true, cond, lit<, length, map, get_or, refl, sym, subst, ap, ◌∙◌, arith}
-use Rattle.std.specs.Prelude.{◌≢◌, codes, is_some, option_map, replicate}
-use Rattle.std.proofs.lemmas.Grind.{same_number_lists}
-use Rattle.std.proofs.lemmas.List.{get_or-replicate}
-use Rattle.std.specs.List.{filter, last_or}
-use Rattle.std.specs.Str.{chars}
+use Rattle.cityseq_c.proofs.Common.{Complete, IsTalliedOf, IsTally, IsUnhindered, Item, Judged, List, None, Option, Outcome, Puts, Rules, Some, Tallies, Told, [], ap, arith, capped, chars, class_count, codes, cond, ended_line, ending, filter, get_or, get_or-replicate, is_some, item_after, kept, kept_from, last_or, length, lent, lines, lit<, map, never_fails, no_tally, option_map, range_of, refl, replicate, same_number_lists, slot_count, stream_of, subst, sym, true, ℕ, ◌++◌, ◌+◌, ◌<◌, ◌^◌, ◌∙◌, ◌∷◌, ◌≡◌, ◌≢◌}
 use Rattle.cj_decimal.specs.Meaning.Number.{Number as Decimal}
 use Rattle.cj_feature.specs.Meaning.Transform.{transform_values}
 use Rattle.cj_stream.specs.CountSink.{is_header}
-use Rattle.cj_stream.specs.Items.{Item}
-use Rattle.cj_stream.specs.declared.ending.End.TheVariants.{Complete}
-use Rattle.cj_stream.specs.declared.running.Outcome.{Outcome}
-use Rattle.cj_stream.specs.Meaning.Headline.{IsUnhindered}
-use Rattle.cj_stream.specs.Run.{Puts}
 use Rattle.cj_stream.specs.Parts.{headed, wider, IsCut, JoinsTallies}
-use Rattle.cj_stream.specs.Tallied.{capped, class_count, slot_count}
-use Rattle.cj_stream.specs.TallySink.{no_tally, last_shown, IsTallyOf, Tallies, TalliesRun, Tally as Tallied}
-use Rattle.cj_stream.specs.Meaning.Lines.{ended_line, lines}
-use Rattle.cj_stream.specs.Meaning.Rules.{Rules}
-use Rattle.cj_stream.specs.Verdict.{ending, item_after, kept, kept_from, stream_of}
-use Rattle.cj_stream.specs.Sink.{never_fails}
+use Rattle.cj_stream.specs.TallySink.{last_shown, IsTallyOf, TalliesRun, Tally as Tallied}
 use Rattle.cj_stream.proofs.PartsLemmas.{front-good, header-valid, kept-first}
-use Rattle.cityseq_c.specs.Called.{IsTalliedOf}
-use Rattle.cityseq_c.specs.Judged.{Judged, lent}
-use Rattle.cityseq_c.specs.Tally.{AreShown, HasCounts, IsTally, range_of, zeros}
-use Rattle.cityseq_c.specs.declared.report_slice.Told.{Told}
+use Rattle.cityseq_c.specs.Tally.{AreShown, HasCounts, zeros}
 use Rattle.cityseq_c.specs.declared.tally.Tally.{Tally}
 
 -- without a hindrance the tally is that of all that is kept

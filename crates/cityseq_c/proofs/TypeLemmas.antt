@@ -1,15 +1,8 @@
 -- What is set of the names of types, and what is declined of them.
-use Rattle.std.proofs.Common.{◌≡◌, ◌∙◌, ℕ, List, Bool, Option, None, Some, Result, Ok, Err, refl, sym, ap}
-use Rattle.std.specs.Prelude.{IfErr, OnOk, option_map}
+use Rattle.cityseq_c.proofs.Common.{Bool, ChosenTypes, Criteria, Err, Fault, IfErr, List, Memory, None, NotJudged, Ok, OnOk, Option, QueryFault, Request, Result, Some, ap, items, option_map, refl, sym, text_asked, types_or_fault, ℕ, ◌∙◌, ◌≡◌}
 use Rattle.cj_stream.specs.Adding.{no_types, setting_types, with_types, DeclinesTypes as DeclinesAll}
-use Rattle.cj_stream.specs.Meaning.Criteria.{ChosenTypes, Criteria}
-use Rattle.cj_stream.specs.declared.query.fault.QueryFault.{QueryFault}
 use Rattle.cj_stream.specs.declared.query.fault.QueryFault.TheVariants.{Memory as NoMemory, UnknownTypeName, BadBox, BoxRange, EmptyBox}
 use Rattle.cityseq_c.specs.Query.{type_fault, DeclinesNames, DeclinesTypes}
-use Rattle.cityseq_c.specs.Request.{items, text_asked, types_or_fault}
-use Rattle.cityseq_c.specs.declared.request.NotJudged.{NotJudged}
-use Rattle.cityseq_c.specs.declared.request.NotJudged.TheVariants.{Fault, Memory}
-use Rattle.cityseq_c.specs.declared.request.Request.{Request}
 
 module _ (old new : Criteria) where
   set : (types : Option ChosenTypes)

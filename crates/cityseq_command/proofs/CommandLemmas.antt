@@ -1,9 +1,8 @@
 -- Commands that are made option by option.
-use Rattle.std.proofs.Common.{◌≡◌, ◌∙◌, ap, ap₂, refl}
+use Rattle.cityseq_command.proofs.Common.{IsCommand, IsOption, ap, ap₂, refl, ◌∙◌, ◌≡◌}
 use Rattle.clap.specs.Words.{AddsArg, AddsSubcommand, App, Rule, with_rule, with_subcommand}
 use Rattle.clap.specs.declared.builder.arg.Arg.{Arg}
 use Rattle.clap.specs.declared.builder.command.Command.{Command}
-use Rattle.cityseq_command.specs.Commands.{IsOption, IsCommand}
 
 -- a command with one more option
 pub with_option : {old new : Command} {a : Arg} {s : App} {r : Rule} → IsCommand old s → IsOption a r

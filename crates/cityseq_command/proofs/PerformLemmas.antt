@@ -1,32 +1,21 @@
 -- What is told of texts that the program writes.
-use Rattle.std.proofs.Common.{◌≡◌, inl, inr, arith, ℕ, ◌<◌, ◌≤◌, ◌^◌, List, [], ◌++◌, Option, Some, None, Result, Ok, Err, length, refl, ap, sym, subst, ◌∙◌}
-use Rattle.std.specs.List.{filter}
-use Rattle.std.specs.Io.KnownBytes.{Appends, Keeps}
+use Rattle.cityseq_command.proofs.Common.{Appends, AppendsPart, Channel, Check, Complete, End, Err, Filter, HasRisen, Info, Keeps, List, Memory, None, Ok, Option, Report, Result, RisesOnErr, Some, Took, Wrote, [], ap, arith, check_text, inl, inr, outputs, refl, rules_for, run_of, stream_of, subst, summary_text, sym, ℕ, ◌++◌, ◌∙◌, ◌≡◌}
+use Rattle.std.proofs.Common.{◌<◌, ◌≤◌, ◌^◌, length, filter}
 use Rattle.cj_budget.specs.declared.limits.Peaks.{Peaks}
-use Rattle.cj_stream.specs.declared.ending.End.{End}
-use Rattle.cj_stream.specs.declared.ending.End.TheVariants.{Complete, Refused, ReadFault, ReadLimit, WriteFault, Memory}
+use Rattle.cj_stream.specs.declared.ending.End.TheVariants.{Refused, ReadFault, ReadLimit, WriteFault}
 use Rattle.cj_stream.specs.declared.output.WriteFault.{WriteFault as Unwritten}
-use Rattle.cj_stream.specs.declared.report_sink.Report.{Report}
 use Rattle.cj_stream.specs.declared.running.Outcome.{Outcome}
 use Rattle.cj_stream.specs.Engine.{Counts}
 use Rattle.cj_stream.specs.Meaning.Headline.{Headline}
-use Rattle.cj_stream.specs.Run.{fate_of}
-use Rattle.cj_stream.specs.Meaning.Outputs.{Took}
-use Rattle.cj_stream.specs.Output.{outputs, Channel}
+use Rattle.cj_stream.specs.Run.{fate_of, Run, HeadlineOfRun, LacksRoom, Account, Gave, IsReadWithin, RunsNoting, StopsInTime, Writes, WritesLines}
 use Rattle.cj_stream.specs.Items.{is_feature}
 use Rattle.cj_stream.specs.ReportSink.{Collects}
-use Rattle.cj_stream.specs.Run.{Run, HeadlineOfRun, LacksRoom, Account, Gave, IsReadWithin, RunsNoting, StopsInTime, Writes, WritesLines}
-use Rattle.cj_stream.specs.Sink.{HasRisen, RisesOnErr, AppendsPart}
 use Rattle.cj_stream.specs.Meaning.Rules.{Rules}
-use Rattle.cj_stream.specs.Verdict.{good, kept, kept_first, reported, reported_first, up_to, stream_of}
+use Rattle.cj_stream.specs.Verdict.{good, kept, kept_first, reported, reported_first, up_to}
 use Rattle.cj_stream.specs.Bound.{exact_peaks}
 use Rattle.cj_stream.specs.TallySink.{Tally, IsTallyOf, no_tally}
-use Rattle.cj_stream.specs.Query.{rules_for}
-use Rattle.cityseq_command.specs.Performed.{end_of_writing, Says, SaysCheck, SaysSummary, Answers, Does, asked, ended_by, rules_of_ask, run_of, told_by, went}
-use Rattle.cityseq_command.specs.FaultLines.{Wrote}
+use Rattle.cityseq_command.specs.Performed.{end_of_writing, Says, SaysCheck, SaysSummary, Answers, Does, asked, ended_by, rules_of_ask, told_by, went}
 use Rattle.cityseq_command.specs.declared.ask.Ask.{Ask}
-use Rattle.cityseq_command.specs.declared.ask.Ask.TheVariants.{Check, Filter, Info}
-use Rattle.cityseq_command.specs.Summary.{check_text, summary_text}
 
 pub Keeps-refl : (a : Option (List ℕ)) → Keeps a a
 Keeps-refl None = tt

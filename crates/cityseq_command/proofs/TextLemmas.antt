@@ -1,13 +1,9 @@
 -- Texts that are written one part after another.
-use Rattle.std.proofs.Common.{◌≡◌, arith, zero, suc, ℕ, ◌+◌, ◌<◌, List, [], ◌∷◌, ◌++◌, length, take, drop, get_or, map, append_assoc, Option, None, Some, Result, Ok, Err, refl, sym, ap, ◌∙◌}
-use Rattle.std.specs.Prelude.{OnErr, OnOk, codes, decimal}
-use Rattle.std.specs.List.{flat_map}
-use Rattle.std.specs.Io.KnownBytes.{Appends}
+use Rattle.cityseq_command.proofs.Common.{Appends, AppendsPart, Err, List, None, Ok, Option, Result, Some, [], ap, append-nil, arith, check_text, codes, flat_map, get_or, map, refl, sym, take, ℕ, ◌++◌, ◌∙◌, ◌∷◌, ◌≡◌}
+use Rattle.std.proofs.Common.{zero, suc, ◌+◌, ◌<◌, length, drop, append_assoc, OnErr, OnOk, decimal, take-append-drop}
 use Rattle.std.proofs.lemmas.Grind.{flat_map-append}
-use Rattle.std.proofs.lemmas.List.{append-nil, take-append-drop, take_more}
+use Rattle.std.proofs.lemmas.List.{take_more}
 use Rattle.cj_stream.specs.Lines.{joined}
-use Rattle.cj_stream.specs.Sink.{AppendsPart}
-use Rattle.cityseq_command.specs.Summary.{check_text}
 
 -- ---- known bytes that grow twice
 

@@ -1,14 +1,7 @@
 -- What came of writing texts, one after another.
-use Rattle.std.proofs.Common.{◌≡◌, ℕ, ◌+◌, ◌<◌, ◌≤◌, List, [], ◌∷◌, ◌++◌, length, take, get_or, Option, Result, Ok, Err, refl, subst, ◌∙◌}
-use Rattle.std.specs.Prelude.{IsErr}
-use Rattle.std.specs.List.{flat_map}
-use Rattle.std.proofs.lemmas.List.{append-nil, take_all}
-use Rattle.cj_stream.specs.Meaning.Outputs.{Took}
-use Rattle.cj_stream.specs.Output.{Channel, channel}
-use Rattle.cj_stream.specs.Sink.{HasRisen}
-use Rattle.cj_stream.specs.declared.report_sink.Report.{Report}
+use Rattle.cityseq_command.proofs.Common.{Channel, Err, HasRisen, List, Ok, Option, Report, Result, Took, Wrote, WroteAfter, [], append-nil, channel, flat_map, get_or, refl, subst, take, ℕ, ◌++◌, ◌∙◌, ◌∷◌, ◌≡◌}
+use Rattle.std.proofs.Common.{◌+◌, ◌<◌, ◌≤◌, length, IsErr, take_all}
 use Rattle.cj_stream.specs.declared.output.WriteFault.{WriteFault}
-use Rattle.cityseq_command.specs.FaultLines.{Wrote, WroteAfter}
 use Rattle.cityseq_command.specs.ReportWriter.{WritesReport, lent_output, loan_name, report_line, report_lines, writing}
 use Rattle.cityseq_command.specs.declared.report_writer.WriteReports.{WriteReports}
 use Rattle.cityseq_command.proofs.TextLemmas.{Appends-nothing, Appends-then, AppendsPart-after, AppendsPart-front, parts_more, parts_at}

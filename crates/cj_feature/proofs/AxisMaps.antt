@@ -1,17 +1,11 @@
 -- The maps that a header shows are of numbers that it has, and so are the numbers of a feature's vertices.
-use Rattle.std.proofs.Common.{◌≡◌, ℕ, zero, suc, ◌<◌, List, [], ◌∷◌, ◌&&◌, length, map, get_or, drop, Bool, true, false, Option, Some, None, codes, option_map, arith, refl, sym, ap, subst, ◌∙◌}
-use Rattle.std.specs.Prelude.{ℤ, IfSome}
-use Rattle.std.specs.List.{list_all}
-use Rattle.std.specs.Str.{chars}
-use Rattle.cj_spans.specs.Meaning.Tree.{Tree}
+use Rattle.cj_feature.proofs.Common.{Bool, IfSome, List, None, Number, Option, Some, Tree, [], ap, arith, begins_whole, chars, codes, drop, false, is_vertex, length, list_all, map, number_on, option_map, refl, subst, suc, sym, true, units_of, vertex_of, zero, ℕ, ℤ, ◌&&◌, ◌<◌, ◌∙◌, ◌∷◌, ◌≡◌}
+use Rattle.std.proofs.Common.{get_or}
 use Rattle.cj_decimal.specs.Meaning.Affine.{AffineMap}
-use Rattle.cj_decimal.specs.Meaning.Number.{Number, units_of}
 use Rattle.cj_feature.specs.declared.header.reading.HeaderParts.{HeaderParts}
-use Rattle.cj_feature.specs.Axes.{AreThere, first_maps, maps_of, number_on}
-use Rattle.cj_feature.specs.Meaning.CityObject.{vertex_of}
+use Rattle.cj_feature.specs.Axes.{AreThere, first_maps, maps_of}
 use Rattle.cj_feature.specs.Meaning.Transform.{transform_values}
 use Rattle.cj_feature.specs.Shown.{ArePartsOf, maps_if}
-use Rattle.cj_feature.specs.inner.Typed.{begins_whole, is_vertex}
 use Rattle.cj_feature.proofs.Typed.{three-begin}
 
 -- ---- maps

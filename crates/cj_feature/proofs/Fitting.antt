@@ -1,19 +1,8 @@
 -- Marks that fit: those of the city objects that are reached, seen from a node of the line and from its tokens.
-use Rattle.std.proofs.Common.{◌≡◌, inl, inr, ℕ, ◌<◌, List, [], ◌∷◌, length, true, false, Option, Some, refl, sym, ap, ◌∙◌, subst, arith}
-use Rattle.std.specs.Prelude.{codes}
-use Rattle.std.specs.List.{Contains}
-use Rattle.std.specs.Str.{chars}
+use Rattle.cj_feature.proofs.Common.{AreValuesInOrder, Children, Contains, HaveMarks, IsIn, IsMarkedBy, IsReached, IsReachedObject, IsToMark, List, Node, Option, Reached, Some, Tree, [], ap, arith, chars, child, codes, false, inl, inr, is_reached, itself, length, line_of, member_of, members_of, refl, source_of, start_of, subst, sym, text_of, tokens_in, tree, true, ℕ, ◌<◌, ◌∙◌, ◌∷◌, ◌≡◌}
 use Rattle.std.proofs.lemmas.List.Elements.{All-contains}
-use Rattle.cj_spans.specs.declared.node.Node.{Node}
-use Rattle.cj_spans.specs.Meaning.Tree.{Tree, start_of}
-use Rattle.cj_spans.specs.Places.{AreValuesInOrder}
-use Rattle.cj_spans.specs.Meaning.Parts.{members_of, member_of, text_of}
-use Rattle.cj_spans.specs.View.{tree, line_of, source_of, tokens_in}
-use Rattle.cj_feature.specs.inner.Marking.{IsMarkedBy, HaveMarks, ListMarks, MarksFit, IsUnmarked, IsNext, IsToMark}
-use Rattle.cj_feature.specs.Meaning.Relations.{IsIn, Children}
-use Rattle.cj_feature.specs.Meaning.Reachable.{Reached, itself, child, IsReached, IsReachedObject}
+use Rattle.cj_feature.specs.inner.Marking.{ListMarks, MarksFit, IsUnmarked, IsNext}
 use Rattle.cj_feature.specs.ReachedMarks.{AreMarks}
-use Rattle.cj_feature.specs.Meaning.Reached.{is_reached}
 use Rattle.cj_feature.proofs.LinkFaults.{nowhere, first-or, not-so, from-texts, to-texts, from-listed, to-listed}
 use Rattle.cj_feature.proofs.Reaching.{is-reached, to-reached}
 use Rattle.cj_feature.proofs.Walking.{marked-beside, shown-beside}

@@ -1,10 +1,7 @@
 -- The test for a fixed number.
-use Rattle.std.proofs.Common.{◌≡◌, ℕ, ◌*◌, ◌^◌, ◌<◌, Bool, true, false, Option, Some, None, nat_lt, ℤ, pos, negsuc, neg_ℤ, ◌+ℤ◌, ◌*ℤ◌, refl, arith}
-use Rattle.std.specs.Prelude.{unsigned_abs, is_some, ◌↔◌, IsSome}
+use Rattle.cj_feature.proofs.Common.{Bool, IsFixed, IsNormal, None, Number, Option, Some, arith, false, is_fixed, is_fixed_by, is_some, nat_lt, nat_tests, negsuc, pos, refl, true, units_by, units_of, ℕ, ℤ, ◌<◌, ◌≡◌}
+use Rattle.std.proofs.Common.{◌*◌, ◌^◌, neg_ℤ, ◌+ℤ◌, ◌*ℤ◌, unsigned_abs, ◌↔◌, IsSome}
 use Rattle.std.proofs.lemmas.Int.{ints}
-use Rattle.std.proofs.lemmas.Bool.Decides.{nat_tests}
-use Rattle.cj_decimal.specs.Meaning.Number.{Number, is_fixed_by, is_fixed, units_by, units_of}
-use Rattle.cj_decimal.specs.Meaning.Equality.{IsNormal, IsFixed}
 use Rattle.cj_decimal.proofs.Values.{abs_times}
 use Rattle.cj_decimal.proofs.Scales.{units_below, units_are, units_same, size_of_units}
 

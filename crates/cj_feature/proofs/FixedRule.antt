@@ -1,26 +1,7 @@
 -- The rule on a fixed number, and the maps of axes that it allows.
-use Rattle.std.proofs.Common.{◌≡◌, ℕ, List, [], ◌∷◌, ◌++◌, Bool, true, false, cond, map, length, take, Option, Some, refl, sym, ap, subst, ◌∙◌}
-use Rattle.std.specs.Result.{result_ok}
-use Rattle.std.specs.Prelude.{not, nat_eq, Result, Ok, Err}
-use Rattle.std.proofs.lemmas.Bool.{eqb-true}
-use Rattle.std.proofs.lemmas.List.{append-nil}
+use Rattle.cj_feature.proofs.Common.{Bool, DecimalFault, Err, Finding, IsInRange, IsNumberInRange, IsValue, List, NotThree, Number, Ok, Option, Result, Some, TransformNotFixed, Tree, [], ap, append-nil, cond, decimal_of, eqb-true, false, fixed, flat_map, has_length, is_array, is_fixed, is_number, items_if, items_of, kind_of, length, map, member_of, nat_eq, needs, not, number, of_length, one, refl, result_ok, spelling, spelling_of, subst, sym, take, three_numbers, true, value_of, ℕ, ◌++◌, ◌∙◌, ◌∷◌, ◌≡◌}
 use Rattle.std.specs.Option.{option_map_or}
-use Rattle.cj_spans.specs.declared.finding.Finding.{Finding}
-use Rattle.std.specs.List.{flat_map}
-use Rattle.cj_spans.specs.declared.reason.Reason.TheVariants.{NotThree, TransformNotFixed}
-use Rattle.cj_spans.specs.Meaning.Tree.{Tree}
-use Rattle.cj_spans.specs.Meaning.Kinds.{is_number, is_array}
-use Rattle.cj_spans.specs.Meaning.Parts.{kind_of, items_of, member_of, items_if}
-use Rattle.cj_spans.specs.Places.{spelling_of}
-use Rattle.cj_decimal.specs.Meaning.Number.{Number, is_fixed}
-use Rattle.cj_decimal.specs.Meaning.Equality.{IsInRange}
-use Rattle.cj_decimal.specs.Meaning.Spelling.{IsValue, IsNumberInRange}
-use Rattle.cj_decimal.specs.declared.decimal.DecimalFault.{DecimalFault}
-use Rattle.cj_decimal.specs.Meaning.Decimal.{decimal_of}
 use Rattle.cj_decimal.proofs.Decimals.{decimal_is, decimal_has}
-use Rattle.cj_geometry.specs.Meaning.Rule.{one, needs, has_length, of_length}
-use Rattle.cj_geometry.specs.Meaning.Numbers.{spelling, number, value_of}
-use Rattle.cj_feature.specs.Meaning.Header.{fixed, three_numbers}
 use Rattle.cj_feature.specs.Shown.{are_fixed, first_two}
 use Rattle.cj_feature.proofs.None.{none-both, of_kind-none, by-member}
 use Rattle.cj_feature.proofs.Values.{is-number, same-spelling}

@@ -1,16 +1,5 @@
 -- The id of a feature of no findings is the name of a city object.
-use Rattle.std.proofs.Common.{◌≡◌, ℕ, List, [], ◌++◌, Bool, true, false, cond, Option, Some, None, codes, refl, sym}
-use Rattle.std.specs.List.{flat_map}
-use Rattle.std.specs.Str.{chars}
-use Rattle.cj_spans.specs.declared.reason.Reason.TheVariants.{IdNotFound}
-use Rattle.cj_spans.specs.Meaning.Tree.{Tree}
-use Rattle.cj_spans.specs.Meaning.Kinds.{is_text, is_object}
-use Rattle.cj_spans.specs.Meaning.Parts.{kind_of, members_of, member_of, text_of, members_if}
-use Rattle.cj_geometry.specs.Meaning.Rule.{one, of_kind, distinct}
-use Rattle.cj_geometry.specs.Meaning.Geometry.{TemplateSource, count_of}
-use Rattle.cj_feature.specs.Meaning.Feature.{id_in, city_object, city_objects, feature_rules}
-use Rattle.cj_feature.specs.Meaning.Links.{is_known}
-use Rattle.cj_feature.specs.Meaning.Relations.{IsIn}
+use Rattle.cj_feature.proofs.Common.{Bool, IdNotFound, IsIn, List, None, Option, Some, TemplateSource, Tree, [], chars, city_object, city_objects, codes, cond, count_of, distinct, false, feature_rules, flat_map, id_in, is_known, is_object, is_text, kind_of, member_of, members_if, members_of, of_kind, one, refl, sym, text_of, true, ℕ, ◌++◌, ◌≡◌}
 use Rattle.cj_feature.proofs.None.{of_kind-none, is-there, then-none}
 use Rattle.cj_feature.proofs.LinkFaults.{from-known, known-text}
 use Rattle.cj_feature.proofs.Valid.{has-id, has-objects}

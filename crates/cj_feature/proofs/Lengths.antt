@@ -1,15 +1,6 @@
 -- Arrays whose items are gone over before they are counted.
-use Rattle.std.proofs.Common.{◌≡◌, ℕ, List, [], ◌++◌, Bool, true, false, length, nat_eq, cond, Option, refl, ◌∙◌}
-use Rattle.std.specs.List.{flat_map}
-use Rattle.std.proofs.lemmas.Bool.{eqb-true}
-use Rattle.cj_spans.specs.declared.finding.Finding.{Finding}
-use Rattle.cj_spans.specs.declared.reason.Reason.{Reason}
-use Rattle.cj_spans.specs.Meaning.Finding.{least}
-use Rattle.cj_spans.specs.Meaning.Kinds.{is_array}
-use Rattle.cj_spans.specs.Meaning.Tree.{Tree}
-use Rattle.cj_spans.specs.Meaning.Parts.{kind_of, items_of}
+use Rattle.cj_feature.proofs.Common.{Bool, Finding, List, Option, Reason, Tree, [], cond, eqb-true, false, flat_map, has_length, is_array, items_of, kind_of, least, length, nat_eq, nothing, of_kind, of_length, one, refl, true, ℕ, ◌++◌, ◌∙◌, ◌≡◌}
 use Rattle.cj_spans.proofs.Findings.{least-two, least-swap}
-use Rattle.cj_geometry.specs.Meaning.Rule.{one, of_kind, nothing, has_length, of_length}
 use Rattle.cj_geometry.proofs.OfKind.{of_kind-then}
 
 -- another length has its reason

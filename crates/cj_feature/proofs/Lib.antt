@@ -1,3 +1,4 @@
+pub mod Common
 mod AxisMaps
 pub mod Fixed
 pub mod FixedRule

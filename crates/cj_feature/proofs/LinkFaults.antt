@@ -1,25 +1,13 @@
 -- Links told by tests on members, and by relations between ids: the findings are the same.
-use Rattle.std.proofs.Common.{◌≡◌, ◌⊎◌, inl, inr, ℕ, zero, suc, ◌<◌, List, [], ◌∷◌, ◌++◌, Bool, true, false, length, get_or, cond, Option, Some, None, refl, sym, ap, ◌∙◌, subst, arith}
-use Rattle.std.specs.Prelude.{◌&&◌, ◌||◌, not, codes}
-use Rattle.std.specs.List.{Contains, flat_map, list_any}
-use Rattle.std.specs.Str.{chars}
+use Rattle.cj_feature.proofs.Common.{Bool, ChildNotFound, Contains, Finding, IsIn, Kind, LinkNotMutual, List, NoParent, None, Option, Some, Tree, [], answered, ap, are_same_texts, arith, array, at_second_level, chars, children, codes, cond, false, flat_map, found_at, has_item, inl, inr, is_array, is_known, is_text, items_if, items_of, kind_of, length, links, list_any, list_members, listed_in, lists, member, member_of, members_of, no_members, not, object, object_links, one, parent, parents, part, part_of, refl, same_text, scalar, start_of, subst, suc, sym, text_of, true, zero, ℕ, ◌&&◌, ◌++◌, ◌<◌, ◌||◌, ◌∙◌, ◌∷◌, ◌≡◌, ◌⊎◌}
+use Rattle.std.proofs.Common.{get_or}
 use Rattle.std.specs.Cmp.Lexicographic.{bytes_decides}
 use Rattle.std.proofs.lemmas.List.Elements.{Contains-append_left, Contains-append_right, Contains-append_cases}
-use Rattle.cj_spans.specs.declared.token.Kind.{Kind}
 use Rattle.cj_spans.specs.declared.token.Kind.TheVariants.{Null, Truth, Number, Text, Array, Object}
-use Rattle.cj_spans.specs.declared.finding.Finding.{Finding}
-use Rattle.cj_spans.specs.declared.reason.Reason.TheVariants.{ChildNotFound, LinkNotMutual, NoParent}
-use Rattle.cj_spans.specs.Meaning.Finding.{found_at}
-use Rattle.cj_spans.specs.Meaning.Kinds.{is_text, is_array}
 use Rattle.cj_spans.specs.Meaning.Text.{text}
-use Rattle.cj_spans.specs.Meaning.Tree.{Tree, scalar, array, object, start_of, Members, no_members, member}
-use Rattle.cj_spans.specs.Meaning.Parts.{kind_of, items_of, list_members, members_of, member_of, text_of}
-use Rattle.cj_spans.specs.Meaning.Parts.{are_same_texts, items_if}
-use Rattle.cj_geometry.specs.Meaning.Rule.{one}
-use Rattle.cj_feature.specs.Meaning.Links.{same_text, listed_in, is_group, at_second_level, is_known, has_item, lists, answered}
-use Rattle.cj_feature.specs.Meaning.Links.{child, parent, children, parents, part_of, part, object_links, links}
-use Rattle.cj_feature.specs.Meaning.Relations.{IsIn, IsListed, Lists, IsLinkFault, child_not_found, child_not_mutual}
-use Rattle.cj_feature.specs.Meaning.Relations.{parent_not_mutual, no_parent}
+use Rattle.cj_spans.specs.Meaning.Tree.{Members}
+use Rattle.cj_feature.specs.Meaning.Links.{is_group, child}
+use Rattle.cj_feature.specs.Meaning.Relations.{IsListed, Lists, IsLinkFault, child_not_found, child_not_mutual, parent_not_mutual, no_parent}
 
 -- ---- elements
 

@@ -1,11 +1,6 @@
 -- The templates of a header that has no list of them.
-use Rattle.std.proofs.Common.{◌≡◌, Bool, true, false, cond, Option, Some, None, is_some, refl}
-use Rattle.cj_spans.specs.Meaning.Tree.{Tree}
-use Rattle.cj_spans.specs.Meaning.Kinds.{is_array}
-use Rattle.cj_spans.specs.Meaning.Parts.{kind_of}
-use Rattle.cj_geometry.specs.Meaning.Geometry.{listed, empty}
+use Rattle.cj_feature.proofs.Common.{Bool, None, Option, Some, Tree, cond, empty, false, given_list, is_array, is_some, kind_of, listed, refl, templates_of, true, ◌≡◌}
 use Rattle.cj_geometry.specs.Given.{list_of}
-use Rattle.cj_feature.specs.Meaning.Feature.{given_list, templates_of}
 
 listed_if : (v : Bool) (t : Tree) → false ≡ is_some (list_of (cond v (listed t) empty))
     → cond v (listed t) empty ≡ empty

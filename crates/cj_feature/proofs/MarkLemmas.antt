@@ -1,11 +1,5 @@
 -- Marks set one after another.
-use Rattle.std.proofs.Common.{◌≡◌, ◌≢◌, ◌⊎◌, inl, inr, ℕ, zero, suc, ◌+◌, ◌<◌, List, [], ◌∷◌, length, true, false, cond, refl, sym, ap, subst, arith, ◌∙◌}
-use Rattle.std.proofs.lemmas.Bool.{cases_lt}
-use Rattle.cj_spans.specs.declared.token.Token.{Token}
-use Rattle.cj_spans.specs.Marks.{has_mark, is_marked_at, IsMarked}
-use Rattle.cj_spans.specs.Preorder.{spans_of}
-use Rattle.cj_spans.specs.Meaning.Tree.{Tree}
-use Rattle.cj_spans.specs.View.{tree_at}
+use Rattle.cj_feature.proofs.Common.{IsMarked, List, Token, Tree, [], ap, arith, cases_lt, cond, false, has_mark, inl, inr, is_marked_at, length, refl, spans_of, subst, suc, sym, tree_at, true, zero, ℕ, ◌+◌, ◌<◌, ◌∙◌, ◌∷◌, ◌≡◌, ◌≢◌, ◌⊎◌}
 
 -- how many have no mark
 abbrev pub unmarked_count : List Token → ℕ

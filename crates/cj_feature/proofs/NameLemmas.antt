@@ -1,22 +1,10 @@
 -- Names that are noted in order.
-use Rattle.std.proofs.Common.{◌≡◌, inl, inr, ℕ, ◌+◌, ◌<◌, List, [], length, get_or, take, false, true, is_ok, Result, Ok, Err, arith, sym, ap, ◌∙◌, subst}
-use Rattle.std.specs.Prelude.{slice_set}
+use Rattle.cj_feature.proofs.Common.{AreInNameOrder, Contains, Contains-permutation, Equal, Err, IsNoted, IsSought, List, Node, Noted, Ok, Result, Side, Tree, [], ap, arith, cases_lt, compare_sides, false, inl, inr, length, length-set, same_text, searchable_from_sorted, side_in, side_of, slice_set, subst, sym, take, text_of, true, ℕ, ◌+◌, ◌<◌, ◌∙◌, ◌≡◌}
+use Rattle.std.proofs.Common.{get_or, is_ok, IsPermutation, get_or-take, get_or-set_same, get_or-set_other, length-take-le}
 use Rattle.std.specs.Cmp.{tied_itself}
-use Rattle.std.specs.List.{Contains}
-use Rattle.std.specs.List.Sorted.{IsPermutation, IsBinarySearchResult}
-use Rattle.std.specs.declared.cmp.Ordering.TheVariants.{Equal}
-use Rattle.std.proofs.lemmas.Bool.{cases_lt}
-use Rattle.std.proofs.lemmas.List.{get_or-take, get_or-set_same, get_or-set_other, length-set, length-take-le}
-use Rattle.std.proofs.lemmas.List.Sorted.{Contains-permutation, searchable_from_sorted}
-use Rattle.cj_spans.specs.declared.node.Node.{Node}
-use Rattle.cj_spans.specs.Meaning.Tree.{Tree}
-use Rattle.cj_spans.specs.Meaning.Parts.{text_of}
-use Rattle.cj_feature.specs.declared.feature.search.noted.Noted.{Noted}
+use Rattle.std.specs.List.Sorted.{IsBinarySearchResult}
 use Rattle.cj_feature.specs.declared.feature.search.unmarked.Names.{Names}
 use Rattle.cj_feature.specs.declared.feature.search.unmarked.Names.TheVariants.{Every, These}
-use Rattle.cj_feature.specs.Meaning.Links.{same_text}
-use Rattle.cj_feature.specs.inner.Questions.{Side, compare_sides, side_of, side_in}
-use Rattle.cj_feature.specs.inner.Unmarked.{AreInNameOrder, IsNoted, IsSought}
 use Rattle.cj_feature.proofs.LinkFaults.{from-texts}
 use Rattle.cj_feature.proofs.Questions.{sides_total}
 

@@ -1,33 +1,13 @@
 -- City objects at hand, and those that wait, told by their numbers.
-use Rattle.std.proofs.Common.{◌≡◌, ◌≢◌, ◌⊎◌, inl, inr, ℕ, zero, suc, ◌+◌, ◌<◌, List, [], ◌∷◌, length, slice_get, Some, refl, sym, ap, subst, arith, ◌∙◌}
-use Rattle.std.specs.Prelude.{slice_set, codes, replicate}
-use Rattle.std.specs.List.{Contains}
-use Rattle.std.specs.Str.{chars}
-use Rattle.std.specs.List.Sorted.{IsPermutation}
-use Rattle.std.proofs.lemmas.Bool.{cases_lt}
-use Rattle.std.proofs.lemmas.List.Sorted.{Contains-permutation, IsPermutation-sym}
-use Rattle.std.proofs.lemmas.Option.{slice_get_within, get_or_from_slice_get, slice_get_read}
-use Rattle.cj_budget.specs.Bounded.{BoundedList}
-use Rattle.cj_spans.specs.declared.token.Token.{Token}
+use Rattle.cj_feature.proofs.Common.{AddsNone, AreNamed, AreReached, BoundedList, Children, Contains, Contains-permutation, IsGuide, IsIn, IsPermutation-sym, IsReached, IsReachedObject, IsReady, Json, KeepsTokens, Knows, List, Node, ReachesName, SlotHolds, Some, Span, Token, Tree, WaitsFor, [], ap, arith, cases_lt, chars, child, codes, document_line, document_source, inl, inr, is_marked_at, itself, length, line_of, listed_in, member_of, members_of, refl, slice_get_within, slice_set, source_of, spans_by, spans_of, subst, suc, sym, text_of, tokens_in, tree, tree_at, zero, ℕ, ◌+◌, ◌<◌, ◌∙◌, ◌∷◌, ◌≡◌, ◌≢◌, ◌⊎◌}
+use Rattle.std.proofs.Common.{slice_get, replicate, IsPermutation}
+use Rattle.std.proofs.lemmas.Option.{get_or_from_slice_get, slice_get_read}
 use Rattle.cj_spans.specs.declared.node.Doc.{Doc}
-use Rattle.cj_spans.specs.declared.node.Node.{Node}
-use Rattle.cj_spans.specs.Meaning.Json.{Json}
-use Rattle.cj_spans.specs.Marks.{KeepsTokens, is_marked_at}
-use Rattle.cj_spans.specs.Preorder.{Span, spans_of}
-use Rattle.cj_spans.specs.Meaning.Tree.{Tree}
-use Rattle.cj_spans.specs.Meaning.Parts.{members_of, member_of, text_of}
-use Rattle.cj_spans.specs.View.{tree, line_of, source_of, tokens_in, tree_at, document_line, document_source}
 use Rattle.cj_feature.specs.declared.feature.search.near.Near.{Near}
 use Rattle.cj_feature.specs.declared.feature.search.near.lists.Lists.{Lists}
 use Rattle.cj_feature.specs.declared.feature.search.near.pending.Pending.{Pending}
 use Rattle.cj_feature.specs.declared.feature.search.near.slot.Held.TheVariants.{Nothing}
 use Rattle.cj_feature.specs.declared.feature.search.near.slot.Slot.{Slot}
-use Rattle.cj_feature.specs.Meaning.Links.{listed_in}
-use Rattle.cj_feature.specs.Meaning.Relations.{IsIn, Children}
-use Rattle.cj_feature.specs.Meaning.Reachable.{itself, child, IsReached, IsReachedObject}
-use Rattle.cj_feature.specs.inner.Slots.{SlotHolds, IsReady}
-use Rattle.cj_feature.specs.inner.Marking.{AreNamed, AreReached, ReachesName, Knows, WaitsFor, AddsNone, IsGuide}
-use Rattle.cj_feature.specs.inner.Marking.{spans_by}
 use Rattle.cj_feature.proofs.LinkFaults.{from-texts, from-listed}
 use Rattle.cj_spans.proofs.Marking.{line-of-document}
 use Rattle.cj_feature.proofs.Fitting.{one-some}

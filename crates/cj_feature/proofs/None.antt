@@ -1,12 +1,5 @@
 -- What follows where a rule finds nothing.
-use Rattle.std.proofs.Common.{◌≡◌, ℕ, List, [], ◌∷◌, ◌++◌, Bool, true, false, cond, Option, Some, None, refl}
-use Rattle.std.specs.List.{flat_map, list_all}
-use Rattle.cj_spans.specs.declared.token.Kind.{Kind}
-use Rattle.cj_spans.specs.declared.reason.Reason.TheVariants.{WrongKind}
-use Rattle.cj_spans.specs.declared.finding.Finding.{Finding}
-use Rattle.cj_spans.specs.Meaning.Tree.{Tree}
-use Rattle.cj_spans.specs.Meaning.Parts.{kind_of, member_of}
-use Rattle.cj_geometry.specs.Meaning.Rule.{one, of_kind, missing, if_there, needs}
+use Rattle.cj_feature.proofs.Common.{Bool, Finding, Kind, List, None, Option, Some, Tree, WrongKind, [], cond, false, flat_map, if_there, kind_of, list_all, member_of, missing, needs, of_kind, one, refl, true, ℕ, ◌++◌, ◌∷◌, ◌≡◌}
 
 -- neither of two lists has one
 pub none-both : (fs gs : List Finding) → fs ++ gs ≡ [] → (fs ≡ []) × (gs ≡ [])

@@ -1,27 +1,9 @@
 -- The LoDs of a valid feature beside a header without templates: no geometry is an instance.
-use Rattle.std.proofs.Common.{◌≡◌, ℕ, List, [], ◌∷◌, ◌++◌, Bool, true, false, cond, Option, Some, None, map, codes, not, nat_lt, refl, sym, ap, subst, ◌∙◌, arith}
-use Rattle.std.specs.Prelude.{pos, negsuc, ℤ, Result, Ok, Err}
-use Rattle.std.specs.List.{flat_map}
-use Rattle.std.specs.Str.{chars}
-use Rattle.std.proofs.lemmas.List.{map-append}
-use Rattle.std.proofs.lemmas.Bool.Decides.{nat_tests}
-use Rattle.cj_spans.specs.declared.reason.Reason.TheVariants.{TemplateIndex, BadInstance}
-use Rattle.cj_spans.specs.Meaning.Tree.{Tree}
-use Rattle.cj_spans.specs.Meaning.Kinds.{is_number, is_text, is_array, is_object}
-use Rattle.cj_spans.specs.Meaning.Parts.{items_of, members_of, member_of, has_text, items_if, members_if}
-use Rattle.cj_decimal.specs.declared.decimal.DecimalFault.{DecimalFault}
-use Rattle.cj_decimal.specs.Meaning.Number.{Number, as_whole}
-use Rattle.cj_decimal.specs.Meaning.Decimal.{decimal_of}
-use Rattle.cj_geometry.specs.Meaning.Geometry.{TemplateSource, count_of, geometry, template_count, typed_rules, form_rules}
-use Rattle.cj_geometry.specs.Meaning.Geometry.{instance_rules, is_itself}
+use Rattle.cj_feature.proofs.Common.{BadInstance, Bool, DecimalFault, Err, List, None, Number, Ok, Option, Result, Some, TemplateIndex, TemplateSource, Tree, [], ap, arith, as_whole, chars, city_object, city_objects, codes, cond, count_of, decimal_of, distinct, false, feature, flat_map, geometries, geometry, has_text, if_there, index, is_array, is_number, is_object, is_outside, is_text, items_if, items_of, map, map-append, may_have, member_of, members_if, members_of, nat_lt, nat_tests, needs, negsuc, not, object_geometries, object_type, of_kind, one, pos, refl, second_level, spelling, subst, sym, template_count, templates_of, texts, true, value_findings, whole_findings, ℕ, ℤ, ◌++◌, ◌∙◌, ◌∷◌, ◌≡◌}
+use Rattle.cj_geometry.specs.Meaning.Geometry.{typed_rules, form_rules, instance_rules, is_itself}
 use Rattle.cj_geometry.specs.Meaning.Lod.{is_instance, lod}
-use Rattle.cj_geometry.specs.Meaning.Rule.{one, of_kind, if_there, needs, may_have, distinct}
-use Rattle.cj_geometry.specs.Meaning.Numbers.{index, is_outside, value_findings, whole_findings, spelling}
 use Rattle.cj_geometry.specs.Meaning.Table.{form_of, instance}
 use Rattle.cj_geometry.proofs.Texts.{other_text}
-use Rattle.cj_feature.specs.Meaning.Feature.{feature, templates_of, city_object, city_objects, geometries, object_type}
-use Rattle.cj_feature.specs.Meaning.Feature.{second_level, texts}
-use Rattle.cj_feature.specs.Meaning.CityObject.{object_geometries}
 use Rattle.cj_feature.proofs.None.{none-both, of_kind-none, by-member}
 use Rattle.cj_feature.proofs.Valid.{has-objects}
 

@@ -1,22 +1,8 @@
 -- Links in two walks: the children of all city objects, then their parents.
-use Rattle.std.proofs.Common.{◌≡◌, ℕ, Bool, true, false, not, ◌&&◌, ◌||◌, cond, List, [], ◌∷◌, ◌++◌, Option, Some, None, refl, sym, ap, ◌∙◌}
-use Rattle.std.specs.Prelude.{codes}
-use Rattle.std.specs.List.{flat_map, list_any}
-use Rattle.std.specs.Str.{chars}
-use Rattle.cj_spans.specs.declared.finding.Finding.{Finding}
-use Rattle.cj_spans.specs.declared.reason.Reason.{Reason}
-use Rattle.cj_spans.specs.declared.reason.Reason.TheVariants.{ChildNotFound, LinkNotMutual, NoParent}
-use Rattle.cj_spans.specs.Meaning.Finding.{least}
-use Rattle.cj_spans.specs.Meaning.Kinds.{is_text, is_array}
-use Rattle.cj_spans.specs.Meaning.Tree.{Tree}
-use Rattle.cj_spans.specs.Meaning.Parts.{kind_of, member_of, items_if}
+use Rattle.cj_feature.proofs.Common.{Bool, ChildNotFound, Finding, LinkNotMutual, List, NoParent, None, Option, Reason, Some, Tree, [], answered, ap, at_second_level, back_of, chars, children, codes, cond, false, flat_map, has_item, is_array, is_known, is_text, items_if, kind_of, least, linked, list_any, listed_in, lists, member_of, not, object_links, one, parents, part, part_of, refl, same_text, sym, true, ℕ, ◌&&◌, ◌++◌, ◌||◌, ◌∙◌, ◌∷◌, ◌≡◌}
 use Rattle.cj_spans.proofs.Findings.{least-append, least-swap}
-use Rattle.cj_geometry.specs.Meaning.Rule.{one}
 use Rattle.cj_feature.specs.declared.feature.search.link.Link.{Link}
 use Rattle.cj_feature.specs.declared.feature.search.link.Link.TheVariants.{Child, Parent}
-use Rattle.cj_feature.specs.inner.Kin.{back_of, linked}
-use Rattle.cj_feature.specs.Meaning.Links.{same_text, listed_in, at_second_level, is_known, has_item, lists, answered, children}
-use Rattle.cj_feature.specs.Meaning.Links.{parents, part_of, part, object_links}
 
 -- ---- who lists is in the feature
 

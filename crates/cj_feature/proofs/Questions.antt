@@ -1,34 +1,20 @@
 -- Questions on links, in order.
-use Rattle.std.proofs.Common.{◌≡◌, ◌⊎◌, inl, inr, ℕ, suc, ◌+◌, ◌-◌, ◌<◌, ◌≤◌, Bool, true, false, ◌||◌, List, [], ◌∷◌, ◌++◌, take, drop, Option, Some, None, length, get_or, arith, refl, sym, ap, ◌∙◌, subst}
-use Rattle.std.specs.Prelude.{slice_get, slice_set, slice_index_or}
+use Rattle.cj_feature.proofs.Common.{AreLeft, AreListed, AreQuestionsInOrder, Bool, Equal, Greater, IsFirstOn, Less, List, Node, None, Option, Question, Side, Some, Tree, [], always_returns_same, ap, append_assoc, are_same_texts, arith, array, cases_eq, cases_lt, compare_keys, compare_sides, drop, false, from_in, inl, inr, is_known, is_lt, key_in, kind_of, length, lists, members_of, object, ranks_by, refl, same_text, scalar, searchable_from_sorted, side_of, slice_get_within, slice_set, sorted_far, subst, suc, sym, tag_of, take, text_of, tree, true, ℕ, ◌++◌, ◌+◌, ◌-◌, ◌<◌, ◌||◌, ◌∙◌, ◌∷◌, ◌≡◌, ◌≤◌, ◌⊎◌}
+use Rattle.std.proofs.Common.{get_or, slice_get, slice_index_or, IsSortedBy, drop-set-lt, length-append, get_or-set_other}
 use Rattle.std.specs.Cmp.{IsStrictWeakOrder, IsTotalOrder, nat_cmp_total, on_total, then_total, tied_itself}
 use Rattle.std.specs.Cmp.Lexicographic.{nat_list_cmp_total, options_total}
 use Rattle.std.specs.Fn.{Called, ComparesAs}
-use Rattle.std.specs.List.Sorted.{IsPartitionedBy, IsPartitionPoint, IsSortedBy}
-use Rattle.std.specs.Ordering.{is_lt, ordering_index}
+use Rattle.std.specs.List.Sorted.{IsPartitionedBy, IsPartitionPoint}
+use Rattle.std.specs.Ordering.{ordering_index}
 use Rattle.std.specs.declared.cmp.Ordering.{Ordering}
-use Rattle.std.specs.declared.cmp.Ordering.TheVariants.{Less, Equal, Greater}
-use Rattle.std.proofs.lemmas.Bool.{cases_eq, cases_lt}
-use Rattle.std.proofs.lemmas.Fn.{always_returns_same}
-use Rattle.std.proofs.lemmas.List.{append_assoc, drop-set-lt, drop_more, length-append, take_more_set, get_or_append_left, get_or-append_right, get_or-set_other}
-use Rattle.std.proofs.lemmas.List.Sorted.{ranks_by, sorted_far, searchable_from_sorted}
-use Rattle.std.proofs.lemmas.Option.{slice_get_within}
+use Rattle.std.proofs.lemmas.List.{drop_more, take_more_set, get_or_append_left, get_or-append_right}
 use denote.Param.Members.{Mut}
 use denote.Ref.{Bor}
-use Rattle.cj_spans.specs.declared.node.Node.{Node}
 use Rattle.cj_spans.specs.declared.token.Kind.TheVariants.{Null, Truth, Number, Text, Array, Object}
-use Rattle.cj_spans.specs.Meaning.Tree.{Tree, scalar, array, object}
 use Rattle.cj_spans.specs.Order.{compare_texts}
-use Rattle.cj_spans.specs.Meaning.Parts.{kind_of, members_of, text_of, are_same_texts}
-use Rattle.cj_spans.specs.View.{tree}
 use Rattle.cj_geometry.proofs.Initials.{still_free}
-use Rattle.cj_feature.specs.declared.feature.search.questions.order.Question.{Question}
-use Rattle.cj_feature.specs.Meaning.Links.{same_text, is_known, lists}
-use Rattle.cj_feature.specs.inner.Tag.{tag_of}
 use Rattle.cj_feature.proofs.LinkFaults.{from-texts}
-use Rattle.cj_feature.specs.inner.Questions.{Key, Side, compare_sides, side_of, compare_keys, key_of, from_in, to_in}
-use Rattle.cj_feature.specs.inner.Questions.{key_in, AreQuestionsInOrder, IsPlaceOf, IsFirstOn, IsQuestion, AreListed}
-use Rattle.cj_feature.specs.inner.Questions.{AreLeft}
+use Rattle.cj_feature.specs.inner.Questions.{Key, key_of, to_in, IsPlaceOf, IsQuestion}
 
 -- ---- a list in order
 

@@ -1,16 +1,8 @@
 -- What is reached from an id: told as the least set, and by rounds that compute. Both say the same.
-use Rattle.std.proofs.Common.{◌≡◌, ◌⊎◌, inl, inr, ℕ, zero, suc, ◌+◌, ◌≤◌, List, [], ◌∷◌, Bool, true, false, length, cond, Option, Some, None, refl, sym, ap, ◌∙◌, subst, arith}
-use Rattle.std.specs.Prelude.{not, filter, codes}
-use Rattle.std.specs.List.{Contains}
-use Rattle.std.specs.Str.{chars}
+use Rattle.cj_feature.proofs.Common.{Bool, Children, Contains, IsIn, IsReached, List, None, Option, Reached, Some, Tree, [], ap, are_same_texts, arith, chars, child, codes, cond, false, filter, has_item, inl, inr, is_reached, itself, length, listed_in, not, reached_from, refl, same_text, subst, suc, sym, text_of, true, zero, ℕ, ◌+◌, ◌∙◌, ◌∷◌, ◌≡◌, ◌≤◌, ◌⊎◌}
 use Rattle.std.proofs.lemmas.List.Elements.{Contains-append_left, Contains-append_right, Contains-append_cases}
 use Rattle.std.proofs.lemmas.List.Filters.{length-filter_both}
-use Rattle.cj_spans.specs.Meaning.Tree.{Tree}
-use Rattle.cj_spans.specs.Meaning.Parts.{text_of, are_same_texts}
-use Rattle.cj_feature.specs.Meaning.Links.{same_text, listed_in, has_item}
-use Rattle.cj_feature.specs.Meaning.Relations.{IsIn, Children}
-use Rattle.cj_feature.specs.Meaning.Reachable.{Reached, itself, child, IsReached}
-use Rattle.cj_feature.specs.Meaning.Reached.{list_child, reached_from, reached_of, is_reached}
+use Rattle.cj_feature.specs.Meaning.Reached.{list_child, reached_of}
 use Rattle.cj_feature.proofs.LinkFaults.{here, there, nowhere, first-or, from-any, to-any, carried, from-texts, to-texts, from-listed, to-listed}
 
 -- ---- elements that pass a test

@@ -1,26 +1,7 @@
 -- Where the rules on vertices find nothing, vertices have three whole numbers.
-use Rattle.std.proofs.Common.{◌≡◌, ◌∙◌, sym, ap, ℕ, zero, suc, ◌<◌, ◌≤◌, drop, take, pos, List, [], ◌∷◌, ◌++◌, length, map, Bool, true, false, nat_eq, cond, Option, Some, None, ℤ, refl, inl, inr, arith}
-use Rattle.std.specs.Result.{result_ok}
-use Rattle.std.specs.List.{flat_map, list_all}
-use Rattle.std.specs.Prelude.{IfSome, Result, Ok, Err, option_and_then}
-use Rattle.std.proofs.lemmas.List.{drop-map, drop_all}
-use Rattle.std.proofs.lemmas.Bool.{cases_lt, eqb-true}
-use Rattle.cj_spans.specs.declared.reason.Reason.TheVariants.{NotThree}
-use Rattle.cj_spans.specs.Meaning.Tree.{Tree}
+use Rattle.cj_feature.proofs.Common.{Bool, DecimalFault, Err, IfSome, IsWordOf, List, None, NotThree, Number, Ok, Option, Result, Some, Tree, [], ap, are_one, are_three, are_two, arith, as_whole, begins_whole, cases_lt, cond, decimal_of, drop, drop-map, drop_all, eqb-true, false, flat_map, has_length, inl, inr, is_array, is_number, is_vertex, items_of, length, list_all, map, nat_eq, number_on, of_length, one, option_and_then, pos, refl, result_ok, spelling, suc, sym, take, true, value_findings, vertex_list, vertex_of, whole_findings, whole_number, whole_of, zero, ℕ, ℤ, ◌++◌, ◌<◌, ◌∙◌, ◌∷◌, ◌≡◌, ◌≤◌}
 use Rattle.cj_spans.specs.Forest.{total_size}
-use Rattle.cj_spans.specs.Meaning.Kinds.{is_number, is_array}
-use Rattle.cj_spans.specs.Meaning.Parts.{items_of}
-use Rattle.cj_decimal.specs.Word.{IsWordOf}
-use Rattle.cj_decimal.specs.declared.decimal.DecimalFault.{DecimalFault}
-use Rattle.cj_decimal.specs.Meaning.Number.{Number, as_whole}
-use Rattle.cj_decimal.specs.Meaning.Decimal.{decimal_of}
 use Rattle.cj_geometry.proofs.Lone.{whole-size}
-use Rattle.cj_geometry.specs.Meaning.Rule.{one, has_length, of_length}
-use Rattle.cj_geometry.specs.Meaning.Numbers.{spelling, value_findings, whole_findings, whole_of, whole_number}
-use Rattle.cj_feature.specs.Meaning.Feature.{vertex_list}
-use Rattle.cj_feature.specs.inner.Typed.{are_one, are_two, are_three, is_vertex, begins_whole}
-use Rattle.cj_feature.specs.Meaning.CityObject.{vertex_of}
-use Rattle.cj_feature.specs.Axes.{number_on}
 use Rattle.cj_feature.proofs.None.{none-both, of_kind-none, none-each}
 
 -- ---- vertices

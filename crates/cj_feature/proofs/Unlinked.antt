@@ -1,13 +1,6 @@
 -- City objects that list nobody have no links.
-use Rattle.std.proofs.Common.{◌≡◌, ℕ, List, [], ◌∷◌, ◌++◌, Bool, true, false, ◌||◌, cond, Option, None, Some}
-use Rattle.std.proofs.Common.{refl, ap, sym, ◌∙◌}
-use Rattle.std.specs.Prelude.{codes, is_some, option_map}
-use Rattle.std.specs.List.{flat_map}
-use Rattle.std.specs.Str.{chars}
-use Rattle.cj_spans.specs.declared.finding.Finding.{Finding}
-use Rattle.cj_spans.specs.Meaning.Parts.{member_of, items_if}
-use Rattle.cj_spans.specs.Meaning.Tree.{Tree}
-use Rattle.cj_feature.specs.Meaning.Links.{child, is_group, at_second_level, object_links, parent, part_of}
+use Rattle.cj_feature.proofs.Common.{Bool, Finding, List, None, Option, Some, Tree, [], ap, at_second_level, chars, codes, cond, false, flat_map, is_some, items_if, member_of, object_links, option_map, parent, part_of, refl, sym, true, ℕ, ◌++◌, ◌||◌, ◌∙◌, ◌∷◌, ◌≡◌}
+use Rattle.cj_feature.specs.Meaning.Links.{child, is_group}
 
 -- and the next of some members has none
 pub next_unlinked : (f : Tree × Tree → List Finding) (all rest : List (Tree × Tree)) (m : Tree × Tree)

@@ -1,18 +1,6 @@
 -- What headers and features of no findings have.
-use Rattle.std.proofs.Common.{◌≡◌, ℕ, List, [], ◌∷◌, ◌++◌, Bool, true, false, cond, Option, Some, None, codes, refl}
-use Rattle.std.specs.List.{flat_map}
-use Rattle.std.specs.Str.{chars}
-use Rattle.cj_spans.specs.declared.token.Kind.{Kind}
-use Rattle.cj_spans.specs.Meaning.Tree.{Tree}
-use Rattle.cj_spans.specs.Meaning.Kinds.{is_text, is_object}
-use Rattle.cj_spans.specs.declared.finding.Finding.{Finding}
-use Rattle.cj_spans.specs.Meaning.Parts.{kind_of, members_of, member_of}
+use Rattle.cj_feature.proofs.Common.{Bool, Finding, Kind, List, None, Option, Some, TemplateSource, Tree, [], chars, city_object, city_objects, codes, cond, count_of, distinct, false, feature_rules, flat_map, geometries, header, header_rules, id_in, if_there, is_object, is_text, kind_of, known_type, may_have, member_of, members_of, missing, needs, object_type, of_kind, refl, second_level, texts, three_numbers, transform, true, vertex_list, ℕ, ◌++◌, ◌∷◌, ◌≡◌}
 use Rattle.cj_geometry.specs.Meaning.ObjectTypes.{ObjectRow, row_of}
-use Rattle.cj_geometry.specs.Meaning.Rule.{of_kind, missing, if_there, needs, may_have, distinct}
-use Rattle.cj_geometry.specs.Meaning.Geometry.{TemplateSource, count_of}
-use Rattle.cj_feature.specs.Meaning.Feature.{known_type, object_type, geometries, texts, second_level, city_object}
-use Rattle.cj_feature.specs.Meaning.Feature.{id_in, city_objects, vertex_list, feature_rules}
-use Rattle.cj_feature.specs.Meaning.Header.{three_numbers, transform, header_rules, header}
 use Rattle.cj_feature.proofs.None.{none-both, of_kind-none}
 
 -- a transform

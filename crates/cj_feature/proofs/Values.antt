@@ -1,20 +1,7 @@
 -- The values of numbers that rules have read.
-use Rattle.std.proofs.Common.{◌≡◌, ℕ, List, [], true, Some, refl, ap, Bool, false, cond, Option, None, ℤ}
-use Rattle.std.specs.Result.{result_ok}
-use Rattle.std.specs.Prelude.{Result, Ok, Err, option_and_then}
-use Rattle.cj_spans.specs.declared.token.Kind.{Kind}
+use Rattle.cj_feature.proofs.Common.{Bool, DecimalFault, Err, IsInRange, IsNumberInRange, IsValue, IsWhole, Kind, List, None, Number, Ok, Option, Result, Some, Tree, [], ap, array, as_whole, cond, decimal_of, false, is_number, kind_of, number, object, option_and_then, refl, result_ok, scalar, spelling, spelling_of, true, value_findings, value_of, whole_of, ℕ, ℤ, ◌≡◌}
 use Rattle.cj_spans.specs.declared.token.Kind.TheVariants.{Null, Truth, Number as NumberKind, Text, Array, Object}
-use Rattle.cj_spans.specs.Meaning.Tree.{Tree, scalar, array, object}
-use Rattle.cj_spans.specs.Meaning.Kinds.{is_number}
-use Rattle.cj_spans.specs.Meaning.Parts.{kind_of}
-use Rattle.cj_spans.specs.Places.{spelling_of}
-use Rattle.cj_decimal.specs.declared.decimal.DecimalFault.{DecimalFault}
-use Rattle.cj_decimal.specs.Meaning.Number.{Number, as_whole}
-use Rattle.cj_decimal.specs.Meaning.Equality.{IsInRange, IsWhole}
-use Rattle.cj_decimal.specs.Meaning.Spelling.{IsValue, IsNumberInRange}
-use Rattle.cj_decimal.specs.Meaning.Decimal.{decimal_of}
 use Rattle.cj_decimal.proofs.Decimals.{decimal_is, decimal_has, is_whole}
-use Rattle.cj_geometry.specs.Meaning.Numbers.{spelling, value_findings, number, value_of, whole_of}
 use Rattle.cj_feature.proofs.None.{of_kind-none}
 
 pub is-number : (k : Kind) → is_number k ≡ true → k ≡ NumberKind

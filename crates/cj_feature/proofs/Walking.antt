@@ -1,15 +1,6 @@
 -- A walk over the city objects of a feature: what is left of it.
-use Rattle.std.proofs.Common.{◌≡◌, ◌⊎◌, inl, inr, ℕ, List, ◌∷◌, Option, Some, None, IfNone, ◌∙◌, sym, subst}
-use Rattle.std.specs.List.{Contains}
+use Rattle.cj_feature.proofs.Common.{Contains, IfNone, IsMarked, IsMarkedBy, List, Node, None, Option, Some, Tree, inl, inr, line_of, members_left, members_line, members_of, members_source, source_of, spans_of, subst, sym, tokens_in, tree, tree_at, ℕ, ◌∙◌, ◌∷◌, ◌≡◌, ◌⊎◌}
 use Rattle.cj_spans.specs.declared.node.Members.{Members}
-use Rattle.cj_spans.specs.declared.node.Node.{Node}
-use Rattle.cj_spans.specs.Meaning.Tree.{Tree}
-use Rattle.cj_spans.specs.Meaning.Parts.{members_of}
-use Rattle.cj_spans.specs.View.{tree, line_of, source_of, members_left, members_line, members_source}
-use Rattle.cj_spans.specs.View.{tokens_in, tree_at}
-use Rattle.cj_spans.specs.Marks.{IsMarked}
-use Rattle.cj_spans.specs.Preorder.{spans_of}
-use Rattle.cj_feature.specs.inner.Marking.{IsMarkedBy}
 use Rattle.cj_feature.proofs.LinkFaults.{here, there, first-or}
 
 -- the walk goes over some of these city objects, in their line

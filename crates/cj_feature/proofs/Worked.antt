@@ -1,18 +1,9 @@
 -- What the rules say of worked headers and features.
-use Rattle.std.proofs.Common.{◌≡◌, ℕ, List, [], ◌∷◌, ◌++◌, false, true, None, Some, refl}
-use Rattle.std.specs.Prelude.{codes}
-use Rattle.std.specs.Str.{chars}
-use Rattle.cj_spans.specs.declared.reason.Reason.TheVariants.{MissingMember, IdNotFound, NotReached, UnknownObjectType}
-use Rattle.cj_spans.specs.Meaning.Finding.{least, found_at}
-use Rattle.cj_spans.specs.Meaning.Json.{atom_at}
+use Rattle.cj_feature.proofs.Common.{IdNotFound, List, MissingMember, None, NotReached, Some, Tree, UnknownObjectType, [], array, atom_at, chars, codes, false, feature, found_at, header, is_reached, least, member, no_items, no_members, object, reached_from, refl, true, ℕ, ◌++◌, ◌∷◌, ◌≡◌}
 use Rattle.cj_spans.specs.Meaning.Text.{text, code_points_after, first_code_point, first_width}
-use Rattle.cj_spans.specs.Meaning.Tree.{Tree, array, object, no_items, member, no_members}
 use Rattle.cj_geometry.specs.Meaning.ObjectTypes.{object_types}
 use Rattle.cj_geometry.proofs.Digits.{number-zero, number-one}
 use Rattle.cj_feature.specs.Examples.{Row, row, plain_header, other_id, chain, part_apart, main_part, extension, text as text_at}
-use Rattle.cj_feature.specs.Meaning.Feature.{feature}
-use Rattle.cj_feature.specs.Meaning.Header.{header}
-use Rattle.cj_feature.specs.Meaning.Reached.{reached_from, is_reached}
 
 -- a feature of one city object
 abbrev pub plain_feature : Row

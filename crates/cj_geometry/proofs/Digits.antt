@@ -1,18 +1,9 @@
 -- Numbers of one digit.
-use Rattle.std.proofs.Common.{◌≡◌, ◌<◌, ◌^◌, ℕ, List, [], true, cond, Option, Some, Ok, ℤ, pos, negsuc, inl, inr, refl, sym, arith}
-use Rattle.std.specs.Prelude.{codes}
+use Rattle.cj_geometry.proofs.Common.{Class, IsValue, List, Number, Ok, Option, Reason, Some, Tree, [], arith, codes, cond, index, inl, inr, is_outside, negsuc, number, one, pos, refl, scalar, sym, true, whole_answer, whole_of, ℕ, ℤ, ◌<◌, ◌^◌, ◌≡◌}
 use Rattle.std.proofs.lemmas.Int.{ints}
-use Rattle.cj_spans.specs.declared.token.Kind.TheVariants.{Number}
-use Rattle.cj_spans.specs.declared.reason.Reason.{Reason}
-use Rattle.cj_spans.specs.Meaning.Tree.{Tree, scalar}
 use Rattle.cj_decimal.specs.Meaning.Number.{scaled as number_of}
-use Rattle.cj_decimal.specs.Meaning.Spelling.{IsValue}
-use Rattle.cj_decimal.specs.Meaning.Reading.{digits_value, digits_front, digits_rest, begins, begins_digit, is_int}
-use Rattle.cj_decimal.specs.Meaning.Reading.{is_empty}
-use Rattle.cj_decimal.specs.Meaning.Class.{Class, whole_answer}
+use Rattle.cj_decimal.specs.Meaning.Reading.{digits_value, digits_front, digits_rest, begins, begins_digit, is_int, is_empty}
 use Rattle.cj_decimal.proofs.Wholes.{answer_digits, answer_whole}
-use Rattle.cj_geometry.specs.Meaning.Rule.{one}
-use Rattle.cj_geometry.specs.Meaning.Numbers.{is_outside, number, index, whole_of}
 use Rattle.cj_geometry.proofs.Numbers.{index-read, number-read, whole-read}
 
 -- the number that a spelling stands for, at these places

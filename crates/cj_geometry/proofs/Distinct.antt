@@ -1,17 +1,7 @@
 -- Distinct names, told by walks that each deal with the least names above the last ones.
-use Rattle.std.proofs.Common.{◌≡◌, ℕ, zero, suc, ◌+◌, ◌<◌, ◌≤◌, inl, inr, ◌&&◌, nat_lt, Bool, true, false, cond, List, [], ◌∷◌, ◌++◌, length, get_or, Option, Some, None, refl, sym, ap, subst, arith, ◌∙◌}
-use Rattle.std.specs.Prelude.{All, Contains, IfSome}
-use Rattle.std.proofs.lemmas.Bool.Decides.{nat_tests}
+use Rattle.cj_geometry.proofs.Common.{All, AreNamesInOrder, Ascend, Bool, Contains, DuplicateName, Finding, IfSome, List, None, Option, Some, Tree, [], ap, are_same_texts, arith, cond, false, found_at, get_or, inl, inr, is_above, last_of, least, length, names_of, nat_lt, nat_tests, neighbours, one, refl, repeat_of, repeats, repeats_of, start_of, subst, suc, sym, text_of, true, zero, ℕ, ◌&&◌, ◌++◌, ◌+◌, ◌<◌, ◌∙◌, ◌∷◌, ◌≡◌, ◌≤◌}
 use Rattle.std.proofs.lemmas.List.Elements.{All-contains, All-head, All-tail, All-nil, All-append, Contains-append_left, Contains-append_right, Contains-append_cases}
-use Rattle.cj_spans.specs.declared.reason.Reason.TheVariants.{DuplicateName}
-use Rattle.cj_spans.specs.declared.finding.Finding.{Finding}
-use Rattle.cj_spans.specs.Meaning.Finding.{least, found_at}
-use Rattle.cj_spans.specs.Meaning.Tree.{Tree, start_of}
-use Rattle.cj_spans.specs.Meaning.Parts.{text_of, are_same_texts}
-use Rattle.cj_spans.specs.Places.{AreNamesInOrder}
 use Rattle.cj_spans.proofs.Findings.{least-append}
-use Rattle.cj_geometry.specs.Meaning.Rule.{one, repeats_of, repeats}
-use Rattle.cj_geometry.specs.inner.Names.{is_above, Ascend, repeat_of, neighbours, last_of, names_of}
 use Rattle.cj_geometry.proofs.Neighbours.{absorbed, contains_cases, contains_first, contains_later, contains_none, AreDealt, HaveNoGap, IsPast, all_dealt, none_past, last_past, last_among}
 
 -- ---- what a repeated name is

@@ -1,15 +1,8 @@
 -- Names whose first characters have different slots are distinct.
-use Rattle.std.proofs.Common.{◌≡◌, ◌≢◌, ◌∙◌, ◌<◌, ◌≤◌, ℕ, List, [], ◌∷◌, ◌++◌, Bool, true, false}
-use Rattle.std.proofs.Common.{Option, Some, None, sym, ap}
-use Rattle.std.proofs.Common.{inl, inr, length, get_or, cond, arith, refl, subst}
-use Rattle.std.specs.Prelude.{◌%◌, option_and_then, replicate, slice_set}
-use Rattle.std.proofs.lemmas.Bool.{cases_eq, false≢true}
-use Rattle.std.proofs.lemmas.List.{get_or-set_same, get_or-set_other, length-set}
-use Rattle.cj_spans.specs.Initials.{are_apart, begin_apart, then_apart, first_code_of, head}
-use Rattle.cj_spans.specs.declared.reason.Reason.TheVariants.{DuplicateName}
-use Rattle.cj_spans.specs.Meaning.Parts.{are_same_texts, members_of, text_of}
-use Rattle.cj_spans.specs.Meaning.Tree.{Tree}
-use Rattle.cj_geometry.specs.Meaning.Rule.{distinct, one, repeats_of, repeats}
+use Rattle.cj_geometry.proofs.Common.{Bool, DuplicateName, List, None, Option, Some, Tree, [], ap, are_apart, are_same_texts, arith, cases_eq, cond, distinct, false, false≢true, get_or, inl, inr, length, length-set, members_of, one, option_and_then, refl, repeats, repeats_of, replicate, subst, sym, text_of, true, ℕ, ◌%◌, ◌++◌, ◌<◌, ◌∙◌, ◌∷◌, ◌≡◌, ◌≤◌}
+use Rattle.std.proofs.Common.{◌≢◌, get_or-set_same, get_or-set_other}
+use Rattle.std.specs.Prelude.{slice_set}
+use Rattle.cj_spans.specs.Initials.{begin_apart, then_apart, first_code_of, head}
 use Rattle.cj_geometry.proofs.Repeats.{same_texts}
 
 -- one name more

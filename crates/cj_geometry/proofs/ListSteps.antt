@@ -1,12 +1,7 @@
 -- What is kept of a list at even steps.
-use Rattle.std.proofs.Common.{◌≡◌, ℕ, zero, suc, ◌+◌, ◌-◌, ◌*◌, ◌/◌, ◌%◌, ◌<◌, ◌≤◌, List, [], ◌∷◌, ◌++◌, length, take, drop, get_or, slice_get, inl, inr, refl, sym, ap, arith, ◌∙◌, mul-zero}
-use Rattle.std.proofs.Math.ListN.{set}
-use Rattle.std.proofs.lemmas.Bool.{cases_lt}
-use Rattle.std.proofs.lemmas.List.{get_or-set_same, get_or-set_other, take-append-drop, length-set}
-use Rattle.std.proofs.lemmas.Nat.{mul-le, div_below, div-add-mod'}
-use Rattle.cj_spans.specs.Meaning.Tree.{Tree, size}
-use Rattle.cj_spans.specs.Forest.{total_size}
-use Rattle.cj_geometry.specs.ListSteps.{AreSizesAt}
+use Rattle.cj_geometry.proofs.Common.{AreSizesAt, List, Tree, [], ap, arith, cases_lt, drop, get_or, inl, inr, length, length-set, refl, set, size, slice_get, suc, sym, take, total_size, zero, ℕ, ◌%◌, ◌++◌, ◌+◌, ◌-◌, ◌<◌, ◌∙◌, ◌∷◌, ◌≡◌, ◌≤◌}
+use Rattle.std.proofs.Common.{◌*◌, ◌/◌, mul-zero, get_or-set_same, get_or-set_other, take-append-drop, div-add-mod'}
+use Rattle.std.proofs.lemmas.Nat.{mul-le, div_below}
 
 -- of a walk over a list: what is left, and what was noted before it
 pub record IsNoted (places step : ℕ) (ts left : List Tree) (sizes : List ℕ) (place until sum : ℕ) : Type 0 where

@@ -1,23 +1,7 @@
 -- Items at the front of an array that hold nothing, and have no finding.
-use Rattle.std.proofs.Common.{◌≡◌, ℕ, zero, suc, ◌+◌, ◌<◌, ◌≤◌, List, [], ◌∷◌, ◌++◌, length, take, drop, Bool, true, false, not, nat_lt, Option, Some, None, pos, refl, sym, ap, subst, arith, ◌∙◌}
-use Rattle.std.specs.Result.{result_ok}
-use Rattle.std.specs.List.{flat_map}
-use Rattle.std.specs.Prelude.{ℤ, IfSome, IsSome, Result, Ok, Err, option_and_then}
-use Rattle.std.proofs.lemmas.List.{length-drop}
+use Rattle.cj_geometry.proofs.Common.{AreLone, Bool, DecimalFault, Err, Finding, IfSome, IsSome, List, None, Ok, Option, Reason, Result, Some, Tree, [], ap, arith, decimal_of, drop, false, flat_map, index, is_number, is_outside, kind_of, length, length-drop, nat_lt, nat_tests, not, option_and_then, pos, refl, result_ok, scalar, size, spelling, subst, suc, sym, take, total_size, true, value_findings, whole_findings, whole_number, whole_of, zero, ℕ, ℤ, ◌++◌, ◌+◌, ◌<◌, ◌∙◌, ◌∷◌, ◌≡◌, ◌≤◌}
 use Rattle.std.proofs.lemmas.List.Concat.{flat_map-append}
-use Rattle.std.proofs.lemmas.Bool.Decides.{nat_tests}
-use Rattle.cj_spans.specs.declared.reason.Reason.{Reason}
-use Rattle.cj_spans.specs.declared.finding.Finding.{Finding}
-use Rattle.cj_spans.specs.Meaning.Tree.{Tree, scalar, size}
-use Rattle.cj_spans.specs.Forest.{total_size}
-use Rattle.cj_spans.specs.Meaning.Kinds.{is_number}
-use Rattle.cj_spans.specs.Meaning.Parts.{kind_of}
-use Rattle.cj_decimal.specs.declared.decimal.DecimalFault.{DecimalFault}
 use Rattle.cj_decimal.specs.Meaning.Number.{Number, as_whole}
-use Rattle.cj_decimal.specs.Meaning.Decimal.{decimal_of}
-use Rattle.cj_geometry.specs.Meaning.Numbers.{spelling, index, is_outside, whole_of, whole_number, value_findings}
-use Rattle.cj_geometry.specs.Meaning.Numbers.{whole_findings}
-use Rattle.cj_geometry.specs.Lone.{AreLone}
 use Rattle.cj_geometry.proofs.Numbers.{index-of-whole}
 
 take-next : (n : ℕ) (ts : List Tree) (t : Tree) (rest : List Tree) → drop n ts ≡ t ∷ rest

@@ -1,17 +1,8 @@
 -- Repeated names, told by neighbours in the order of names.
-use Rattle.std.proofs.Common.{◌≡◌, ℕ, zero, suc, ◌<◌, ◌⊎◌, inl, inr, ◌&&◌, nat_lt, Bool, true, false, cond, List, [], ◌∷◌, ◌++◌, length, get_or, Option, Some, None, refl, sym, ap, subst, arith, ◌∙◌}
-use Rattle.std.specs.Prelude.{All, Contains, IfSome}
-use Rattle.std.proofs.lemmas.Bool.Decides.{nat_tests}
+use Rattle.cj_geometry.proofs.Common.{All, Ascend, Bool, Contains, DuplicateName, Finding, IfSome, List, None, Option, Some, Tree, [], ap, are_same_texts, arith, cond, false, found_at, get_or, inl, inr, is_above, is_earlier, last_of, least, length, nat_lt, nat_tests, neighbours, one, refl, repeat_of, start_of, subst, suc, sym, text_of, true, zero, ℕ, ◌&&◌, ◌++◌, ◌<◌, ◌∙◌, ◌∷◌, ◌≡◌, ◌⊎◌}
 use Rattle.std.proofs.lemmas.List.Elements.{All-contains, All-head, All-tail, Contains-append_left, Contains-append_right, Contains-append_cases}
-use Rattle.cj_spans.specs.declared.reason.Reason.TheVariants.{DuplicateName}
-use Rattle.cj_spans.specs.declared.finding.Finding.{Finding}
-use Rattle.cj_spans.specs.Meaning.Finding.{least, found_at}
 use Rattle.cj_spans.specs.Meaning.Least.{list_found, HaveSame}
-use Rattle.cj_spans.specs.Meaning.Tree.{Tree, start_of}
-use Rattle.cj_spans.specs.Meaning.Parts.{text_of, are_same_texts}
 use Rattle.cj_spans.proofs.Findings.{least-append, least-swap, least_only, fold_least}
-use Rattle.cj_geometry.specs.Meaning.Rule.{one}
-use Rattle.cj_geometry.specs.inner.Names.{is_earlier, is_above, Ascend, repeat_of, neighbours, last_of}
 use Rattle.cj_geometry.proofs.Repeats.{same_texts}
 use Rattle.cj_geometry.proofs.Ordered.{earlier_itself, earlier_on, upto_on, on_upto, upto_upto, both_sides, none_true, tied, earlier_by_start, start_by_earlier, text_between}
 

@@ -1,37 +1,18 @@
 -- What reading a number says of its findings.
-use Rattle.std.proofs.Common.{◌≡◌, ℕ, ◌<◌, ◌^◌, List, [], Bool, true, false, cond, Option, Some, None, Result, Ok, Err, ℤ, to_z, of_z, w64, refl, sym, ap, subst, ◌∙◌, arith, ◌∷◌, ◌≤◌, get_or, inl, inr}
-use Rattle.std.specs.Result.{result_ok}
-use Rattle.std.specs.Prelude.{unsigned_abs, pos, negsuc, ◌*ℤ◌, nat_lt, unwrap_or, option_and_then, IfSome, IsSome, slice_range}
-use Rattle.std.proofs.lemmas.Bool.Decides.{nat_tests}
+use Rattle.cj_geometry.proofs.Common.{Bool, Class, DecimalFault, Err, Finding, IfSome, IsInt, IsNumberInRange, IsNumberOutOfRange, IsSome, List, None, NotWhole, Number, Ok, Option, Reason, Result, Some, SpellsNumber, Tree, WrongKind, [], ap, arith, array, cond, decimal_of, false, fault_reason, get_or, index, inl, inr, is_number, is_outside, kind_by, kind_of, least, nat_lt, nat_tests, negsuc, number, object, of_z, one, option_and_then, pos, refl, result_ok, scalar, slice_range, spelling, spelling_of, subst, sym, to_z, true, value_findings, w64, whole_answer, whole_answer_by, whole_findings, whole_of, ℕ, ℤ, ◌<◌, ◌^◌, ◌∙◌, ◌∷◌, ◌≡◌, ◌≤◌}
+use Rattle.std.proofs.Common.{unsigned_abs, ◌*ℤ◌, unwrap_or}
 use Rattle.std.proofs.lemmas.Int.{to_z-of_z, fits_signed_from_abs}
-use Rattle.cj_spans.specs.declared.token.Kind.TheVariants.{Number}
-use Rattle.cj_spans.specs.declared.reason.Reason.{Reason}
-use Rattle.cj_spans.specs.declared.reason.Reason.TheVariants.{NotWhole, WrongKind}
-use Rattle.cj_spans.specs.declared.finding.Finding.{Finding}
-use Rattle.cj_spans.specs.Meaning.Finding.{least}
-use Rattle.cj_spans.specs.Meaning.Tree.{Tree, scalar, array, object}
 use Rattle.cj_spans.specs.Meaning.Json.{byte}
-use Rattle.cj_spans.specs.Forest.{kind_by}
-use Rattle.cj_spans.specs.Meaning.Kinds.{is_number}
-use Rattle.cj_spans.specs.Meaning.Parts.{kind_of}
-use Rattle.cj_spans.specs.Places.{spelling_of}
-use Rattle.cj_decimal.specs.declared.decimal.DecimalFault.{DecimalFault}
 use Rattle.cj_decimal.specs.declared.decimal.DecimalFault.TheVariants.{NotANumber, NumberRange as OutOfRange}
 use Rattle.cj_decimal.proofs.Eights.{first_is}
-use Rattle.cj_decimal.specs.Meaning.Spelling.{IsInt, SpellsNumber, IsNumberInRange, IsNumberOutOfRange}
 use Rattle.cj_decimal.specs.FewDigits.{IsFewDigits, IsFewSigned, IsNumberIfBegun}
 use Rattle.cj_decimal.specs.Word.{IsWordOf}
-use Rattle.cj_decimal.specs.Meaning.Class.{Class, whole_answer, whole_answer_by}
 use Rattle.cj_decimal.specs.Meaning.Number.{Number as DecimalNumber, as_whole, whole_by as power_whole}
-use Rattle.cj_decimal.specs.Meaning.Decimal.{decimal_of}
 use Rattle.cj_decimal.proofs.Decimals.{decimal_is, whole_class}
 use Rattle.cj_decimal.proofs.Classes.{class}
 use Rattle.cj_decimal.proofs.Wholes.{answer_fault}
-use Rattle.cj_spans.specs.Meaning.Spelling as scanned
 use Rattle.cj_geometry.proofs.Grammars.{read_number}
-use Rattle.cj_geometry.specs.Meaning.Rule.{one}
-use Rattle.cj_geometry.specs.Meaning.Numbers.{spelling, is_outside, fault_reason, value_findings, whole_findings, number}
-use Rattle.cj_geometry.specs.Meaning.Numbers.{index, whole_of}
+use Rattle.cj_spans.specs.Meaning.Spelling as scanned
 
 in-range : (s : List ℕ) (t : Tree) → IsNumberInRange s → value_findings (λ v. []) t (decimal_of s) ≡ []
 in-range s t o = ap (value_findings (λ v. []) t) (decimal_is s o.0 o.1 o.2)

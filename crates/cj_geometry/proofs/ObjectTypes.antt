@@ -1,14 +1,10 @@
 -- The table of types, row by row.
-use Rattle.std.proofs.Common.{◌≡◌, ℕ, ◌<◌, List, [], ◌∷◌, length, get_or, Bool, true, false, ◌&&◌, nat_eq, nat_le, cond, Option, Some, None, refl, sym, ap, ◌∙◌, lit<}
-use Rattle.std.proofs.lemmas.Bool.{agree_below, agree_below_at, and_parts, eqb-true}
-use Rattle.std.proofs.lemmas.Slice.Eq.{bytes_eq-Decides}
-use Rattle.std.specs.Str.{chars, bytes_eq}
+use Rattle.cj_geometry.proofs.Common.{Bool, List, None, Option, Some, Tree, [], ap, bytes_eq-Decides, chars, cond, false, get_or, has_text, length, nat_eq, number_of, refl, row_at, row_numbered, sym, text_of, true, ℕ, ◌&&◌, ◌<◌, ◌∙◌, ◌∷◌, ◌≡◌}
+use Rattle.std.proofs.Common.{nat_le, lit<, eqb-true, bytes_eq}
+use Rattle.std.proofs.lemmas.Bool.{agree_below, agree_below_at, and_parts}
 use Rattle.cj_spans.specs.Meaning.Text.{are_same}
-use Rattle.cj_spans.specs.Meaning.Tree.{Tree}
-use Rattle.cj_spans.specs.Meaning.Parts.{text_of, has_text}
 use Rattle.cj_geometry.proofs.Texts.{text-is}
 use Rattle.cj_geometry.specs.Meaning.ObjectTypes.{ObjectRow, object_types, row_in, row_of}
-use Rattle.cj_geometry.specs.ObjectTypes.{row_numbered, number_of, row_at}
 use Rattle.cj_geometry.specs.declared.object_type.ObjectType.{ObjectType}
 use Rattle.cj_geometry.specs.declared.object_type.ObjectType.TheVariants.{Bridge, Building, CityFurniture, CityObjectGroup, GenericCityObject, LandUse, OtherConstruction, PlantCover, Railway, Road, SolitaryVegetationObject, TINRelief, TransportSquare, Tunnel, WaterBody, Waterway, BridgeConstructiveElement, BridgeFurniture, BridgeInstallation, BridgePart, BridgeRoom, BuildingConstructiveElement, BuildingFurniture, BuildingInstallation, BuildingPart, BuildingRoom, BuildingStorey, BuildingUnit, TunnelConstructiveElement, TunnelFurniture, TunnelHollowSpace, TunnelInstallation, TunnelPart}
 

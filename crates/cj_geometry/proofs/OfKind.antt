@@ -1,11 +1,6 @@
 -- Rules on values of a kind.
-use Rattle.std.proofs.Common.{◌≡◌, List, Bool, true, Option, ap, ◌∙◌}
+use Rattle.cj_geometry.proofs.Common.{Bool, Finding, List, Option, Tree, ap, kind_of, least, nothing, of_kind, true, ◌∙◌, ◌≡◌}
 use Rattle.cj_spans.specs.declared.token.Kind.{Kind}
-use Rattle.cj_spans.specs.declared.finding.Finding.{Finding}
-use Rattle.cj_spans.specs.Meaning.Finding.{least}
-use Rattle.cj_spans.specs.Meaning.Tree.{Tree}
-use Rattle.cj_spans.specs.Meaning.Parts.{kind_of}
-use Rattle.cj_geometry.specs.Meaning.Rule.{of_kind, nothing}
 
 -- the kind is looked at first, and then the rule
 pub of_kind-then : (is : Kind → Bool) (rule : Tree → List Finding) (t : Tree) (o p q : Option Finding)

@@ -1,16 +1,9 @@
 -- The order of names, and what neighbours in it tell.
-use Rattle.std.proofs.Common.{◌≡◌, ℕ, ◌<◌, inl, inr, nat_lt, nat_eq, Bool, true, false, cond, List, Option, Some, None, refl, sym, ap, subst, arith, ◌∙◌}
+use Rattle.cj_geometry.proofs.Common.{Bool, Equal, Greater, Less, List, None, Option, Ordering, Some, Tree, ap, arith, cases_lt, cases_order, compare_names, cond, false, inl, inr, is_earlier, is_eq, is_lt, nat_cmp, nat_eq, nat_lt, nat_tests, refl, start_of, subst, sym, text_of, true, ℕ, ◌<◌, ◌∙◌, ◌≡◌}
 use Rattle.std.specs.Cmp.{IsTotalOrder, tied_itself, alike_right, then_total, on_total, nat_cmp_total}
 use Rattle.std.specs.Cmp.Lexicographic.{bytes_decides, nat_list_cmp_total, options_total, texts_ties}
-use Rattle.std.specs.Ordering.{ordering_then, ordering_reverse, nat_cmp, is_lt, is_eq}
-use Rattle.std.specs.declared.cmp.Ordering.{Ordering}
-use Rattle.std.specs.declared.cmp.Ordering.TheVariants.{Less, Equal, Greater}
-use Rattle.std.proofs.lemmas.Bool.{cases_order, cases_lt}
-use Rattle.std.proofs.lemmas.Bool.Decides.{nat_tests}
-use Rattle.cj_spans.specs.Meaning.Tree.{Tree, start_of}
-use Rattle.cj_spans.specs.Meaning.Parts.{text_of}
+use Rattle.std.specs.Ordering.{ordering_then, ordering_reverse}
 use Rattle.cj_spans.specs.Order.{compare_texts}
-use Rattle.cj_geometry.specs.inner.Names.{compare_names, is_earlier}
 
 -- ---- one order of all names
 

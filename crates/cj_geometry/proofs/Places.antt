@@ -1,9 +1,5 @@
 -- The line of templates, from the line with its tokens.
-use Rattle.std.proofs.Common.{◌≡◌, Option, Some, None, option_map, sym, ap}
-use Rattle.std.specs.Option.{IfSome}
-use Rattle.cj_spans.specs.declared.node.Node.{Node}
-use Rattle.cj_spans.specs.declared.node.Source.{Source}
-use Rattle.cj_spans.specs.View.{line_of, source_of}
+use Rattle.cj_geometry.proofs.Common.{IfSome, Node, None, Option, Some, Source, ap, line_of, option_map, source_of, sym, ◌≡◌}
 use Rattle.cj_geometry.specs.declared.templates.Templates.{Templates}
 use Rattle.cj_geometry.specs.Given.{given_line, given_source, node_by}
 

@@ -1,15 +1,7 @@
 -- What was found before a value hides a finding at it, and texts that pass the test are the same.
-use Rattle.std.proofs.Common.{◌≡◌, ◌<◌, ℕ, List, nat_eq, nat_lt, ◌&&◌, true, false, cond, Option, Some, sym, ap, arith, ◌∙◌}
+use Rattle.cj_geometry.proofs.Common.{Finding, List, Option, Reason, Some, Tree, ap, are_same_texts, arith, cond, false, found_at, is_before, least, nat_eq, nat_lt, nat_tests, one, or_from, start_of, sym, true, ℕ, ◌&&◌, ◌<◌, ◌∙◌, ◌≡◌}
 use Rattle.std.specs.Cmp.Lexicographic.{same_text}
-use Rattle.std.proofs.lemmas.Bool.Decides.{nat_tests}
-use Rattle.std.proofs.lemmas.Bool.{or_from}
-use Rattle.cj_spans.specs.declared.reason.Reason.{Reason}
-use Rattle.cj_spans.specs.declared.finding.Finding.{Finding}
-use Rattle.cj_spans.specs.Meaning.Finding.{least, is_before, found_at}
 use Rattle.cj_spans.specs.Meaning.Reason.{code_of}
-use Rattle.cj_spans.specs.Meaning.Tree.{Tree, start_of}
-use Rattle.cj_spans.specs.Meaning.Parts.{are_same_texts}
-use Rattle.cj_geometry.specs.Meaning.Rule.{one}
 
 -- what stands after what was found changes nothing
 pub told_before : {o : Option Finding} (f : Finding) (t : Tree) → o ≡ Some f → f.place < start_of t → (r : Reason)

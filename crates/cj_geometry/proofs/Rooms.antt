@@ -1,19 +1,9 @@
 -- What a walk over names leaves in the room.
-use Rattle.std.proofs.Common.{◌≡◌, ℕ, ◌+◌, ◌<◌, ◌≤◌, ◌⊎◌, inl, inr, ◌&&◌, Bool, true, false, List, [], ◌∷◌, ◌++◌, length, get_or, take, drop, Option, Some, None, refl, sym, ap, subst, arith, ◌∙◌}
-use Rattle.std.specs.Prelude.{All, Contains, map, IfSome, is_some}
-use Rattle.std.specs.List.Sorted.{IsPermutation}
-use Rattle.std.specs.Ordering.{is_lt}
-use Rattle.std.proofs.Math.ListN.{set}
+use Rattle.cj_geometry.proofs.Common.{All, All-permutation, AreLeast, Ascend, Bool, Contains, HoldNames, IfSome, IsHeldName, IsPermutation, IsWorded, List, None, Option, Some, Source, TakeOne, Tree, WordedName, [], ap, arith, compare_worded, drop, false, get_or, inl, inr, is_above, is_below, is_earlier, is_lt, is_past, is_some, last_of, length, length-append, length-drop, length-take-le, limit_in, map, name_in, names_in, names_of, refl, set, subst, sym, take, true, ℕ, ◌&&◌, ◌++◌, ◌+◌, ◌<◌, ◌∙◌, ◌∷◌, ◌≡◌, ◌≤◌, ◌⊎◌}
 use Rattle.std.proofs.lemmas.Grind.{common_steps}
-use Rattle.std.proofs.lemmas.List.{map-append, take_more_set, length-append, length-drop, length-take-le}
+use Rattle.std.proofs.lemmas.List.{map-append, take_more_set}
 use Rattle.std.proofs.lemmas.List.Elements.{All-contains, All-head, All-tail, All-nil, All-push, All-map, Contains-get_or, Contains-append_left, Contains-append_right, Contains-append_cases, Contains-push, All-contains_itself}
-use Rattle.std.proofs.lemmas.List.Sorted.{length_permutation, All-permutation, Contains-permutation, IsPermutation-sym}
-use Rattle.cj_spans.specs.declared.node.Source.{Source}
-use Rattle.cj_spans.specs.Meaning.Tree.{Tree}
-use Rattle.cj_geometry.specs.declared.rule.order.WordedName.{WordedName}
-use Rattle.cj_geometry.specs.inner.Names.{is_earlier, is_above, is_below, is_past, Ascend, last_of, names_of}
-use Rattle.cj_geometry.specs.inner.WordedNames.{name_in, names_in, limit_in, IsWorded, compare_worded, AreLeast}
-use Rattle.cj_geometry.specs.inner.WordedNames.{TakeOne, IsHeldName, HoldNames}
+use Rattle.std.proofs.lemmas.List.Sorted.{length_permutation, Contains-permutation, IsPermutation-sym}
 use Rattle.cj_geometry.proofs.Ordered.{earlier_itself, earlier_not_back, on_upto, upto_upto, both_sides, none_true}
 use Rattle.cj_geometry.proofs.WordedNames.{less_as_earlier}
 use Rattle.cj_geometry.proofs.Neighbours.{contains_cases, contains_first, contains_later, contains_none, IsPast, HaveNoGap, past_above, none_past, last_past}

@@ -1,12 +1,6 @@
 -- Findings one after another.
-use Rattle.std.proofs.Common.{◌≡◌, List, [], ◌∷◌, ◌++◌, Option, refl, sym, ap, ◌∙◌}
-use Rattle.cj_spans.specs.declared.finding.Finding.{Finding}
-use Rattle.cj_spans.specs.Meaning.Finding.{least}
-use Rattle.cj_spans.specs.Meaning.Tree.{Tree}
+use Rattle.cj_geometry.proofs.Common.{Finding, List, Option, Tree, [], ap, first_part, least, other_parts, paired, refl, repeats, repeats_of, sym, ◌++◌, ◌∙◌, ◌∷◌, ◌≡◌}
 use Rattle.cj_spans.proofs.Findings.{least-append}
-use Rattle.cj_geometry.specs.Meaning.Rule.{repeats_of, repeats}
-use Rattle.cj_geometry.specs.ListSteps.{first_part, other_parts}
-use Rattle.cj_geometry.specs.Meaning.Geometry.{paired}
 
 -- one name more
 pub names-on : {all : List (Tree × Tree)} (rest : List (Tree × Tree)) (m : Tree × Tree) (o : Option Finding)

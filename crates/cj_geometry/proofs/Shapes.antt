@@ -1,11 +1,5 @@
 -- Boundaries and semantic values, one level at a time.
-use Rattle.std.proofs.Common.{◌≡◌, ℕ, zero, suc, ◌-◌, ◌<◌, List, [], ◌∷◌, ◌++◌, Option, arith, refl, ap, ◌∙◌}
-use Rattle.std.specs.List.{flat_map}
-use Rattle.std.proofs.Math.Numerals.{sub-one}
-use Rattle.cj_spans.specs.declared.token.Kind.TheVariants.{Array}
-use Rattle.cj_spans.specs.Meaning.Tree.{Tree}
-use Rattle.cj_spans.specs.Meaning.Parts.{kind_of, items_of, items_if}
-use Rattle.cj_geometry.specs.Meaning.Geometry.{shape, entry, values, paired, other_count}
+use Rattle.cj_geometry.proofs.Common.{Array, List, Option, Tree, [], ap, arith, entry, flat_map, items_if, items_of, kind_of, other_count, paired, refl, shape, sub-one, suc, values, zero, ℕ, ◌++◌, ◌-◌, ◌<◌, ◌∙◌, ◌∷◌, ◌≡◌}
 
 pub shape-array : (v : Option ℕ) (d : ℕ) (t : Tree) → 0 < d → kind_of t ≡ Array
     → shape v d t ≡ flat_map (shape v (d - 1)) (items_of t)

@@ -1,10 +1,5 @@
 -- Levels of detail of templates that were found before, and are at hand.
-use Rattle.std.proofs.Common.{◌≡◌, ℕ, zero, suc, List, [], ◌∷◌, map, slice_get, Option, Some, None, replicate, refl, sym, ap, subst, ◌∙◌}
-use Rattle.std.specs.Option.{ForSome, IfSome}
-use Rattle.std.proofs.Math.ListN.{set}
-use Rattle.cj_spans.specs.declared.node.Node.{Node}
-use Rattle.cj_spans.specs.Meaning.Tree.{Tree}
-use Rattle.cj_geometry.specs.declared.lods.TemplateLod.{TemplateLod}
+use Rattle.cj_geometry.proofs.Common.{ForSome, IfSome, List, Node, None, Option, Some, TemplateLod, Tree, [], ap, map, refl, replicate, set, slice_get, subst, suc, sym, zero, ℕ, ◌∙◌, ◌∷◌, ◌≡◌}
 use Rattle.cj_geometry.specs.inner.TemplateLods.{AreAnswersIn, told_by, lod_for, kept_in, kept_at}
 
 -- an answer that is kept is right

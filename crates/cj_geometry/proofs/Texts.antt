@@ -1,8 +1,5 @@
 -- A value that has a text.
-use Rattle.std.proofs.Common.{◌≡◌, ℕ, List, Option, Some, None, true, ap}
-use Rattle.std.proofs.lemmas.Slice.Eq.{bytes_eq-Decides}
-use Rattle.cj_spans.specs.Meaning.Tree.{Tree}
-use Rattle.cj_spans.specs.Meaning.Parts.{text_of, are_same_texts, has_text}
+use Rattle.cj_geometry.proofs.Common.{List, None, Option, Some, Tree, ap, are_same_texts, bytes_eq-Decides, has_text, text_of, true, ℕ, ◌≡◌}
 
 same-is : (s : List ℕ) (o : Option (List ℕ)) → are_same_texts o (Some s) ≡ true → o ≡ Some s
 same-is s None h = absurd (cc h)

@@ -1,17 +1,8 @@
 -- Arrays of three whole numbers have no finding.
-use Rattle.std.proofs.Common.{◌≡◌, ℕ, suc, ◌≤◌, List, [], ◌∷◌, ◌++◌, length, ◌⊎◌, inl, inr, refl, sym, ap, subst, arith, ◌∙◌}
-use Rattle.std.specs.Prelude.{All}
-use Rattle.std.specs.List.{flat_map}
-use Rattle.cj_spans.specs.declared.token.Kind.TheVariants.{Array}
-use Rattle.cj_spans.specs.declared.reason.Reason.{Reason}
-use Rattle.cj_spans.specs.Meaning.Tree.{Tree}
-use Rattle.cj_spans.specs.Meaning.Parts.{kind_of, items_of}
-use Rattle.cj_spans.specs.Places.{spelling_of}
+use Rattle.cj_geometry.proofs.Common.{All, Array, List, Reason, Tree, [], ap, arith, flat_map, inl, inr, items_of, kind_of, length, of_length, refl, spelling_of, subst, suc, sym, whole_number, ℕ, ◌++◌, ◌∙◌, ◌∷◌, ◌≡◌, ◌≤◌, ◌⊎◌}
 use Rattle.cj_spans.specs.Wholes.{IsWholeNumber, IsShortWhole}
 use Rattle.cj_decimal.specs.FewDigits.{IsFewDigits, IsFewSigned}
 use Rattle.cj_decimal.proofs.Few.{few_whole}
-use Rattle.cj_geometry.specs.Meaning.Rule.{of_length}
-use Rattle.cj_geometry.specs.Meaning.Numbers.{whole_number}
 use Rattle.cj_geometry.proofs.Lone.{whole-none}
 use Rattle.cj_geometry.proofs.Numbers.{whole-there}
 

@@ -1,28 +1,16 @@
 -- Names with the words of their texts are ordered as their names are.
-use Rattle.std.proofs.Common.{◌≡◌, ℕ, zero, suc, ◌<◌, ◌≤◌, inl, inr, nat_lt, nat_eq, true, false, cond, List, [], ◌∷◌, ◌++◌, length, get_or, sym, ap, subst, arith, ◌∙◌}
+use Rattle.cj_geometry.proofs.Common.{All, AreLeast, Ascend, Equal, Greater, IsPermutation, IsSortedBy, IsWorded, Less, List, Ordering, Source, Tree, WordedName, [], ap, arith, cases_order, compare_names, compare_worded, cond, false, get_or, inl, inr, is_earlier, is_lt, length, name_in, names_in, nat_cmp, nat_eq, nat_lt, nat_tests, ranks_by, sorted_far, start_of, subst, suc, sym, text_of, true, word_in, zero, ℕ, ◌++◌, ◌<◌, ◌∙◌, ◌∷◌, ◌≡◌, ◌≤◌}
 use denote.Param.Members.{Mut}
 use denote.Ref.{Bor}
-use Rattle.std.specs.Prelude.{All}
 use Rattle.std.specs.Cmp.{IsTotalOrder, then_total, on_total, nat_cmp_total}
 use Rattle.std.specs.Cmp.Lexicographic.{nat_list_cmp_total, options_total}
-use Rattle.std.specs.List.Sorted.{IsPermutation, IsSortedBy, IsSplitAroundBy}
-use Rattle.std.specs.Ordering.{ordering_then, ordering_reverse, nat_cmp, is_lt}
+use Rattle.std.specs.List.Sorted.{IsSplitAroundBy}
+use Rattle.std.specs.Ordering.{ordering_then, ordering_reverse}
 use Rattle.std.specs.Fn.{Called, ComparesAs}
-use Rattle.std.specs.declared.cmp.Ordering.{Ordering}
-use Rattle.std.specs.declared.cmp.Ordering.TheVariants.{Less, Equal, Greater}
-use Rattle.std.proofs.lemmas.Bool.{cases_order}
-use Rattle.std.proofs.lemmas.Bool.Decides.{nat_tests}
 use Rattle.std.proofs.lemmas.List.Elements.{All-head, All-tail, All-nil}
 use Rattle.std.proofs.lemmas.Fn.{always_returns_same}
-use Rattle.std.proofs.lemmas.List.Sorted.{ranks_by, sorted_far}
-use Rattle.cj_spans.specs.declared.node.Source.{Source}
-use Rattle.cj_spans.specs.Meaning.Tree.{Tree, start_of}
-use Rattle.cj_spans.specs.Meaning.Parts.{text_of}
 use Rattle.cj_spans.specs.Order.{compare_texts, front_word}
 use Rattle.cj_spans.proofs.Words.{less_by_words}
-use Rattle.cj_geometry.specs.inner.Names.{compare_names, is_earlier, Ascend}
-use Rattle.cj_geometry.specs.inner.WordedNames.{name_in, names_in, word_in, IsWorded, compare_worded, AreLeast}
-use Rattle.cj_geometry.specs.declared.rule.order.WordedName.{WordedName}
 use Rattle.cj_geometry.proofs.Ordered.{order}
 
 -- ---- the words go along with the texts

@@ -1,29 +1,7 @@
 -- The account of a run over a stream, from those of runs over its parts.
-use Rattle.std.proofs.Common.{◌≡◌, ℕ, ◌+◌, ◌-◌, ◌/◌, ◌≤◌, ◌⊎◌, inl, inr, List, [], ◌∷◌, ◌++◌, true, zero, suc, length, take, map, max, min, Option, Some, None, arith, refl, sym, ap, ◌∙◌, subst, append_assoc, length-append}
-use Rattle.std.specs.Prelude.{◌&&◌, option_map, unwrap_or}
-use Rattle.std.specs.List.{filter, list_all}
-use Rattle.std.proofs.lemmas.List.{append-nil, length-map, take-append-le}
-use Rattle.std.proofs.lemmas.List.Elements.{filter-append}
-use Rattle.std.proofs.lemmas.List.Folds.{list_all-append}
-use Rattle.std.proofs.Math.Seq.{take-append-add}
-use Rattle.cj_budget.specs.Meaning.Limits.{LimitPair}
-use Rattle.cj_budget.specs.declared.limits.Peaks.{Peaks}
-use Rattle.cj_spans.specs.declared.reason.Reason.{Reason}
-use Rattle.cj_stream.specs.declared.ending.End.{End}
-use Rattle.cj_stream.specs.declared.ending.End.TheVariants.{Complete, Refused, ReadFault, ReadLimit, WriteFault, Memory}
-use Rattle.cj_stream.specs.declared.running.Outcome.{Outcome}
-use Rattle.cj_stream.specs.Meaning.Bound.{IsBounded, bytes_bound, tokens_bound, of_first as first_measure}
-use Rattle.cj_stream.specs.Bound.{IsExact, exact_peaks, contents, is_readable, is_legible}
-use Rattle.cj_stream.specs.Cut.{IsUnread}
-use Rattle.cj_stream.specs.Engine.{Counts}
-use Rattle.cj_stream.specs.Items.{is_feature}
-use Rattle.cj_stream.specs.Meaning.Lines.{Line, ended_line, lines}
-use Rattle.cj_stream.specs.Lines.{closed, begun, later_of, first_content, NoLf, whole}
-use Rattle.cj_stream.specs.Parts.{headed, IsCut, moved_end, moved_report, greater_peaks, both_outcomes}
-use Rattle.cj_stream.specs.Run.{Run, Ends, Account}
-use Rattle.cj_stream.specs.Meaning.Rules.{Rules}
-use Rattle.cj_stream.specs.Meaning.Verdict.{Kept}
-use Rattle.cj_stream.specs.Verdict.{verdict, refusal_in, judged, long_line, good, kept_from, kept_first, reported_from, reported_first, ending, ending_of}
+use Rattle.cj_stream.proofs.Common.{Account, Complete, Counts, End, Ends, IsBounded, IsCut, IsExact, IsUnread, Kept, LimitPair, Line, List, Memory, NoLf, None, Option, Outcome, Peaks, ReadFault, ReadLimit, Reason, Refused, Rules, Run, Some, WriteFault, [], ap, append-nil, append_assoc, arith, begun, both_outcomes, bytes_bound, closed, contents, ended_line, ending, ending_of, exact_peaks, filter, filter-append, first_content, good, greater_peaks, headed, inl, inr, is_feature, is_readable, judged, kept_first, kept_from, later_of, length, length-append, length-map, lines, list_all, list_all-append, long_line, map, max, min, moved_end, moved_report, option_map, refl, refusal_in, reported_first, reported_from, subst, suc, sym, take, take-append-add, take-append-le, true, unwrap_or, verdict, whole, zero, ℕ, ◌&&◌, ◌++◌, ◌+◌, ◌-◌, ◌/◌, ◌∙◌, ◌∷◌, ◌≡◌, ◌≤◌, ◌⊎◌}
+use Rattle.cj_stream.specs.Meaning.Bound.{tokens_bound, of_first as first_measure}
+use Rattle.cj_stream.specs.Bound.{is_legible}
 use Rattle.cj_stream.proofs.FirstLemmas.{first-good}
 use Rattle.cj_stream.proofs.GoodLemmas.{some_of}
 use Rattle.cj_stream.proofs.IsLinesLemmas.{lines-whole}

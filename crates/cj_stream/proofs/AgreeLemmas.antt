@@ -1,25 +1,9 @@
 -- The list of judged lines says what the lines one after another say.
-use Rattle.std.proofs.Common.{◌≡◌, ℕ, ◌+◌, ◌<◌, ◌≤◌, List, [], ◌∷◌, ◌++◌, Bool, true, false, cond, eqb, ltb, length, map, Option, Some, None, refl, sym, ap, subst, ◌∙◌, arith, length-append}
-use Rattle.std.specs.Prelude.{not, ◌&&◌, ◌||◌, option_and_then, option_map, unwrap_or}
-use Rattle.std.specs.List.{cons_option, filter_map, find, flat_map}
-use Rattle.std.proofs.lemmas.Bool.Decides.{nat_tests}
+use Rattle.cj_stream.proofs.Common.{Blank, Bool, Complete, End, Invalid, IsVerdict, Item, Json, Judgement, Kept, LeftOut, Line, List, None, Option, Reason, Rules, Some, Tree, Verdict, [], ap, arith, broken, cond, cons_option, ending, ending_of, false, flat_map, goes_on, good, good_from, is_kept, item_after, item_by, item_of, judged_at, judged_behind, judged_later, judged_lines, judged_list, judged_tree, kept, kept_from, kept_in, length, length-append, lines, map, nat_tests, nest, not, option_map, output, raw_item, refl, refusal_from, refusal_of, reported, reported_from, spelled, subst, sunk, sym, tree_of, true, unwrap_or, verdict, verdict_at, ℕ, ◌&&◌, ◌++◌, ◌+◌, ◌<◌, ◌∙◌, ◌∷◌, ◌≡◌, ◌≤◌}
+use Rattle.std.proofs.Common.{eqb, ltb, ◌||◌, option_and_then, filter_map, find}
 use Rattle.std.proofs.lemmas.List.Sums.{take_while-cons}
-use Rattle.cj_spans.specs.declared.reason.Reason.{Reason}
-use Rattle.cj_spans.specs.Meaning.Tree.{Tree, nest}
-use Rattle.cj_spans.specs.Meaning.Json.{Json}
-use Rattle.cj_spans.specs.Meaning.Judgement.{Judgement, spelled, broken, sunk}
 use Rattle.cj_spans.proofs.Judgements.{judgement, say_same}
-use Rattle.cj_stream.specs.declared.ending.End.{End}
-use Rattle.cj_stream.specs.declared.ending.End.TheVariants.{Complete}
-use Rattle.cj_stream.specs.Item.{tree_of, judged_tree}
-use Rattle.cj_stream.specs.Judged.{judged_at, judged_later, judged_behind, judged_list, judged_lines}
-use Rattle.cj_stream.specs.Items.{Item, raw_item}
 use Rattle.cj_stream.specs.Meaning.Judged.{JudgedLine, ends, handled, report_by, report_of, output_in, reported_in, end_of_report, ending_in, written_by}
-use Rattle.cj_stream.specs.Judged.{item_by, item_of, kept_in}
-use Rattle.cj_stream.specs.Meaning.Lines.{Line, lines}
-use Rattle.cj_stream.specs.Meaning.Rules.{Rules}
-use Rattle.cj_stream.specs.Meaning.Verdict.{Verdict, Invalid, Blank, LeftOut, Kept, IsVerdict}
-use Rattle.cj_stream.specs.Verdict.{verdict_at, verdict, item_after, goes_on, refusal_of, is_kept, refusal_from, good_from, kept_from, reported_from, good, kept, reported, output, ending, ending_of}
 use Rattle.cj_stream.proofs.JudgedLemmas.{IsFirst, first-is, first-verdict, first-blank, first-left, kept-tree, later-fits, behind-some, no_tree, verdict-is}
 use Rattle.cj_stream.proofs.VerdictLemmas.{verdict-first}
 

@@ -1,19 +1,11 @@
 -- A blank content is no JSON text.
-use Rattle.std.proofs.Common.{◌≡◌, ℕ, zero, suc, ◌-◌, ◌≤◌, inl, inr, List, [], ◌∷◌, ◌++◌, Bool, true, false, cond, take, drop, eqb, refl, sym, ap, arith, ◌∙◌}
-use Rattle.std.specs.Prelude.{◌||◌, slice_range}
-use Rattle.std.proofs.lemmas.Bool.Decides.{nat_tests}
-use Rattle.std.specs.List.{list_all}
-use Rattle.cj_budget.specs.Meaning.Limits.{LimitPair}
+use Rattle.cj_stream.proofs.Common.{Bool, Json, Judgement, LimitPair, List, Tree, [], ap, arith, broken, cond, drop, false, inl, inr, is_blank_byte, is_text, judged_nest, judged_size, list_all, nat_tests, refl, spelled, suc, sunk, sym, take, tree_nest, tree_size, true, zero, ℕ, ◌++◌, ◌-◌, ◌∙◌, ◌∷◌, ◌≡◌, ◌≤◌}
+use Rattle.std.proofs.Common.{eqb, ◌||◌, slice_range}
 use Rattle.cj_spans.specs.declared.token.Kind.{Kind}
 use Rattle.cj_spans.specs.declared.token.Kind.TheVariants.{Null, Truth, Number, Text, Array, Object}
 use Rattle.cj_spans.specs.Meaning.Spelling.{IsScalar, IsMinus, IsInt}
-use Rattle.cj_spans.specs.Meaning.Tree.{Tree}
 use Rattle.cj_spans.specs.Meaning.Json.{byte, Value, atom, empty_array, full_array, empty_object, full_object, padded}
-use Rattle.cj_spans.specs.Meaning.Json.{Json}
-use Rattle.cj_spans.specs.Meaning.Judgement.{Judgement, spelled, broken, sunk, judged_size, judged_nest}
 use Rattle.cj_spans.proofs.Judgements.{judgement}
-use Rattle.cj_stream.specs.Bound.{is_text, tree_size, tree_nest}
-use Rattle.cj_stream.specs.Meaning.Verdict.{is_blank_byte}
 use Rattle.cj_stream.proofs.VerdictLemmas.{and-both}
 
 -- bytes that are all blank

@@ -1,17 +1,7 @@
 -- What small texts may hold at most, and what they hold, computed.
-use Rattle.std.proofs.Common.{◌≡◌, ℕ, ◌+◌, ◌≤◌, List, [], ◌∷◌, ◌++◌, true, length, max, min, refl, ap, arith, lit≤}
-use Rattle.std.specs.Str.{is_utf8}
-use Rattle.std.proofs.lemmas.Str.{is_utf8-from_IsUtf8}
-use Rattle.cj_budget.specs.Meaning.Limits.{LimitPair}
-use Rattle.cj_spans.specs.Meaning.Json.{Json}
-use Rattle.cj_spans.specs.Meaning.Judgement.{Judgement, spelled, broken, sunk, judged_size, judged_nest}
-use Rattle.cj_spans.specs.Meaning.Tree.{Tree, size, nest}
+use Rattle.cj_stream.proofs.Common.{Json, Judgement, LimitPair, List, Tree, [], ap, arith, broken, contents, exact_peaks, first_content, is_utf8, is_utf8-from_IsUtf8, judged_nest, judged_size, length, lit≤, max, min, nest, plain_header, refl, size, small_feature, small_header, spelled, sunk, tree_nest, tree_size, true, ℕ, ◌++◌, ◌+◌, ◌∷◌, ◌≡◌, ◌≤◌}
 use Rattle.cj_spans.proofs.Judgements.{judgement, say_same}
-use Rattle.cj_stream.specs.Bound.{tree_size, tree_nest, contents, exact_peaks}
 use Rattle.cj_stream.specs.BoundRows.{usual, held, EmptyRow, HeaderRow, CutRow, EdgeRow, ExactRow}
-use Rattle.cj_stream.specs.Lines.{first_content}
-use Rattle.cj_stream.specs.Rows.{small_header, small_feature}
-use Rattle.cj_feature.specs.Examples.{plain_header}
 use Rattle.cj_feature.proofs.Worked.{plain_feature}
 use Rattle.cj_stream.proofs.RowLemmas.{header_json, feature_json, header_text, feature_text}
 

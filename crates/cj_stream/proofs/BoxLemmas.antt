@@ -1,28 +1,12 @@
 -- Of the numbers that a map brings to at most or at least an end, the least or the greatest is one.
-use Rattle.std.proofs.Common.{◌≡◌, ℕ, zero, suc, ◌+◌, ◌<◌, ◌≤◌, ◌^◌, List, [], ◌∷◌, length, map, get_or, Bool, true, false, cond, ◌&&◌, ◌||◌, ◌⊎◌, inl, inr, Option, Some, None, ℤ, pos, negsuc, ◌*ℤ◌, ◌≤ℤ◌, int_le, int_lt, unsigned_abs, refl, sym, ap, ◌∙◌, arith}
-use Rattle.std.specs.Int.{int_min, int_max, w64, cast_signed, cast_unsigned}
-use Rattle.std.specs.List.{fold, list_any}
-use Rattle.std.specs.Option.{unwrap_or}
-use Rattle.std.specs.Prelude.{codes}
-use Rattle.std.specs.Str.{chars}
-use Rattle.std.specs.Ordering.{int_cmp, is_le, is_ge}
-use Rattle.std.specs.declared.cmp.Ordering.{Ordering}
-use Rattle.std.specs.declared.cmp.Ordering.TheVariants.{Less, Equal, Greater}
-use Rattle.std.proofs.Math.Nat.{mul-le-mul_right}
-use Rattle.std.proofs.lemmas.Int.{ints, to_z-of_z, fits_signed_from_abs, fold-int_min_bounds, fold-int_max_bounds}
+use Rattle.cj_stream.proofs.Common.{AreThere, Bool, Box, Equal, Greater, IsSmall, Less, List, None, Option, Ordering, Some, Tree, [], alone, ap, arith, chars, codes, cond, coordinate, coordinate_by, false, get_or, inl, inr, int_le, int_lt, ints, is_in, items_of, length, list_any, map, meets, number_on, numbers_on, pos, range_of, refl, some_at_least, some_at_most, suc, sym, there_is, true, units_at, unwrap_or, vertex_of, vertices_of, w64, widened, zero, ℕ, ℤ, ◌&&◌, ◌+◌, ◌<◌, ◌^◌, ◌∙◌, ◌∷◌, ◌≡◌, ◌≤ℤ◌, ◌≤◌, ◌⊎◌}
+use Rattle.std.proofs.Common.{◌||◌, negsuc, ◌*ℤ◌, unsigned_abs, fold, int_cmp, is_le, is_ge, mul-le-mul_right}
+use Rattle.std.specs.Int.{int_min, int_max, cast_signed, cast_unsigned}
+use Rattle.std.proofs.lemmas.Int.{to_z-of_z, fits_signed_from_abs, fold-int_min_bounds, fold-int_max_bounds}
 use Rattle.cj_decimal.specs.Meaning.Affine.{AffineMap, image}
-use Rattle.cj_spans.specs.Meaning.Tree.{Tree}
-use Rattle.cj_spans.specs.Meaning.Parts.{items_of}
 use Rattle.cj_geometry.specs.Meaning.Numbers.{whole_of}
 use Rattle.cj_geometry.proofs.Numbers.{whole-small}
-use Rattle.cj_feature.specs.Axes.{AreThere, number_on}
-use Rattle.cj_feature.specs.Meaning.Transform.{units_at}
-use Rattle.cj_feature.specs.Meaning.CityObject.{vertex_of}
 use Rattle.cj_stream.specs.declared.query.extent.Range.{Range}
-use Rattle.cj_stream.specs.Meaning.Criteria.{Box, coordinate, coordinate_by, there_is, vertices_of, some_at_most}
-use Rattle.cj_stream.specs.Meaning.Criteria.{some_at_least, is_in}
-use Rattle.cj_stream.specs.Tallied.{numbers_on}
-use Rattle.cj_stream.specs.Extent.{alone, widened, range_of, meets, IsSmall}
 use borrow.Author.Differences.{up, down, product_is}
 
 -- ---- a map keeps the order of numbers, or turns it

@@ -1,18 +1,12 @@
 -- Small texts whose boxes are known, computed.
-use Rattle.std.proofs.Common.{◌≡◌, ℕ, List, true, false, Some, pos, neg_ℤ, refl, arith, lit<}
-use Rattle.std.specs.Prelude.{codes}
-use Rattle.std.proofs.lemmas.Int.{ints}
-use Rattle.cj_decimal.specs.Meaning.Number.{Number, scaled}
+use Rattle.cj_stream.proofs.Common.{List, Number, Some, arith, codes, false, ints, is_number, lit<, neg_ℤ, pos, refl, scaled, true, ℕ, ◌≡◌}
 use Rattle.cj_decimal.specs.Meaning.Equality.{SameValue, IsNormal, IsInRange}
 use Rattle.cj_decimal.specs.Meaning.Spelling.{number_of}
-use Rattle.cj_decimal.specs.Meaning.Reading.{is_number as spells_number, written_of, digits_front, digits_rest, begins}
-use Rattle.cj_decimal.specs.Meaning.Reading.{is_empty, begins_digit, body, is_int, is_frac, frac_digits, after_frac}
-use Rattle.cj_decimal.specs.Meaning.Reading.{exp_digits, is_whole_digits, is_exp, exp_value}
+use Rattle.cj_decimal.specs.Meaning.Reading.{is_number as spells_number, written_of, digits_front, digits_rest, begins, is_empty, begins_digit, body, is_int, is_frac, frac_digits, after_frac, exp_digits, is_whole_digits, is_exp, exp_value}
 use Rattle.cj_decimal.proofs.Classes.{class}
 use Rattle.cj_decimal.proofs.Grammar.{spells_test, test_spells}
 use Rattle.cj_decimal.proofs.Normal.{zero_normal}
 use Rattle.cj_decimal.specs.Meaning.Class.{value_by}
-use Rattle.cj_stream.specs.BoxText.{is_number}
 use Rattle.cj_stream.specs.BoxRows.{BoxRow, FieldRows, RangeRows, EmptyRow, OrderRows}
 use Rattle.cj_stream.proofs.BoxTextLemmas.{in-class, no-class}
 

@@ -1,20 +1,14 @@
 -- What reading a box goes by: the fields that come one after another, the number of each, and the answer.
-use Rattle.std.proofs.Common.{◌≡◌, ℕ, List, [], ◌∷◌, Bool, true, false, Option, Some, None, Result, Ok, Err, ℤ, Bor, refl, sym, ap, ◌∙◌, ◌++◌, append_assoc, append-nil}
-use Rattle.std.specs.Prelude.{if◌then◌else◌, IfSome, IsSome, ◌↔◌}
+use Rattle.cj_stream.proofs.Common.{Bool, Bor, Box, Err, FindsChar, IfSome, IsSome, List, None, Number, Ok, Option, QueryFault, Result, Some, Split, [], ap, append-nil, append_assoc, false, fields, if◌then◌else◌, is_fixed, is_number, refl, sym, true, units_of, ℕ, ℤ, ◌++◌, ◌↔◌, ◌∙◌, ◌∷◌, ◌≡◌}
 use Rattle.std.specs.Iterator.{AlwaysYields}
 use Rattle.std.specs.Str.Iter.{split_steps}
-use Rattle.std.specs.Str.Pattern.{FindsChar}
-use Rattle.std.specs.declared.str.Split.{Split}
-use Rattle.cj_decimal.specs.Meaning.Number.{Number, is_fixed, units_of}
 use Rattle.cj_decimal.specs.Meaning.Equality.{IsNormal, IsInRange, IsFixed}
 use Rattle.cj_decimal.specs.Meaning.Spelling.{SpellsNumber, IsValue, IsNumberOutOfRange}
 use Rattle.cj_decimal.specs.Meaning.Class.{Class, no_number, out_of_range, not_whole, whole, value_by}
 use Rattle.cj_decimal.proofs.Classes.{class}
 use Rattle.cj_decimal.proofs.Law.{has_one_value, not_both, value_is_number}
 use Rattle.cj_feature.proofs.Fixed.{test-decides, units-only}
-use Rattle.cj_stream.specs.Meaning.Criteria.{Box}
-use Rattle.cj_stream.specs.BoxText.{fields, is_number_by, is_number, is_edge, edge, is_empty, box_text}
-use Rattle.cj_stream.specs.declared.query.fault.QueryFault.{QueryFault}
+use Rattle.cj_stream.specs.BoxText.{is_number_by, is_edge, edge, is_empty, box_text}
 use Rattle.cj_stream.specs.declared.query.fault.QueryFault.TheVariants.{BadBox, BoxRange, EmptyBox}
 
 -- ---- the fields of a text

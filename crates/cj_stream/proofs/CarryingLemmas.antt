@@ -1,11 +1,5 @@
 -- What a framer carries on where some bytes come after others that were all taken.
-use Rattle.std.proofs.Common.{◌≡◌, ℕ, List, ◌++◌, sym, ap, ◌∙◌, append_assoc}
-use Rattle.cj_stream.specs.declared.ending.End.{End}
-use Rattle.cj_stream.specs.Carrying.{FramerState, TakesAll, TakesSome}
-use Rattle.cj_stream.specs.Lines.{closed}
-use Rattle.cj_stream.specs.Reading.{Reads}
-use Rattle.cj_stream.specs.Scanning.{Scanning, Scanned, HeldUntil}
-use Rattle.cj_stream.specs.Sink.{SinkLaw, with_sink}
+use Rattle.cj_stream.proofs.Common.{End, FramerState, HeldUntil, List, Reads, Scanned, Scanning, SinkLaw, TakesAll, TakesSome, ap, append_assoc, closed, sym, with_sink, ℕ, ◌++◌, ◌∙◌, ◌≡◌}
 use Rattle.cj_stream.proofs.PieceLemmas.{Advances-then, Stops-later}
 
 module _ {S : Type 0} (law : SinkLaw S) {f g : FramerState} {s t : S} {bytes : List ℕ}

@@ -1,29 +1,11 @@
 -- Small streams of which each city object has to be reached, of which what is asked for is left out, or whose types of
 -- extensions are known, computed.
-use Rattle.std.proofs.Common.{◌≡◌, ℕ, ◌≤◌, List, [], ◌∷◌, ◌++◌, Bool, true, false, None, Some, length, refl, ap, ◌∙◌, lit≤}
-use Rattle.std.specs.Prelude.{IsUtf8, not, ◌&&◌, nat_lt}
-use Rattle.std.specs.List.{list_all}
-use Rattle.std.specs.Str.{is_utf8, chars}
-use Rattle.std.proofs.lemmas.Str.{IsUtf8-from_is_utf8}
+use Rattle.cj_stream.proofs.Common.{Bool, Complete, IsUtf8, IsUtf8-from_is_utf8, Json, Kept, LeftOut, List, None, NotReached, Reason, Refused, Rules, Some, Tree, UnknownObjectType, [], ap, by_least, chars, ended_line, ending_of, false, feature, forest, found_at, is_blank_byte, is_kept_if_valid, is_utf8, least, length, list_all, lit≤, nat_lt, nest, not, plain_header, raw, refl, small_feature, small_header, tree_of, tree_verdict, true, verdict, verdict_at, ℕ, ◌&&◌, ◌++◌, ◌∙◌, ◌∷◌, ◌≡◌, ◌≤◌}
 use lib.Utf8.{encode}
-use Rattle.cj_spans.specs.declared.reason.Reason.{Reason}
-use Rattle.cj_spans.specs.declared.reason.Reason.TheVariants.{NotReached, UnknownObjectType}
-use Rattle.cj_spans.specs.Meaning.Finding.{least, found_at}
-use Rattle.cj_spans.specs.Forest.{forest}
-use Rattle.cj_spans.specs.Meaning.Json.{Json}
-use Rattle.cj_spans.specs.Meaning.Tree.{Tree, nest}
 use Rattle.cj_spans.proofs.Judgements.{judgement}
-use Rattle.cj_feature.specs.Examples.{plain_header, chain, part_apart, main_part, extension}
-use Rattle.cj_feature.specs.Meaning.Feature.{feature}
+use Rattle.cj_feature.specs.Examples.{chain, part_apart, main_part, extension}
 use Rattle.cj_feature.proofs.Worked.{plain_feature, plain_header-valid, plain_feature-valid, chain-valid, part_apart-valid, part_apart-refused, main_part-refused, extension-refused, extension-valid}
-use Rattle.cj_stream.specs.declared.ending.End.TheVariants.{Complete, Refused}
 use Rattle.cj_stream.specs.ChoiceRows.{choosing, ApartRow, ChainRow, ExcludeRow, ExtensionRow}
-use Rattle.cj_stream.specs.Item.{tree_of}
-use Rattle.cj_stream.specs.Meaning.Lines.{raw, ended_line}
-use Rattle.cj_stream.specs.Rows.{small_header, small_feature}
-use Rattle.cj_stream.specs.Meaning.Rules.{Rules}
-use Rattle.cj_stream.specs.Meaning.Verdict.{LeftOut, Kept, is_blank_byte}
-use Rattle.cj_stream.specs.Verdict.{is_kept_if_valid, by_least, verdict, verdict_at, tree_verdict, ending_of}
 use Rattle.cj_stream.proofs.RowLemmas.{spelled-tree, by-tree, header_json, feature_json, header_text, feature_text, header_tree, holds-everything, written, second-refused, two-good, open_line}
 use Rattle.cj_stream.proofs.VerdictLemmas.{verdict-json, tree-valid, tree-unasked}
 

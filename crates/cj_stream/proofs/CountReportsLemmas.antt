@@ -1,17 +1,7 @@
 -- Counts of what a sink of reports noted.
-use Rattle.std.proofs.Common.{◌≡◌, ℕ, ◌+◌, ◌-◌, ◌^◌, ◌≤◌, List, [], ◌∷◌, length, min, take, ap, arith}
-use Rattle.cj_stream.specs.declared.ending.End.{End}
-use Rattle.cj_stream.specs.declared.ending.End.TheVariants.{Complete, Refused, ReadFault, ReadLimit, WriteFault, Memory}
+use Rattle.cj_stream.proofs.Common.{Complete, CountsReport, End, List, Memory, Notes, NotesPieces, NotesRun, ReadFault, ReadLimit, Refused, Report, Rules, Took, TookFront, WriteFault, [], ap, arith, in_pieces, joined, length, min, prefixes, reported, reported_first, stream_of, stretch, take, whole, ℕ, ◌+◌, ◌-◌, ◌^◌, ◌∷◌, ◌≡◌, ◌≤◌}
 use Rattle.cj_stream.specs.declared.report_sink.CountReports.{CountReports}
-use Rattle.cj_stream.specs.declared.report_sink.Report.{Report}
 use Rattle.cj_stream.specs.CountReports.{count_of, no_reports, CountsFirst, CountsReportsOfRun, CountsReportsOfPieces}
-use Rattle.cj_stream.specs.Lines.{joined, whole}
-use Rattle.cj_stream.specs.Cut.{in_pieces}
-use Rattle.cj_stream.specs.ReportSink.{CountsReport, Notes, NotesRun, NotesPieces}
-use Rattle.cj_stream.specs.Meaning.Outputs.{Took}
-use Rattle.cj_stream.specs.Sink.{TookFront, prefixes}
-use Rattle.cj_stream.specs.Meaning.Rules.{Rules}
-use Rattle.cj_stream.specs.Verdict.{reported, reported_first, stretch, stream_of}
 
 -- a sink that counted some reports goes up by them
 reports-more : (a b : CountReports) (rs : List Report) → a.reports ≤ 2 ^ 64 - 1 → Took CountsReport a rs b

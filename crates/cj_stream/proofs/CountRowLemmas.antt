@@ -1,14 +1,8 @@
 -- Small counts, computed.
-use Rattle.std.proofs.Common.{◌≡◌, ℕ, zero, suc, List, [], ◌∷◌, refl, arith, lit<, inl, inr}
-use Rattle.std.specs.Prelude.{replicate}
-use Rattle.std.specs.Str.{chars}
+use Rattle.cj_stream.proofs.Common.{HasRisen, List, RisesBy, [], arith, chars, code_points_after, first_code_point, first_width, inl, inr, lit<, lod_classes, refl, replicate, suc, text, zero, ℕ, ◌∷◌, ◌≡◌}
 use lib.Utf8.{encode}
-use Rattle.cj_spans.specs.Meaning.Text.{text, code_points_after, first_code_point, first_width}
 use Rattle.cj_stream.specs.CountRows.{RiseRows, ClassRows, LodRows, three_classes}
 use Rattle.cj_stream.specs.QueryRows.{plain_header}
-use Rattle.cj_stream.specs.Sink.{HasRisen}
-use Rattle.cj_stream.specs.Tallied.{lod_classes}
-use Rattle.cj_stream.specs.TallySink.{RisesBy}
 
 no-rise : HasRisen 0 0 → ⊥
 no-rise (inl less) = absurd (omega arith)

@@ -1,20 +1,8 @@
 -- Counts that go up, number by number.
-use Rattle.std.proofs.Common.{◌≡◌, ℕ, ◌+◌, ◌^◌, ◌<◌, List, [], ◌∷◌, ◌++◌, length, map, codes, get_or, sym, ap, subst, refl, ◌∙◌, cond, arith, inl, inr, Bool, true, false, nat_eq}
-use Rattle.std.specs.List.{filter, flat_map}
-use Rattle.std.specs.Str.{chars}
-use Rattle.std.proofs.Math.ListN.{set, length-set}
-use Rattle.std.proofs.lemmas.Bool.{cases_lt, eqb-true, eqb-false}
-use Rattle.std.proofs.lemmas.List.{get_or_past, get_or-set_same, get_or-set_other}
-use Rattle.std.proofs.lemmas.List.{length-append, map-append}
-use Rattle.std.proofs.lemmas.List.Elements.{filter-append}
+use Rattle.cj_stream.proofs.Common.{Bool, List, RisesBy, Tree, [], ap, arith, capped, cases_lt, chars, class_count, class_of, codes, cond, eqb-false, false, filter, filter-append, flat_map, get_or, get_or_past, how_often, inl, inr, length, length-append, lod, map, map-append, member_of, nat_eq, object_geometries, own_classes, refl, subst, sym, true, ℕ, ◌++◌, ◌+◌, ◌<◌, ◌^◌, ◌∙◌, ◌∷◌, ◌≡◌}
+use Rattle.std.proofs.Common.{set, length-set, eqb-true, get_or-set_same, get_or-set_other}
 use Rattle.std.proofs.lemmas.Simd.{map-map}
-use Rattle.cj_spans.specs.Meaning.Tree.{Tree}
-use Rattle.cj_spans.specs.Meaning.Parts.{member_of}
 use Rattle.cj_geometry.specs.Meaning.Geometry.{TemplateSource}
-use Rattle.cj_geometry.specs.Meaning.Lod.{lod}
-use Rattle.cj_feature.specs.Meaning.CityObject.{object_geometries}
-use Rattle.cj_stream.specs.Tallied.{capped, class_count, class_of, how_often, own_classes}
-use Rattle.cj_stream.specs.TallySink.{RisesBy}
 
 -- some counts went up on the way to all numbers, and the numbers `left` are left
 pub record Counting (size : ℕ) (old all counts left : List ℕ) : Type 0 where

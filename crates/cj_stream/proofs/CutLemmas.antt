@@ -1,23 +1,6 @@
 -- A text that comes in pieces.
-use Rattle.std.proofs.Common.{◌≡◌, ℕ, ◌+◌, ◌<◌, ◌≤◌, ◌⊎◌, inl, inr, List, [], ◌∷◌, ◌++◌, Bool, true, false, cond, ltb, length, take, drop, map, Option, Some, None, refl, sym, ap, ◌∙◌, subst, arith, append_assoc}
-use Rattle.std.specs.Prelude.{is_some}
-use Rattle.std.proofs.lemmas.List.{append-nil}
-use Rattle.std.proofs.lemmas.Bool.{ltb-true}
-use Rattle.cj_spans.specs.declared.reason.Reason.TheVariants.{LineTooLong}
-use Rattle.cj_stream.specs.declared.ending.End.{End}
-use Rattle.cj_stream.specs.declared.ending.End.TheVariants.{Complete, Refused, ReadFault, ReadLimit, WriteFault, Memory}
-use Rattle.cj_stream.specs.Items.{Item}
-use Rattle.cj_stream.specs.Meaning.Lines.{Line, ended_line, lines}
-use Rattle.cj_stream.specs.Lines.{closed, begun, first_of, last_line, joined, NoLf, whole}
-use Rattle.cj_stream.specs.Meaning.Rules.{Rules}
-use Rattle.cj_stream.specs.Verdict.{verdict, header_of, item_after, goes_on, refusal_of, refusal_in, refusal_from, good_from, kept_from, kept_first, kept, reported_from, reported, good, ending, judged, long_line, stretch, up_to}
-use Rattle.cj_stream.specs.Cut.{PutsPieces, EndsAt, Copies, TookWhole, IsUnread, in_pieces, given_after}
-use Rattle.cj_stream.specs.Engine.{EngineState, Counts, rules_of, lines_of, Delivers, Faults, Tells, Concludes}
-use Rattle.cj_stream.specs.Reading.{Reads}
-use Rattle.cj_stream.specs.Run.{Ends}
-use Rattle.cj_stream.specs.Meaning.Outputs.{Took}
-use Rattle.cj_stream.specs.Sink.{LeavesNext, SinkLaw}
-use Rattle.cj_stream.specs.Output.{writes_law}
+use Rattle.cj_stream.proofs.Common.{Bool, Complete, Concludes, Copies, Counts, Delivers, End, Ends, EndsAt, EngineState, Faults, IsUnread, Item, LeavesNext, Line, LineTooLong, List, Memory, NoLf, None, Option, PutsPieces, ReadFault, ReadLimit, Reads, Refused, Rules, SinkLaw, Some, Tells, Took, TookWhole, WriteFault, [], ap, append-nil, append_assoc, arith, begun, closed, cond, drop, ended_line, ending, false, first_of, given_after, goes_on, good, good_from, header_of, in_pieces, inl, inr, is_some, item_after, joined, judged, kept, kept_first, kept_from, last_line, length, lines, lines_of, long_line, map, none-some, refl, refusal_from, refusal_in, refusal_of, reported, reported_from, rules_of, stretch, subst, sym, take, true, up_to, verdict, whole, writes_law, ℕ, ◌++◌, ◌+◌, ◌<◌, ◌∙◌, ◌∷◌, ◌≡◌, ◌≤◌, ◌⊎◌}
+use Rattle.std.proofs.Common.{ltb, ltb-true}
 use Rattle.cj_stream.proofs.JoinedLemmas.{joined-cut, joined-next}
 use Rattle.cj_stream.proofs.LineLemmas.{closed-then, begun-then, lines-cut, NoLf-begun, first_content-long}
 use Rattle.cj_stream.proofs.VerdictLemmas.{refusal-append, verdict-long}
@@ -27,7 +10,6 @@ use Rattle.cj_stream.proofs.GoodLemmas.{good-append, good-all, ending-refused}
 use Rattle.cj_stream.proofs.PieceLemmas.{Took-append}
 use Rattle.cj_stream.proofs.RunLemmas.{refusal-stays, whole-good}
 use Rattle.cj_stream.proofs.OutputLemmas.{Took-appends, writes_part, front-bytes, next-bytes, no-bytes}
-use Rattle.cj_stream.proofs.Apart.{none-some}
 
 -- a text that goes on: the lines that LF ended, and those of what had begun
 pub lines-more : (q more : List ℕ) → lines (q ++ more) ≡ map ended_line (closed q) ++ lines (begun q ++ more)

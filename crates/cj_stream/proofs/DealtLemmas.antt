@@ -1,16 +1,5 @@
 -- What comes of the line that comes next, with or without LF.
-use Rattle.std.proofs.Common.{◌≡◌, inl, inr, ℕ, ◌+◌, List, [], ◌∷◌, Bool, true, false, length, map, None, Result, Ok, Err, refl, sym, ◌∙◌}
-use Rattle.std.specs.Prelude.{if◌then◌else◌}
-use Rattle.cj_spans.specs.declared.reason.Reason.{Reason}
-use Rattle.cj_stream.specs.declared.ending.End.{End}
-use Rattle.cj_stream.specs.declared.ending.End.TheVariants.{Refused, WriteFault, Memory}
-use Rattle.cj_stream.specs.Meaning.Lines.{Line, ended_line}
-use Rattle.cj_stream.specs.Lines.{closed}
-use Rattle.cj_stream.specs.Meaning.Verdict.{Verdict, Invalid, Blank, LeftOut, Kept}
-use Rattle.cj_stream.specs.Verdict.{verdict, item_after, goes_on, refusal_of, is_kept}
-use Rattle.cj_stream.specs.Reading.{Reading, next_verdict, next_item, is_lenient, IsLeft, Passes, Refuses, Deals, Settles, Reads, JudgedAs, judged_next}
-use Rattle.cj_stream.specs.Meaning.Outputs.{Took}
-use Rattle.cj_stream.specs.Sink.{SinkLaw, with_sink}
+use Rattle.cj_stream.proofs.Common.{Blank, Bool, Deals, End, Err, Invalid, IsLeft, JudgedAs, Kept, LeftOut, Line, List, Memory, None, Ok, Passes, Reading, Reads, Reason, Refused, Refuses, Result, Settles, SinkLaw, Took, Verdict, WriteFault, [], closed, ended_line, false, goes_on, if◌then◌else◌, inl, inr, is_kept, is_lenient, item_after, judged_next, length, map, next_item, next_verdict, refl, refusal_of, sym, true, verdict, with_sink, ℕ, ◌+◌, ◌∙◌, ◌∷◌, ◌≡◌}
 use Rattle.cj_stream.proofs.ReadingLemmas.{length-map_lines, next-verdict, next-item, is_refused}
 
 -- A line came after these, and this was answered. It was passed. Or it is invalid, and the end. Or the sink failed. Or

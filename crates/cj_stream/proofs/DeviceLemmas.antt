@@ -1,9 +1,5 @@
 -- What the answers of devices say of an end.
-use Rattle.std.proofs.Common.{◌≡◌, ℕ, zero, suc, Bool, true, false, Result, Ok, Err, subst}
-use Rattle.std.specs.Prelude.{◌↔◌, IsTrue}
-use Rattle.cj_stream.specs.declared.ending.End.{End}
-use Rattle.cj_stream.specs.declared.ending.End.TheVariants.{ReadFault, ReadLimit}
-use Rattle.cj_stream.specs.Cut.{IsUnread}
+use Rattle.cj_stream.proofs.Common.{Bool, End, Err, IsTrue, IsUnread, Ok, ReadFault, ReadLimit, Result, false, subst, suc, true, zero, ℕ, ◌↔◌, ◌≡◌}
 use Rattle.cj_stream.specs.Device.{taken_by}
 
 -- where no read has failed, an end that no reader makes is no read fault

@@ -1,31 +1,13 @@
 -- What an engine holds, tells and delivers, from what its framer did.
-use Rattle.std.proofs.Common.{◌≡◌, ℕ, ◌+◌, ◌<◌, ◌≤◌, List, [], ◌∷◌, ◌++◌, Bool, true, false, cond, ltb, length, take, map, Option, Some, None, arith, refl, sym, ap, ◌∙◌, append_assoc, length-append}
-use Rattle.std.specs.Prelude.{nat_lt, slice_get}
-use Rattle.std.proofs.lemmas.List.{append-nil}
-use Rattle.cj_budget.specs.Meaning.Limits.{LimitPair}
-use Rattle.cj_stream.specs.declared.ending.End.{End}
-use Rattle.cj_stream.specs.declared.ending.End.TheVariants.{Complete, Refused, ReadFault, ReadLimit, WriteFault, Memory}
-use Rattle.cj_stream.specs.Meaning.Lines.{Line, ended_line, lines}
-use Rattle.cj_stream.specs.Lines.{closed, begun, last_line, first_content}
-use Rattle.cj_stream.specs.Items.{Item}
-use Rattle.cj_stream.specs.Meaning.Rules.{Rules}
-use Rattle.cj_stream.specs.Meaning.Verdict.{Invalid}
-use Rattle.cj_stream.specs.Verdict.{verdict, header_of, goes_on, refusal_from, refusal_in, kept_from, judged, kept_first, stretch, up_to}
-use Rattle.cj_budget.specs.Bounded.{IsWithin}
-use Rattle.cj_budget.specs.declared.limits.Peaks.{Peaks}
-use Rattle.cj_stream.specs.Meaning.Bound.{bytes_bound, IsBounded}
-use Rattle.cj_stream.specs.Bound.{IsBelow}
-use Rattle.cj_stream.specs.Scanning.{Scanning, HasRoom, Scanned, HoldsFew}
-use Rattle.cj_stream.specs.Reading.{Reading, is_lenient, IsSound, Reads, kept_closed, Advances, IsNext, LacksMemory, HasCause, Stops, further, stop_at}
-use Rattle.cj_stream.specs.Engine.{EngineState, StandsFor, Counts, Going, Faults, Delivers, Tells, limits_of, held_by, peaks_of}
-use Rattle.cj_stream.specs.Sink.{SinkLaw, with_sink}
+use Rattle.cj_stream.proofs.Common.{Bool, Complete, Counts, Delivers, End, EngineState, Faults, Going, HasRoom, HoldsFew, Invalid, IsBelow, IsBounded, IsWithin, Item, LacksMemory, LimitPair, Line, List, Memory, None, Option, Peaks, ReadFault, ReadLimit, Reading, Reads, Refused, Rules, Scanned, Scanning, SinkLaw, Some, StandsFor, Stops, Tells, WriteFault, [], ap, append-nil, append_assoc, arith, begun, bytes_bound, closed, cond, ended_line, false, first_content, further, goes_on, header_of, held_by, is_lenient, judged, kept_first, kept_from, last_line, length, length-append, limits_of, lines, map, nat_lt, peaks_of, refl, refusal_from, refusal_in, slice_get, some-none, stretch, sym, take, true, up_to, verdict, with_sink, ℕ, ◌++◌, ◌+◌, ◌<◌, ◌∙◌, ◌∷◌, ◌≡◌, ◌≤◌}
+use Rattle.std.proofs.Common.{ltb}
+use Rattle.cj_stream.specs.Reading.{IsSound, kept_closed, Advances, IsNext, HasCause, stop_at}
 use Rattle.cj_stream.proofs.FirstLemmas.{take-front, lines-front, first-front, first-closed_lines}
 use Rattle.cj_stream.proofs.LineLemmas.{closed-grows, first_content-grows, first-length, lines-cut, none-from_length}
 use Rattle.cj_stream.proofs.IsLinesLemmas.{lines-whole}
 use Rattle.cj_stream.proofs.VerdictLemmas.{refusal-append, verdict-long}
 use Rattle.cj_stream.proofs.ScanningLemmas.{few-scanned, first-closed}
 use Rattle.cj_stream.proofs.ReadingLemmas.{length-map_lines, dropped-long}
-use Rattle.cj_stream.proofs.Apart.{some-none}
 
 -- what is held is within the peaks
 pub held-below : (e : EngineState) → IsWithin e.reading.header → IsWithin e.reading.line

@@ -1,24 +1,9 @@
 -- What the states of a stream promise of a piece and of the end, from what their framer did.
-use Rattle.std.proofs.Common.{◌≡◌, ◌≢◌, ℕ, ◌+◌, List, [], ◌++◌, length, Option, Some, None, Result, Ok, Err, arith, refl, sym, ap, ◌∙◌, length-append, OnOk, subst, cond}
-use Rattle.std.specs.Prelude.{is_none, IsErrOf}
-use Rattle.std.proofs.lemmas.List.{append-nil}
-use Rattle.cj_stream.specs.declared.ending.End.{End}
-use Rattle.cj_stream.specs.declared.ending.End.TheVariants.{Complete, WriteFault, Memory}
+use Rattle.cj_stream.proofs.Common.{Carries, Complete, End, EngineState, Err, Feeds, Finishes, FinishesAll, FramerState, HeldUntil, IsBelow, IsFinished, LineEnd, List, Memory, None, Ok, OnOk, Option, Reads, Result, Scanned, SinkLaw, Some, StandsFor, Stops, TakesAll, TakesSome, WriteFault, [], answer_of, ap, append-nil, arith, closed, cond, contents, end_of, further, given, header_end, length, length-append, line_end, peaks_of, refl, some-none, state, subst, sym, with_sink, ℕ, ◌++◌, ◌+◌, ◌∙◌, ◌≡◌}
+use Rattle.std.proofs.Common.{◌≢◌, is_none, IsErrOf}
 use Rattle.cj_stream.specs.declared.ending.HeaderEnd.{HeaderEnd}
-use Rattle.cj_stream.specs.declared.ending.HeaderEnd.TheVariants.{Complete as HeaderComplete, Refused as HeaderRefused}
-use Rattle.cj_stream.specs.declared.ending.HeaderEnd.TheVariants.{WriteFault as HeaderWriteFault, Memory as HeaderMemory}
-use Rattle.cj_stream.specs.declared.ending.LineEnd.{LineEnd}
+use Rattle.cj_stream.specs.declared.ending.HeaderEnd.TheVariants.{Complete as HeaderComplete, Refused as HeaderRefused, WriteFault as HeaderWriteFault, Memory as HeaderMemory}
 use Rattle.cj_stream.specs.declared.ending.LineEnd.TheVariants.{Complete as LineComplete, Refused as LineRefused, WriteFault as LineWriteFault}
-use Rattle.cj_stream.specs.Bound.{contents, IsBelow}
-use Rattle.cj_stream.specs.Carrying.{FramerState, Carries, TakesAll, TakesSome, FinishesAll}
-use Rattle.cj_stream.specs.Ending.{answer_of, header_end, line_end}
-use Rattle.cj_stream.specs.Engine.{EngineState, state, StandsFor, given, peaks_of, end_of}
-use Rattle.cj_stream.specs.Feeding.{Feeds, IsFinished}
-use Rattle.cj_stream.specs.Lines.{closed}
-use Rattle.cj_stream.specs.Reading.{Reads, Stops, Finishes, further}
-use Rattle.cj_stream.specs.Scanning.{Scanned, HeldUntil}
-use Rattle.cj_stream.specs.Sink.{SinkLaw, with_sink}
-use Rattle.cj_stream.proofs.Apart.{some-none}
 use Rattle.cj_stream.proofs.EngineLemmas.{Tells-stops, Delivers-advances, Delivers-stops, LacksMemory-stops, StandsFor-reads, StandsFor-stops, Going-reads}
 use Rattle.cj_stream.proofs.LeastLemmas.{held-scanned, least-finished, least-read, least-until}
 use Rattle.cj_stream.proofs.LineLemmas.{closed-grows}

@@ -1,32 +1,10 @@
 -- What the end of a text makes of an engine.
-use Rattle.std.proofs.Common.{◌≡◌, ℕ, ◌+◌, ◌<◌, ◌≤◌, ◌⊎◌, inl, inr, max, List, [], ◌∷◌, ◌++◌, Bool, true, false, eqb, length, take, map, Some, None, Result, Ok, Err, arith, refl, sym, ap, ◌∙◌, length-append}
-use Rattle.std.specs.Prelude.{unwrap_or, OnOk, OnErr, if◌then◌else◌}
-use Rattle.std.proofs.lemmas.List.{append-nil, take_all}
-use Rattle.std.proofs.lemmas.Bool.Decides.{nat_tests}
-use Rattle.cj_budget.specs.Meaning.Limits.{LimitPair}
-use Rattle.cj_budget.specs.Bounded.{IsWithin}
-use Rattle.cj_spans.specs.declared.reason.Reason.{Reason}
-use Rattle.cj_spans.specs.declared.reason.Reason.TheVariants.{NoHeader}
-use Rattle.cj_stream.specs.declared.ending.End.{End}
-use Rattle.cj_stream.specs.declared.ending.End.TheVariants.{Complete, Refused, ReadFault, ReadLimit, WriteFault, Memory}
-use Rattle.cj_stream.specs.Ending.{answer_of}
-use Rattle.cj_stream.specs.Meaning.Lines.{Line, ended_line, lines}
-use Rattle.cj_stream.specs.Lines.{closed, begun, first_content, last_line, later_of, begun_after}
-use Rattle.cj_stream.specs.Items.{Item}
-use Rattle.cj_stream.specs.Meaning.Rules.{Rules}
-use Rattle.cj_stream.specs.Meaning.Verdict.{Verdict, Invalid, Blank, LeftOut, Kept}
-use Rattle.cj_stream.specs.Verdict.{verdict, item_after, goes_on, refusal_of, is_kept, refusal_in, refusal_from, kept_from, ending, ending_of, kept_first, stretch, up_to}
-use Rattle.cj_stream.specs.Meaning.Bound.{bytes_bound, greatest}
-use Rattle.cj_stream.specs.Bound.{held_length, contents, exact_peaks, IsExact}
-use Rattle.cj_stream.specs.Reading.{Reading, next_verdict, next_item, is_lenient, IsLeft, Refuses, Deals, Settles, Reads, Finishes, FinishesWith, Passes, JudgedAs, judged_next}
-use Rattle.cj_stream.specs.Scanning.{Scanning, Scanned, ScansNext, HasRoom, HoldsFew}
-use Rattle.cj_stream.specs.Engine.{StandsFor, Counts, Faults, Delivers, Concludes, end_of}
-use Rattle.cj_stream.specs.Sink.{SinkLaw, with_sink}
+use Rattle.cj_stream.proofs.Common.{Blank, Bool, Complete, Concludes, Counts, Deals, Delivers, End, Err, Faults, Finishes, FinishesWith, HasRoom, HoldsFew, Invalid, IsExact, IsLeft, IsWithin, Item, JudgedAs, Kept, LeftOut, LimitPair, Line, List, Memory, NoHeader, None, Ok, OnErr, OnOk, Passes, ReadFault, ReadLimit, Reading, Reads, Reason, Refused, Refuses, Result, Rules, Scanned, Scanning, ScansNext, Settles, SinkLaw, Some, StandsFor, Verdict, WriteFault, [], answer_of, ap, append-nil, arith, begun, begun_after, bytes_bound, closed, contents, end_of, ended_line, ending, ending_of, exact_peaks, false, first_content, goes_on, greatest, held_length, if◌then◌else◌, inl, inr, is_kept, is_lenient, item_after, judged_next, kept_first, kept_from, last_line, later_of, length, length-append, lines, map, max, nat_tests, next_item, next_verdict, refl, refusal_from, refusal_in, refusal_of, some-none, stretch, sym, take, take_all, true, unwrap_or, up_to, verdict, with_sink, ℕ, ◌++◌, ◌+◌, ◌<◌, ◌∙◌, ◌∷◌, ◌≡◌, ◌≤◌, ◌⊎◌}
+use Rattle.std.proofs.Common.{eqb}
 use Rattle.cj_stream.proofs.LineLemmas.{lines-cut, none-from_length, begun_after-empty}
 use Rattle.cj_stream.proofs.DealtLemmas.{Came, passed, refused, failed, lacked, came}
 use Rattle.cj_stream.proofs.VerdictLemmas.{refusal-append, kept-append}
 use Rattle.cj_stream.proofs.ReadingLemmas.{length-map_lines, left-same, zero_or, kept-next, refused-next, greatest-later, held-nothing}
-use Rattle.cj_stream.proofs.Apart.{some-none}
 use Rattle.cj_stream.proofs.GoodLemmas.{good-complete, good-refused}
 use Rattle.cj_stream.proofs.EngineLemmas.{held-below, peaks-bounded, same-peaks, get-next, Counts-front}
 use Rattle.cj_stream.proofs.FirstLemmas.{lines-front}

@@ -1,10 +1,5 @@
 -- What is said of the first lines of a text, be it what is kept of them or what is reported.
-use Rattle.std.proofs.Common.{◌≡◌, ℕ, List, [], ◌∷◌, ◌++◌, length, take, drop, map, None, refl, sym, ap, ◌∙◌, append_assoc}
-use Rattle.std.proofs.lemmas.List.{append-nil, take-append-drop}
-use Rattle.cj_stream.specs.Meaning.Lines.{Line, ended_line, lines}
-use Rattle.cj_stream.specs.Lines.{closed, begun, last_line, whole}
-use Rattle.cj_stream.specs.Meaning.Rules.{Rules}
-use Rattle.cj_stream.specs.Verdict.{refusal_in, good, good_from}
+use Rattle.cj_stream.proofs.Common.{Line, List, None, Rules, [], ap, append-nil, append_assoc, begun, closed, drop, ended_line, good, good_from, last_line, length, lines, map, refl, refusal_in, sym, take, take-append-drop, whole, ℕ, ◌++◌, ◌∙◌, ◌∷◌, ◌≡◌}
 use Rattle.cj_stream.proofs.GoodLemmas.{good-take, good-append, good-all}
 use Rattle.cj_stream.proofs.IsLinesLemmas.{lines-whole}
 use Rattle.cj_stream.proofs.LineLemmas.{closed-then, lines-cut}

@@ -1,18 +1,6 @@
 -- Pieces that were given one after another, to an engine or to a reader of lines, until it ended.
-use Rattle.std.proofs.Common.{◌≡◌, ℕ, ◌+◌, ◌≤◌, List, [], ◌++◌, length, take, None, Ok, Err, refl, sym, ap, ◌∙◌, arith, append_assoc}
-use Rattle.std.proofs.lemmas.List.{append-nil}
-use Rattle.cj_stream.specs.declared.ending.End.{End}
+use Rattle.cj_stream.proofs.Common.{Delivers, End, Ends, EngineState, Err, Fed, Feeds, IsFinished, List, None, Notes, Ok, Report, Rules, SinkLaw, StandsFor, TookWhole, [], ap, append-nil, append_assoc, arith, closed, given_after, in_pieces, joined, judged, kept_from, length, lines_of, peaks_of, refl, refusal_in, reported_from, rules_of, stretch, sym, take, with_sink, ℕ, ◌++◌, ◌+◌, ◌∙◌, ◌≡◌, ◌≤◌}
 use Rattle.cj_stream.specs.declared.pieces.PiecesOutcome.{PiecesOutcome}
-use Rattle.cj_stream.specs.declared.report_sink.Report.{Report}
-use Rattle.cj_stream.specs.Lines.{joined, closed}
-use Rattle.cj_stream.specs.Cut.{Fed, TookWhole, in_pieces, given_after}
-use Rattle.cj_stream.specs.Engine.{EngineState, StandsFor, Delivers, rules_of, lines_of, peaks_of}
-use Rattle.cj_stream.specs.Feeding.{Feeds, IsFinished}
-use Rattle.cj_stream.specs.ReportSink.{Notes}
-use Rattle.cj_stream.specs.Run.{Ends}
-use Rattle.cj_stream.specs.Sink.{SinkLaw, with_sink}
-use Rattle.cj_stream.specs.Meaning.Rules.{Rules}
-use Rattle.cj_stream.specs.Verdict.{refusal_in, judged, kept_from, reported_from, stretch}
 use Rattle.cj_stream.proofs.CutLemmas.{TookWhole-left, EndsAt-told, EndsAt-concludes}
 use Rattle.cj_stream.proofs.EngineLemmas.{Going-reads}
 use Rattle.cj_stream.proofs.JoinedLemmas.{joined-all}

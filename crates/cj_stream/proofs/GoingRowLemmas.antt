@@ -1,21 +1,8 @@
 -- Small streams in which reading goes on after invalid lines, computed.
-use Rattle.std.proofs.Common.{◌≡◌, ℕ, List, [], ◌∷◌, ◌++◌, true, cond, ltb, length, refl, ◌∙◌, lit<}
-use Rattle.std.specs.Prelude.{not, ◌&&◌, nat_lt}
-use Rattle.std.specs.List.{list_all}
-use Rattle.std.specs.Str.{is_utf8}
-use Rattle.std.specs.Str.Lossy.{utf8_valid_len}
-use Rattle.cj_spans.specs.declared.reason.Reason.{Reason}
-use Rattle.cj_spans.specs.declared.reason.Reason.TheVariants.{LineTooLong, NotUtf8, Syntax, MissingMember}
-use Rattle.cj_spans.specs.Meaning.Judgement.{Judgement, spelled, broken, sunk}
-use Rattle.cj_spans.specs.Meaning.Tree.{Tree}
+use Rattle.cj_stream.proofs.Common.{Blank, Complete, Invalid, Judgement, Kept, Line, LineTooLong, List, MissingMember, NotUtf8, Reason, Refused, Rules, Syntax, Tree, [], broken, cond, ended_line, ending_of, good_from, is_blank_byte, is_utf8, length, list_all, lit<, nat_lt, not, raw, refl, reported_from, small_feature, small_header, spelled, sunk, text_verdict, tight_rules, true, utf8_valid_len, verdict, verdict_at, wide_rules, ℕ, ◌&&◌, ◌++◌, ◌∙◌, ◌∷◌, ◌≡◌}
+use Rattle.std.proofs.Common.{ltb}
 use Rattle.cj_spans.proofs.Judgements.{judgement}
-use Rattle.cj_stream.specs.declared.ending.End.TheVariants.{Complete, Refused}
 use Rattle.cj_stream.specs.GoingRows.{going, BetweenRow, FirstRow, LastRow}
-use Rattle.cj_stream.specs.Meaning.Lines.{Line, raw, ended_line}
-use Rattle.cj_stream.specs.Rows.{small_header, small_feature, wide_rules, tight_rules}
-use Rattle.cj_stream.specs.Meaning.Rules.{Rules}
-use Rattle.cj_stream.specs.Meaning.Verdict.{Invalid, Blank, Kept, is_blank_byte}
-use Rattle.cj_stream.specs.Verdict.{verdict, verdict_at, text_verdict, ending_of, good_from, reported_from}
 use Rattle.cj_stream.proofs.RowLemmas.{header_first, header_tight, feature_first, feature_third, comma_second, written, open_line}
 use Rattle.cj_stream.proofs.VerdictLemmas.{verdict-long}
 

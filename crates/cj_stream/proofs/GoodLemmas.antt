@@ -1,18 +1,6 @@
 -- The good lines of a text, and what is kept of them.
-use Rattle.std.proofs.Common.{◌≡◌, ℕ, ◌+◌, List, [], ◌∷◌, ◌++◌, Bool, true, false, cond, zero, suc, length, take, drop, Option, Some, None, refl, sym, ap, ◌∙◌, arith, length-append}
-use Rattle.std.specs.Prelude.{unwrap_or, is_some, slice_get}
-use Rattle.std.proofs.lemmas.List.{take-append-drop, append-nil}
-use Rattle.cj_spans.specs.declared.reason.Reason.{Reason}
-use Rattle.cj_spans.specs.declared.reason.Reason.TheVariants.{NoHeader}
-use Rattle.cj_stream.specs.declared.ending.End.{End}
-use Rattle.cj_stream.specs.declared.ending.End.TheVariants.{Complete, Refused}
-use Rattle.cj_stream.specs.Meaning.Lines.{Line, lines}
-use Rattle.cj_stream.specs.Items.{Item}
-use Rattle.cj_stream.specs.Meaning.Rules.{Rules}
-use Rattle.cj_stream.specs.Meaning.Verdict.{Verdict, Invalid, Blank, LeftOut, Kept}
-use Rattle.cj_stream.specs.Verdict.{verdict, item_after, goes_on, refusal_of, is_kept, refusal_from, refusal_in, good_from, kept_from, good, kept, kept_first, ending, ending_of}
+use Rattle.cj_stream.proofs.Common.{Blank, Bool, Complete, End, Invalid, Item, Kept, LeftOut, Line, List, NoHeader, None, Option, Reason, Refused, Rules, Some, Verdict, [], ap, append-nil, arith, cond, drop, ending, ending_of, false, false-true, goes_on, good, good_from, is_kept, is_some, item_after, kept, kept_first, kept_from, length, length-append, lines, none-some, refl, refusal_from, refusal_in, refusal_of, slice_get, some-none, suc, sym, take, take-append-drop, true, unwrap_or, verdict, zero, ℕ, ◌++◌, ◌+◌, ◌∙◌, ◌∷◌, ◌≡◌}
 use Rattle.cj_stream.proofs.VerdictLemmas.{kept-append, before-more}
-use Rattle.cj_stream.proofs.Apart.{false-true, none-some, some-none}
 
 -- good lines are a prefix
 pub good-take : (rules : Rules) (before ls : List Line)

@@ -1,33 +1,8 @@
 -- What the headline says, by what a run tells, and by what pieces tell.
-use Rattle.std.proofs.Common.{◌≡◌, ◌⊎◌, ◌∙◌, inl, inr, ℕ, List, [], ◌∷◌, ◌++◌, Bool, true, false, map, Option, Some, None, ap, arith, refl, subst, sym}
-use Rattle.std.specs.Prelude.{slice_get}
-use Rattle.std.proofs.lemmas.List.{append-nil}
-use Rattle.std.specs.Io.KnownBytes.{Appends, Keeps}
-use Rattle.cj_budget.specs.declared.limits.Peaks.{Peaks}
-use Rattle.cj_spans.specs.declared.reason.Reason.{Reason}
-use Rattle.cj_stream.specs.declared.ending.End.{End}
-use Rattle.cj_stream.specs.declared.ending.End.TheVariants.{Complete, Refused, ReadFault, ReadLimit, WriteFault, Memory}
-use Rattle.cj_stream.specs.declared.report_sink.Report.{Report}
-use Rattle.cj_stream.specs.Meaning.Bound.{IsBounded, HasPeaks}
-use Rattle.cj_stream.specs.Bound.{IsExact}
-use Rattle.cj_stream.specs.Cut.{Copies, IsUnread, in_pieces}
-use Rattle.cj_stream.specs.Item.{tree_of}
-use Rattle.cj_stream.specs.Judged.{judged_list, judged_lines}
-use Rattle.cj_stream.specs.Meaning.Lines.{Line, ended_line, lines}
-use Rattle.cj_stream.specs.Lines.{begun, closed, joined, last_line}
-use Rattle.cj_stream.specs.Meaning.Headline.{Headline, IsUnhindered, Fate, BeginsWell, RefusedMemory}
-use Rattle.cj_stream.specs.Run.{fate_of, HeadlineOfRun, Run, Account, Ends, LacksRoom, Runs, Writes}
-use Rattle.cj_stream.specs.Reading.{LacksMemory}
-use Rattle.cj_stream.specs.Meaning.Outputs.{Outputs, Took}
-use Rattle.cj_stream.specs.Output.{outputs, Channel}
-use Rattle.cj_stream.specs.ReportSink.{NotesRun, NotesPieces}
-use Rattle.cj_stream.specs.Sink.{HasRisen, SinkLaw}
+use Rattle.cj_stream.proofs.Common.{Account, Appends, BeginsWell, Bool, Channel, Complete, Copies, End, Ends, Fate, HasPeaks, HasRisen, Headline, IsBounded, IsExact, IsUnhindered, IsUnread, Keeps, Kept, LacksMemory, Line, List, Memory, None, NotesPieces, NotesRun, Option, Outputs, Peaks, ReadFault, ReadLimit, Reason, Refused, RefusedMemory, Report, Rules, Run, SinkLaw, Some, Took, WriteFault, [], ap, append-nil, arith, begun, closed, ended_line, ending, false, in_pieces, inl, inr, joined, judged, judged_lines, judged_list, last_line, lines, map, none-some, output, outputs, refl, refusal_in, reported, slice_get, stream_of, subst, sym, tree_of, true, verdict, verdict_at, ℕ, ◌++◌, ◌∙◌, ◌∷◌, ◌≡◌, ◌⊎◌}
+use Rattle.cj_stream.specs.Run.{fate_of, HeadlineOfRun, LacksRoom, Runs, Writes}
 use Rattle.cj_stream.specs.Meaning.Judged.{output_in, reported_in, ending_in}
-use Rattle.cj_stream.specs.Meaning.Rules.{Rules}
-use Rattle.cj_stream.specs.Meaning.Verdict.{Kept}
-use Rattle.cj_stream.specs.Verdict.{refusal_in, judged, output, reported, ending, stream_of, verdict, verdict_at}
 use Rattle.cj_stream.proofs.AgreeLemmas.{ending-in, output-in, reported-in}
-use Rattle.cj_stream.proofs.Apart.{none-some}
 use Rattle.cj_stream.proofs.CutLemmas.{refused-more}
 use Rattle.cj_stream.proofs.JudgedLemmas.{list-are, list-only, no_tree}
 use Rattle.cj_stream.proofs.JudgedPeaks.{HasPeaks-exact, IsExact-peaks}

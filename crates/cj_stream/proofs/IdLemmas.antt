@@ -1,31 +1,19 @@
 -- The ids of a query: one is found in runs that are in order.
-use Rattle.std.proofs.Common.{◌≡◌, ℕ, suc, zero, ◌+◌, ◌-◌, ◌<◌, ◌≤◌, Bool, true, false, List, [], ◌∷◌, ◌++◌, length, get_or, map, take, drop, sum, Option, Some, None, Result, Ok, Err, is_ok, slice_range, refl, sym, ap, ◌∙◌, subst, inl, inr, arith}
+use Rattle.cj_stream.proofs.Common.{All, All-append, All-cons, All-nil, AreIndexed, AreRuns, Ascend, Bool, Entry, Equal, Err, Greater, IsPermutation, IsUtf8, Key, Less, List, None, Ok, Option, Ordering, Result, Some, Tree, [], ap, append-nil, are_same_texts, arith, cases_lt, chars, compare, compare_keys, compare_texts, drop, false, get_or, inl, inr, is_eq, is_lt, is_one_of, key_at, key_of, keys_at, keys_of, length, length-append, length-drop, length-map, length-take, list_any, map, map-append, nat_cmp, nat_tests, piece, pieces, refl, subst, suc, sym, take, take-append-drop, take-append-le, take-map, take_all, text_of, true, zero, ℕ, ◌++◌, ◌+◌, ◌-◌, ◌<◌, ◌∙◌, ◌∷◌, ◌≡◌, ◌≤◌}
+use Rattle.std.proofs.Common.{sum, is_ok, slice_range, IsSortedBy, IsCharBoundary, get_or-take, get_or-drop, length-take-le, take-take, drop_at, ◌||◌}
 use Rattle.std.specs.Cmp.{IsTotalOrder, tied_itself}
 use Rattle.std.specs.Cmp.Lexicographic.{bytes_decides, nat_list_cmp_total, options_total, texts_ties}
-use Rattle.std.specs.List.{list_any, All}
-use Rattle.std.specs.List.Sorted.{IsPermutation, IsSortedBy, IsNonDecreasingBy, IsSearchInRange, IsBinarySearchResult}
-use Rattle.std.specs.Ordering.{nat_cmp, ordering_then, ordering_reverse, is_lt, is_eq}
-use Rattle.std.specs.Str.{chars, IsCharBoundary, IsUtf8}
-use Rattle.std.specs.declared.cmp.Ordering.{Ordering}
-use Rattle.std.specs.declared.cmp.Ordering.TheVariants.{Less, Equal, Greater}
-use Rattle.std.proofs.lemmas.Bool.{cases_lt}
-use Rattle.std.proofs.lemmas.Bool.Decides.{nat_tests}
+use Rattle.std.specs.List.Sorted.{IsNonDecreasingBy, IsSearchInRange, IsBinarySearchResult}
+use Rattle.std.specs.Ordering.{ordering_then, ordering_reverse}
 use Rattle.std.proofs.lemmas.Cmp.{nat_cmp_total, on_total, then_total}
-use Rattle.std.proofs.lemmas.List.{get_or_default, get_or-take, get_or-drop, get_or-map, get_or_append_left, length-map, length-append, length-drop, length-take, length-take-le, take-append-le, take-take, take_all, drop_all, drop_at, append-nil, drop-append-le, take-append-drop, drop-take, take-map, map-append}
+use Rattle.std.proofs.lemmas.List.{get_or_default, get_or-map, get_or_append_left, drop_all, drop-append-le, drop-take}
 use borrow.Rule.Slice.PartMut.{put_mid}
 use Rattle.std.proofs.lemmas.Str.{IsCharBoundary-at_seam, IsCharBoundary-end}
-use Rattle.std.proofs.lemmas.List.Elements.{All-append, All-cons, All-nil}
 use Rattle.std.proofs.lemmas.List.Folds.{list_any_at, list_any_none, list_any-append}
-use Rattle.std.specs.Prelude.{◌||◌}
 use Rattle.std.proofs.lemmas.List.Sorted.{IsPermutation-append, IsPermutation-map, IsPermutation-refl, IsPermutation-trans, All-permutation, length_permutation, searchable_from_sorted, IsNonDecreasingBy-from_all_adjacent}
 use Rattle.std.proofs.lemmas.List.Sums.{sum_by-cons, sum_by-append, sum_by-take-le}
 use Rattle.cj_spans.specs.Tail.{tail_of}
-use Rattle.cj_spans.specs.Order.{compare, compare_texts}
-use Rattle.cj_spans.specs.Meaning.Parts.{text_of, are_same_texts}
-use Rattle.cj_spans.specs.Meaning.Tree.{Tree}
-use Rattle.cj_stream.specs.Meaning.Criteria.{is_one_of}
-use Rattle.cj_stream.specs.declared.query.ids.Entry.{Entry}
-use Rattle.cj_stream.specs.Ids.{Key, key_of, compare_keys, pieces, may_cut, piece, key_at, keys_at, keys_of, Ascend, AreRuns, IsCut, AreIndexed, HasAllOf}
+use Rattle.cj_stream.specs.Ids.{may_cut, IsCut, HasAllOf}
 
 -- keys have one order
 pub keys_total : IsTotalOrder compare_keys

@@ -1,13 +1,6 @@
 -- The good lines are the longest prefix of the lines of which none is refused.
-use Rattle.std.proofs.Common.{◌≡◌, ℕ, ◌+◌, ◌≤◌, List, [], ◌∷◌, ◌++◌, cond, length, Option, Some, None, refl, sym, ap, ◌∙◌, arith, append_assoc, length-append}
-use Rattle.std.specs.Prelude.{is_some}
-use Rattle.std.proofs.lemmas.List.{append-nil}
-use Rattle.cj_stream.specs.declared.ending.End.{End}
+use Rattle.cj_stream.proofs.Common.{End, Line, List, None, Option, Rules, Some, [], ap, append-nil, append_assoc, arith, cond, ending, ending_of, good, good_from, is_some, length, length-append, lines, none-some, refl, refusal_from, refusal_in, refusal_of, sym, verdict, ℕ, ◌++◌, ◌+◌, ◌∙◌, ◌∷◌, ◌≡◌, ◌≤◌}
 use Rattle.cj_stream.specs.IsGood.{NoneRefused, AreGood, EndsWell, EndsAfter}
-use Rattle.cj_stream.specs.Meaning.Lines.{Line, lines}
-use Rattle.cj_stream.specs.Meaning.Rules.{Rules}
-use Rattle.cj_stream.specs.Verdict.{verdict, refusal_of, refusal_from, refusal_in, good_from, good, ending, ending_of}
-use Rattle.cj_stream.proofs.Apart.{none-some}
 use Rattle.cj_stream.proofs.GoodLemmas.{good-append, ending-refused}
 use Rattle.cj_stream.proofs.VerdictLemmas.{refusal-append, refusal-step}
 

@@ -1,11 +1,6 @@
 -- `lines` are the lines of a text, and no others are.
-use Rattle.std.proofs.Common.{◌≡◌, inl, inr, ℕ, List, [], ◌∷◌, ◌++◌, Bool, true, false, cond, eqb, map, refl, sym, ap, subst, ◌∙◌, append_assoc}
-use Rattle.std.proofs.lemmas.Grind.{flat_map-append}
-use Rattle.std.specs.List.{flat_map}
-use Rattle.std.proofs.lemmas.List.{append-nil}
-use Rattle.std.proofs.lemmas.Bool.{eqb-true}
-use Rattle.cj_stream.specs.Meaning.Lines.{Line, raw, ended_line, lines}
-use Rattle.cj_stream.specs.Lines.{closed, begun, begun_with, onto_first, last_line, NoLf, whole}
+use Rattle.cj_stream.proofs.Common.{Bool, Line, List, NoLf, [], ap, append-nil, append_assoc, begun, begun_with, closed, cond, ended_line, false, flat_map, flat_map-append, inl, inr, last_line, lines, map, onto_first, raw, refl, subst, sym, true, whole, ℕ, ◌++◌, ◌∙◌, ◌∷◌, ◌≡◌}
+use Rattle.std.proofs.Common.{eqb, eqb-true}
 use Rattle.cj_stream.specs.IsLines.{AreEnded, HaveNoLf, IsLines, IsWhole}
 use Rattle.cj_stream.proofs.LineLemmas.{closed-none, begun-none, lines-cut, NoLf-begun}
 

@@ -1,20 +1,9 @@
 -- What a scan's answer says of the judgement on a line.
-use Rattle.std.proofs.Common.{◌≡◌, ℕ, List, false, length, arith, Result, Ok, Err, refl, ap}
-use Rattle.std.specs.Prelude.{IsUtf8}
-use Rattle.std.specs.Str.{IsValidUpTo}
-use Rattle.std.proofs.lemmas.List.{take_all}
+use Rattle.cj_stream.proofs.Common.{Err, Invalid, IsUtf8, IsValidUpTo, Json, Judgement, List, Ok, Result, Rules, Tree, ap, arith, broken, false, is_spelled, judged_nest, judged_size, judged_tree, length, nest, refl, size, spelled, sunk, take_all, text_verdict, tree_verdict, ℕ, ◌≡◌}
 use Rattle.cj_spans.specs.declared.fault.LineFault.{LineFault}
 use Rattle.cj_spans.specs.declared.fault.LineFault.TheVariants.{NotUtf8, Syntax, TooDeep}
 use Rattle.cj_spans.specs.declared.reason.Reason.TheVariants.{Syntax as SyntaxReason, TooDeep as TooDeepReason}
-use Rattle.cj_spans.specs.Meaning.Tree.{Tree, size, nest}
-use Rattle.cj_spans.specs.Meaning.Json.{Json}
-use Rattle.cj_spans.specs.Meaning.Judgement.{Judgement, spelled, broken, sunk, judged_size, judged_nest}
 use Rattle.cj_spans.specs.Answers.{IsReservedAnswerOf}
-use Rattle.cj_stream.specs.Bound.{is_spelled}
-use Rattle.cj_stream.specs.Item.{judged_tree}
-use Rattle.cj_stream.specs.Meaning.Rules.{Rules}
-use Rattle.cj_stream.specs.Meaning.Verdict.{Invalid}
-use Rattle.cj_stream.specs.Verdict.{tree_verdict, text_verdict}
 
 -- a scan that answers Ok has found the tree
 pub ok-tree : {b : List ℕ} {d : ℕ} (j : Judgement b d) (x : Unit {0}) (t : Tree) → ((u : Tree) → Json b u → u ≡ t)

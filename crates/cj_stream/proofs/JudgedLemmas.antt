@@ -1,25 +1,10 @@
 -- Each line has exactly one verdict, and each stream one list of judged lines.
-use Rattle.std.proofs.Common.{◌≡◌, ℕ, ◌+◌, ◌<◌, ◌≤◌, List, [], ◌∷◌, Bool, true, false, cond, eqb, ltb, length, Option, Some, None, refl, sym, ap, subst, ◌∙◌, arith}
-use Rattle.std.specs.Prelude.{not, ◌&&◌}
-use Rattle.std.specs.Str.{is_utf8}
-use Rattle.std.specs.Str.Lossy.{utf8_valid_len}
-use Rattle.std.proofs.lemmas.Bool.{ltb-true}
-use Rattle.std.proofs.lemmas.Bool.Decides.{nat_tests}
-use Rattle.cj_spans.specs.declared.reason.Reason.{Reason}
-use Rattle.cj_spans.specs.declared.reason.Reason.TheVariants.{LineTooLong, NotUtf8, Syntax, TooDeep}
-use Rattle.cj_spans.specs.declared.finding.Finding.{Finding}
-use Rattle.cj_spans.specs.Meaning.Finding.{least}
+use Rattle.cj_stream.proofs.Common.{Blank, Bool, Finding, Invalid, IsVerdict, Json, Judgement, Kept, LeftOut, Line, LineTooLong, List, None, NotUtf8, Option, Reason, Rules, Some, Syntax, TooDeep, Tree, Verdict, [], ap, arith, array, broken, by_least, cond, false, findings, is_blank, is_blank_line, is_kept_if_valid, is_utf8, judged_at, judged_behind, judged_later, judged_list, least, length, nat_tests, nest, no_items, not, read_tree, refl, spelled, spelled_tree, subst, sunk, sym, text_verdict, tree_verdict, true, utf8_valid_len, verdict_at, ℕ, ◌&&◌, ◌+◌, ◌<◌, ◌∙◌, ◌∷◌, ◌≡◌, ◌≤◌}
+use Rattle.std.proofs.Common.{eqb, ltb, ltb-true}
 use Rattle.cj_spans.specs.Meaning.Prefix.{SyntaxAt, DeepAt, NowhereDeep}
-use Rattle.cj_spans.specs.Meaning.Json.{Json}
-use Rattle.cj_spans.specs.Meaning.Judgement.{Judgement, spelled, broken, sunk}
-use Rattle.cj_spans.specs.Meaning.Tree.{Tree, nest, array, no_items}
 use Rattle.cj_spans.proofs.Judgements.{judgement, say_same}
 use Rattle.cj_stream.specs.Meaning.Judged.{JudgedLine, IsJudged, AreLater, AreJudged, no_lines, no_header, headed}
-use Rattle.cj_stream.specs.Meaning.Lines.{Line}
-use Rattle.cj_stream.specs.Meaning.Rules.{Rules}
-use Rattle.cj_stream.specs.Meaning.Verdict.{Verdict, Invalid, Blank, LeftOut, Kept, is_blank, faults, is_selected, IsRead, Spells, IsVerdict, too_long, not_utf8, blank_line, too_deep, no_json, faulty, leaves_out, keeps}
-use Rattle.cj_stream.specs.Judged.{spelled_tree, read_tree, judged_at, judged_later, judged_behind, judged_list}
-use Rattle.cj_stream.specs.Verdict.{is_blank_line, findings, is_kept_if_valid, by_least, tree_verdict, text_verdict, verdict_at}
+use Rattle.cj_stream.specs.Meaning.Verdict.{faults, is_selected, IsRead, Spells, too_long, not_utf8, blank_line, too_deep, no_json, faulty, leaves_out, keeps}
 use Rattle.cj_stream.proofs.VerdictLemmas.{verdict-long}
 
 -- a number, and the header that is before a line with it: none before the first line

@@ -1,15 +1,5 @@
 -- The list of judged lines of a stream that is read in two parts.
-use Rattle.std.proofs.Common.{◌≡◌, ℕ, ◌+◌, ◌<◌, List, [], ◌∷◌, ◌++◌, length, map, Some, None, refl, sym, ap, ◌∙◌, arith}
-use Rattle.cj_spans.specs.Meaning.Tree.{Tree}
-use Rattle.cj_stream.specs.declared.ending.End.TheVariants.{Complete}
-use Rattle.cj_stream.specs.Item.{tree_of}
-use Rattle.cj_stream.specs.Judged.{judged_at, judged_later, judged_list, judged_lines}
-use Rattle.cj_stream.specs.Meaning.Lines.{Line, ended_line, lines}
-use Rattle.cj_stream.specs.Lines.{later_of}
-use Rattle.cj_stream.specs.Meaning.Rules.{Rules}
-use Rattle.cj_stream.specs.Meaning.Verdict.{Kept}
-use Rattle.cj_stream.specs.Parts.{headed, IsCut, moved_line}
-use Rattle.cj_stream.specs.Verdict.{ending, verdict}
+use Rattle.cj_stream.proofs.Common.{Complete, IsCut, Kept, Line, List, None, Rules, Some, Tree, [], ap, arith, ended_line, ending, headed, judged_at, judged_later, judged_lines, judged_list, later_of, length, lines, map, moved_line, refl, sym, tree_of, verdict, ℕ, ◌++◌, ◌+◌, ◌<◌, ◌∙◌, ◌∷◌, ◌≡◌}
 use Rattle.cj_stream.proofs.JudgedLemmas.{behind-some, first-is, kept-tree, later-fits, no_tree, only-verdict, verdict-is}
 use Rattle.cj_stream.proofs.PartsLemmas.{all-lines, back-lines, front-lines, header-valid}
 use Rattle.cj_stream.proofs.VerdictLemmas.{verdict-first}

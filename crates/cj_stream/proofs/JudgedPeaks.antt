@@ -1,27 +1,10 @@
 -- What was held at most of a complete stream is what its judged lines say.
-use Rattle.std.proofs.Common.{◌≡◌, ℕ, ◌+◌, ◌<◌, List, [], ◌∷◌, ◌++◌, Bool, true, false, cond, ltb, length, map, max, Option, Some, None, refl, sym, ap, subst, ◌∙◌, arith}
-use Rattle.std.specs.Prelude.{not, ◌&&◌, ◌||◌, drop, is_some, option_and_then}
-use Rattle.std.specs.List.{find, list_all}
-use Rattle.std.specs.Str.{is_utf8}
-use Rattle.std.specs.Str.Lossy.{utf8_valid_len}
-use Rattle.std.proofs.lemmas.Bool.Decides.{nat_tests}
-use Rattle.cj_budget.specs.declared.limits.Peaks.{Peaks}
-use Rattle.cj_spans.specs.declared.reason.Reason.{Reason}
-use Rattle.cj_spans.specs.declared.reason.Reason.TheVariants.{LineTooLong, NoHeader, NotUtf8}
-use Rattle.cj_spans.specs.Meaning.Tree.{Tree}
-use Rattle.cj_spans.specs.Meaning.Judgement.{Judgement, spelled, broken, sunk, judged_size, judged_nest}
+use Rattle.cj_stream.proofs.Common.{Blank, Bool, Complete, HasPeaks, Invalid, IsExact, Judgement, Kept, LeftOut, Line, LineTooLong, List, NoHeader, None, NotUtf8, Option, Peaks, Reason, Refused, Rules, Some, Tree, Verdict, [], ap, arith, begun, broken, by_least, closed, cond, drop, ended_line, ending, exact_peaks, false, first_content, first_line, first_of, greatest, held_length, is_blank, is_blank_byte, is_readable, is_some, is_spelled, is_text, is_utf8, judged_at, judged_behind, judged_later, judged_lines, judged_list, judged_nest, judged_size, last_line, later_of, length, lines, list_all, map, max, nat_tests, not, read_tree, refl, spelled, spelled_tree, subst, sunk, sym, text_verdict, tree_nest, tree_size, true, utf8_valid_len, verdict_at, ℕ, ◌&&◌, ◌++◌, ◌+◌, ◌<◌, ◌∙◌, ◌∷◌, ◌≡◌}
+use Rattle.std.proofs.Common.{ltb, ◌||◌, option_and_then, find}
 use Rattle.cj_spans.proofs.Judgements.{judgement}
-use Rattle.cj_stream.specs.declared.ending.End.TheVariants.{Complete, Refused}
-use Rattle.cj_stream.specs.Bound.{IsExact, exact_peaks, held_length, is_readable, is_spelled, is_text, tree_nest, tree_size}
 use Rattle.cj_stream.specs.Bound.{is_legible as are_readable}
-use Rattle.cj_stream.specs.Judged.{spelled_tree, read_tree, judged_at, judged_behind, judged_later, judged_list, judged_lines}
-use Rattle.cj_stream.specs.Meaning.Bound.{HasPeaks, greatest, held_bytes, is_blank_verdict, is_legible, nest_if, peaks_in, size_if}
+use Rattle.cj_stream.specs.Meaning.Bound.{held_bytes, is_blank_verdict, is_legible, nest_if, peaks_in, size_if}
 use Rattle.cj_stream.specs.Meaning.Judged.{JudgedLine, ends, end_of_report, ending_in, report_by, report_of}
-use Rattle.cj_stream.specs.Meaning.Lines.{Line, ended_line, lines}
-use Rattle.cj_stream.specs.Lines.{begun, closed, first_content, first_of, last_line, later_of}
-use Rattle.cj_stream.specs.Meaning.Rules.{Rules}
-use Rattle.cj_stream.specs.Meaning.Verdict.{Verdict, Invalid, Blank, LeftOut, Kept, is_blank, is_blank_byte}
-use Rattle.cj_stream.specs.Verdict.{by_least, ending, first_line, text_verdict, verdict_at}
 use Rattle.cj_stream.proofs.AgreeLemmas.{ending-in}
 use Rattle.cj_stream.proofs.BlankLemmas.{blank-tree}
 use Rattle.cj_stream.proofs.LineLemmas.{lines-cut}

@@ -1,9 +1,5 @@
 -- Known bytes that grow twice.
-use Rattle.std.proofs.Common.{◌≡◌, ℕ, Result, Ok, Err, List, [], ◌++◌, ◌-◌, ◌≤◌, length, take, drop, arith, length-drop, Option, Some, None, sym, ap, ◌∙◌, append_assoc}
-use Rattle.std.specs.Prelude.{OnErr}
-use Rattle.std.proofs.lemmas.List.{append-nil, take-append-drop, take_all}
-use Rattle.std.specs.Io.KnownBytes.{Appends}
-use Rattle.cj_stream.specs.Sink.{AppendsPart}
+use Rattle.cj_stream.proofs.Common.{Appends, AppendsPart, Err, List, None, Ok, OnErr, Option, Result, Some, [], ap, append-nil, append_assoc, arith, drop, length, length-drop, sym, take, take-append-drop, take_all, ℕ, ◌++◌, ◌-◌, ◌∙◌, ◌≡◌, ◌≤◌}
 
 pub Appends-then : (a b c : Option (List ℕ)) (x y : List ℕ) → Appends a b x → Appends b c y → Appends a c (x ++ y)
 Appends-then None b c x y p q = tt

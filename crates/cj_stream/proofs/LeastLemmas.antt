@@ -1,17 +1,5 @@
 -- What was held at most is no less than the lines that were dealt with need.
-use Rattle.std.proofs.Common.{◌≡◌, ℕ, ◌+◌, ◌≤◌, List, [], ◌∷◌, ◌++◌, Result, Ok, Err, OnOk, length, map, max, take, arith, refl, sym, ap, ◌∙◌, append_assoc}
-use Rattle.std.specs.List.{flat_map}
-use Rattle.std.proofs.lemmas.List.{append-nil, take_all}
-use Rattle.cj_budget.specs.Meaning.Limits.{LimitPair}
-use Rattle.cj_stream.specs.Bound.{IsBelow, contents, exact_peaks, first_lines, held_length}
-use Rattle.cj_stream.specs.Meaning.Bound.{greatest}
-use Rattle.cj_stream.specs.declared.ending.End.{End}
-use Rattle.cj_stream.specs.Engine.{EngineState, limits_of, lines_of, peaks_of}
-use Rattle.cj_stream.specs.Meaning.Lines.{Line, ended_line, lines, raw}
-use Rattle.cj_stream.specs.Lines.{begun, closed, first_content, first_of, last_line, later_of, begun_after, whole}
-use Rattle.cj_stream.specs.Reading.{Reading, Reads, Stays, Finishes, FinishesWith, is_lenient}
-use Rattle.cj_stream.specs.Scanning.{Scanning, Scanned, HeldAll, HeldUntil, Rises}
-use Rattle.cj_stream.specs.Sink.{SinkLaw, with_sink}
+use Rattle.cj_stream.proofs.Common.{End, EngineState, Err, Finishes, FinishesWith, HeldAll, HeldUntil, IsBelow, LimitPair, Line, List, Ok, OnOk, Reading, Reads, Result, Rises, Scanned, Scanning, SinkLaw, Stays, [], ap, append-nil, append_assoc, arith, begun, begun_after, closed, contents, ended_line, exact_peaks, first_content, first_lines, first_of, flat_map, greatest, held_length, is_lenient, last_line, later_of, length, limits_of, lines, lines_of, map, max, peaks_of, raw, refl, sym, take, take_all, whole, with_sink, ℕ, ◌++◌, ◌+◌, ◌∙◌, ◌∷◌, ◌≡◌, ◌≤◌}
 use Rattle.cj_stream.proofs.FirstLemmas.{lines-front}
 use Rattle.cj_stream.proofs.FinishLemmas.{Finishes-concludes, contents-closed, contents-last, peaks-finished}
 use Rattle.cj_stream.proofs.GoodLemmas.{good-complete}

@@ -1,24 +1,7 @@
 -- What the good lines are where reading goes on after invalid ones, and where it does not.
-use Rattle.std.proofs.Common.{◌≡◌, ℕ, ◌+◌, ◌<◌, List, [], ◌∷◌, ◌++◌, Bool, true, false, cond, ltb, length, map, take, Option, Some, None, arith, refl, ap, length-append}
-use Rattle.std.specs.Prelude.{◌&&◌, ◌||◌, not, nat_lt, is_some, unwrap_or}
-use Rattle.std.specs.List.{list_all}
-use Rattle.std.proofs.lemmas.Bool.Decides.{nat_tests}
-use Rattle.std.specs.Str.{is_utf8}
-use Rattle.std.specs.Str.Lossy.{utf8_valid_len}
-use Rattle.cj_budget.specs.declared.limits.Peaks.{Peaks}
-use Rattle.cj_spans.specs.Meaning.Judgement.{Judgement, spelled, broken, sunk}
-use Rattle.cj_spans.specs.Meaning.Tree.{Tree}
+use Rattle.cj_stream.proofs.Common.{Blank, Bool, Complete, End, Invalid, IsExact, Judgement, Kept, LeftOut, Line, LineTooLong, List, None, NotUtf8, Option, Peaks, Refused, Rules, Some, Tree, Verdict, [], ap, arith, broken, cond, ending, ending_of, exact_peaks, false, goes_on, good, good_from, header_of, is_blank_byte, is_readable, is_some, is_spelled, is_utf8, later_of, length, length-append, lines, list_all, map, nat_lt, nat_tests, none-some, not, refl, refusal_from, refusal_in, refusal_of, reported, reported_from, reports_of, some-none, spelled, sunk, take, text_verdict, true, unwrap_or, utf8_valid_len, verdict, verdict_at, ℕ, ◌&&◌, ◌++◌, ◌+◌, ◌<◌, ◌∷◌, ◌≡◌}
+use Rattle.std.proofs.Common.{ltb, ◌||◌}
 use Rattle.cj_spans.proofs.Judgements.{judgement}
-use Rattle.cj_spans.specs.declared.reason.Reason.TheVariants.{LineTooLong, NotUtf8}
-use Rattle.cj_stream.specs.declared.ending.End.{End}
-use Rattle.cj_stream.specs.declared.ending.End.TheVariants.{Complete, Refused}
-use Rattle.cj_stream.specs.Bound.{is_spelled, is_readable, exact_peaks, IsExact}
-use Rattle.cj_stream.specs.Meaning.Lines.{Line, lines}
-use Rattle.cj_stream.specs.Lines.{later_of}
-use Rattle.cj_stream.specs.Meaning.Rules.{Rules}
-use Rattle.cj_stream.specs.Meaning.Verdict.{Verdict, Invalid, Blank, LeftOut, Kept, is_blank_byte}
-use Rattle.cj_stream.specs.Verdict.{verdict_at, text_verdict, verdict, header_of, goes_on, refusal_of, refusal_from, refusal_in, reports_of, good_from, good, reported_from, reported, ending, ending_of}
-use Rattle.cj_stream.proofs.Apart.{none-some, some-none}
 use Rattle.cj_stream.proofs.GoodLemmas.{good-all, complete-none}
 use Rattle.cj_stream.proofs.VerdictLemmas.{and-both, refusal-step}
 

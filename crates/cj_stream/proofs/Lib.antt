@@ -1,3 +1,4 @@
+pub mod Common
 pub mod AccountLemmas
 pub mod AgreeLemmas
 pub mod Apart

@@ -1,10 +1,6 @@
 -- The lines of a text that goes on.
-use Rattle.std.proofs.Common.{◌≡◌, ℕ, List, [], ◌∷◌, ◌++◌, Bool, true, false, eqb, cond, suc, ◌<◌, ◌≤◌, length, map, get_or, arith, refl, ap, ◌∙◌, length-append}
-use Rattle.std.proofs.lemmas.List.{append-nil}
-use Rattle.cj_stream.specs.Meaning.Bound.{of_first}
-use Rattle.cj_stream.specs.Meaning.Lines.{Line, ended_line, in_front, lines}
-use Rattle.cj_stream.specs.Lines.{closed, begun, begun_with, onto_first, first_of, first_content, last_line}
-use Rattle.cj_stream.specs.Lines.{begun_after, NoLf}
+use Rattle.cj_stream.proofs.Common.{Bool, Line, List, NoLf, [], ap, append-nil, arith, begun, begun_after, begun_with, closed, cond, ended_line, false, first_content, first_of, get_or, in_front, last_line, length, length-append, lines, map, of_first, onto_first, refl, suc, true, ℕ, ◌++◌, ◌<◌, ◌∙◌, ◌∷◌, ◌≡◌, ◌≤◌}
+use Rattle.std.proofs.Common.{eqb}
 
 -- a test that is not true is false
 pub not_true : (x : Bool) → ¬ (x ≡ true) → x ≡ false

@@ -1,26 +1,8 @@
 -- Pieces for a reader of lines, added up.
-use Rattle.std.proofs.Common.{◌≡◌, inl, inr, ℕ, ◌+◌, ◌≤◌, ◌⊎◌, List, [], ◌∷◌, ◌++◌, length, take, drop, map, Option, Some, None, refl, sym, ap, ◌∙◌, subst, arith, append_assoc}
-use Rattle.std.proofs.lemmas.List.{take-append-le}
-use Rattle.std.proofs.Math.Seq.{drop-append_seam}
-use Rattle.cj_budget.specs.declared.limits.Peaks.{Peaks}
-use Rattle.cj_stream.specs.declared.ending.End.{End}
-use Rattle.cj_stream.specs.declared.ending.End.TheVariants.{Complete, Refused, ReadFault, ReadLimit, WriteFault, Memory}
+use Rattle.cj_stream.proofs.Common.{Complete, Counts, Delivers, End, Ends, IsUnread, Item, LeavesNext, LineEnd, List, Memory, None, Option, Peaks, PutsPieces, ReadFault, ReadLimit, Refused, Rules, SinkLaw, Some, Took, TookFront, TookWhole, WriteFault, [], ap, append_assoc, arith, begun, closed, drop, drop-append_seam, ended_line, ending, given_after, good, in_pieces, inl, inr, item_after, joined, judged, kept, kept_first, kept_from, last_line, length, line_end, lines, map, prefixes, refl, refusal_in, stretch, subst, sym, take, take-append-le, whole, writes_law, ℕ, ◌++◌, ◌+◌, ◌∙◌, ◌∷◌, ◌≡◌, ◌≤◌, ◌⊎◌}
 use Rattle.cj_stream.specs.declared.line_pieces.LinesOutcome.{LinesOutcome}
-use Rattle.cj_stream.specs.declared.ending.LineEnd.{LineEnd}
 use Rattle.cj_stream.specs.declared.ending.LineEnd.TheVariants.{Complete as LineComplete, Refused as LineRefused, WriteFault as LineWriteFault}
-use Rattle.cj_stream.specs.Meaning.Lines.{ended_line, lines}
-use Rattle.cj_stream.specs.Lines.{joined, closed, begun, last_line, whole}
-use Rattle.cj_stream.specs.Cut.{IsUnread, PutsPieces, TookWhole, in_pieces, given_after}
-use Rattle.cj_stream.specs.Ending.{line_end}
-use Rattle.cj_stream.specs.Engine.{Counts, Delivers}
-use Rattle.cj_stream.specs.Items.{Item}
 use Rattle.cj_stream.specs.LinePieces.{kept_after, PutsLines, CopiesLines, later_pieces}
-use Rattle.cj_stream.specs.Run.{Ends}
-use Rattle.cj_stream.specs.Meaning.Outputs.{Took}
-use Rattle.cj_stream.specs.Sink.{LeavesNext, SinkLaw, TookFront, prefixes}
-use Rattle.cj_stream.specs.Meaning.Rules.{Rules}
-use Rattle.cj_stream.specs.Verdict.{refusal_in, judged, kept, kept_from, kept_first, ending, good, item_after, stretch}
-use Rattle.cj_stream.specs.Output.{writes_law}
 use Rattle.cj_stream.proofs.CutLemmas.{given-told}
 use Rattle.cj_stream.proofs.FirstLemmas.{first-either, first-good, first-same, first-split, first-whole}
 use Rattle.cj_stream.proofs.IsLinesLemmas.{lines-whole}

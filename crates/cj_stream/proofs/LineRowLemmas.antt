@@ -1,18 +1,8 @@
 -- Small texts with a blank line that is not empty, and with a header alone, computed.
-use Rattle.std.proofs.Common.{◌≡◌, [], ◌∷◌, ◌++◌, refl, lit≤}
-use Rattle.std.specs.Str.{is_utf8, chars}
-use Rattle.std.specs.Str.Lossy.{utf8_valid_len}
+use Rattle.cj_stream.proofs.Common.{Complete, Gives, Invalid, Kept, Line, Refused, Rules, Syntax, Tree, [], chars, ended_line, ending_of, is_utf8, lit≤, raw, refl, small_feature, small_header, utf8_valid_len, verdict, verdict_at, wide_rules, ◌++◌, ◌∷◌, ◌≡◌}
 use lib.Utf8.{encode}
-use Rattle.cj_spans.specs.declared.reason.Reason.TheVariants.{Syntax}
-use Rattle.cj_spans.specs.Meaning.Tree.{Tree}
 use Rattle.cj_spans.proofs.Judgements.{judgement, over, by_step, by_depth, sinks, at_end, by_end, text_of, no_end, ends_at}
-use Rattle.cj_stream.specs.declared.ending.End.TheVariants.{Complete, Refused}
-use Rattle.cj_stream.specs.Meaning.Lines.{Line, raw, ended_line}
 use Rattle.cj_stream.specs.LineRows.{TabRow, HeaderRow}
-use Rattle.cj_stream.specs.Rows.{small_header, small_feature, wide_rules, Gives}
-use Rattle.cj_stream.specs.Meaning.Rules.{Rules}
-use Rattle.cj_stream.specs.Meaning.Verdict.{Kept, Invalid}
-use Rattle.cj_stream.specs.Verdict.{verdict, verdict_at, ending_of}
 use Rattle.cj_stream.proofs.RowLemmas.{header_first, feature_third, blank-between, after_header, open_line, written}
 use Rattle.cj_stream.proofs.VerdictLemmas.{verdict-blank}
 

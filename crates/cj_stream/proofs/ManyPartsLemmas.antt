@@ -1,15 +1,6 @@
 -- A stream in any number of parts.
-use Rattle.std.proofs.Common.{◌≡◌, ℕ, ◌+◌, List, [], ◌∷◌, ◌++◌, suc, length, map, drop, arith, refl, sym, ap, ◌∙◌, append_assoc}
-use Rattle.std.specs.List.{flat_map}
-use Rattle.cj_stream.specs.declared.ending.End.TheVariants.{Complete}
-use Rattle.cj_stream.specs.Meaning.Lines.{raw, ended_line, lines}
-use Rattle.cj_stream.specs.Lines.{joined, closed, later_of, whole}
-use Rattle.cj_stream.specs.Items.{Item, raw_item}
-use Rattle.cj_stream.specs.Parts.{headed, IsCut, AreComplete, moved_end}
-use Rattle.cj_stream.specs.Meaning.Rules.{Rules}
-use Rattle.cj_stream.specs.Verdict.{item_after, kept_from, kept, output, ending}
+use Rattle.cj_stream.proofs.Common.{AreComplete, Complete, IsCut, Item, List, Rules, [], ap, append_assoc, arith, closed, drop, ended_line, ending, flat_map, flat_map-append, headed, item_after, joined, kept, kept_from, later_of, length, lines, map, moved_end, output, raw, raw_item, refl, suc, sym, whole, ℕ, ◌++◌, ◌+◌, ◌∙◌, ◌∷◌, ◌≡◌}
 use Rattle.cj_stream.proofs.AccountLemmas.{closed-parts}
-use Rattle.std.proofs.lemmas.Grind.{flat_map-append}
 use Rattle.cj_stream.proofs.PartsLemmas.{header-valid, front-good, back-kept, kept-first, kept-parts, ending-parts}
 use Rattle.cj_stream.proofs.ReadingLemmas.{map_lines-append}
 

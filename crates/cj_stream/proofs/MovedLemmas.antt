@@ -1,18 +1,7 @@
 -- What is said of lines behind a header does not hang on the lines between, but for the numbers.
-use Rattle.std.proofs.Common.{◌≡◌, ℕ, ◌+◌, ◌<◌, List, [], ◌∷◌, ◌++◌, Bool, true, false, cond, eqb, ltb, length, map, Option, Some, None, arith, refl, sym, ap, length-append}
-use Rattle.std.specs.Prelude.{is_some, option_map}
-use Rattle.std.proofs.lemmas.Bool.Decides.{nat_tests}
-use Rattle.std.proofs.lemmas.List.{map-append}
-use Rattle.cj_spans.specs.Meaning.Judgement.{Judgement, spelled, broken, sunk}
-use Rattle.cj_spans.specs.Meaning.Tree.{Tree}
+use Rattle.cj_stream.proofs.Common.{Blank, Bool, End, Invalid, Judgement, Kept, LeftOut, Line, List, None, Option, Refused, Rules, Some, Tree, Verdict, [], ap, arith, broken, cond, false, good_from, is_some, item_after, kept_from, length, length-append, map, map-append, moved_end, moved_report, nat_tests, option_map, refl, refusal_from, refusal_of, reported_from, reports_of, spelled, sunk, sym, text_verdict, true, verdict, verdict_at, ℕ, ◌++◌, ◌+◌, ◌<◌, ◌∷◌, ◌≡◌}
+use Rattle.std.proofs.Common.{eqb, ltb}
 use Rattle.cj_spans.proofs.Judgements.{judgement}
-use Rattle.cj_stream.specs.declared.ending.End.{End}
-use Rattle.cj_stream.specs.declared.ending.End.TheVariants.{Refused}
-use Rattle.cj_stream.specs.Meaning.Lines.{Line}
-use Rattle.cj_stream.specs.Parts.{moved_end, moved_report}
-use Rattle.cj_stream.specs.Meaning.Rules.{Rules}
-use Rattle.cj_stream.specs.Meaning.Verdict.{Verdict, Invalid, Blank, LeftOut, Kept}
-use Rattle.cj_stream.specs.Verdict.{verdict_at, text_verdict, verdict, item_after, refusal_of, reports_of, refusal_from, good_from, kept_from, reported_from}
 
 module _ (rules : Rules) where
   -- ---- one line

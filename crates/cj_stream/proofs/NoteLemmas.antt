@@ -1,29 +1,7 @@
 -- What a sink of reports has noted of a text, line by line and call by call.
-use Rattle.std.proofs.Common.{◌≡◌, ℕ, ◌+◌, ◌<◌, ◌≤◌, ◌⊎◌, inl, inr, zero, suc, List, [], ◌∷◌, ◌++◌, Bool, true, false, length, take, drop, map, Some, None, arith, refl, sym, ap, ◌∙◌, subst, append_assoc, length-append}
-use Rattle.std.specs.Prelude.{Result, Ok, Err, OnOk, OnErr}
-use Rattle.std.proofs.lemmas.List.{append-nil, take_all}
-use Rattle.std.proofs.Math.Seq.{drop-append_seam}
-use Rattle.cj_stream.specs.declared.ending.End.{End}
-use Rattle.cj_stream.specs.declared.ending.End.TheVariants.{Complete, Refused, ReadFault, ReadLimit, WriteFault, Memory}
-use Rattle.cj_stream.specs.declared.ending.LineEnd.{LineEnd}
+use Rattle.cj_stream.proofs.Common.{Blank, Bool, Collects, Complete, End, Ends, Err, Invalid, Item, JudgedAs, Kept, LeftOut, Line, LineEnd, List, Memory, NoLf, None, Notes, NotesPieces, NotesRun, Ok, OnErr, OnOk, Peaks, ReadFault, ReadLimit, Reading, Reads, Refused, Report, Result, Rules, Run, RunsNoting, Settles, SinkLaw, Some, Stores, Took, Verdict, WriteFault, [], ap, append-nil, append_assoc, arith, begun, closed, drop, drop-append_seam, ended_line, false, good, good_from, in_pieces, inl, inr, joined, judged, last_line, length, length-append, line_end, lines, map, refl, refusal_in, reported, reported_first, reported_from, reports_of, some-none, stream_of, stretch, subst, suc, sym, take, take_all, told_verdict, true, verdict, whole, with_sink, zero, ℕ, ◌++◌, ◌+◌, ◌<◌, ◌∙◌, ◌∷◌, ◌≡◌, ◌≤◌, ◌⊎◌}
 use Rattle.cj_stream.specs.declared.ending.LineEnd.TheVariants.{Complete as LineComplete, Refused as LineRefused, WriteFault as LineWriteFault}
-use Rattle.cj_budget.specs.declared.limits.Peaks.{Peaks}
-use Rattle.cj_stream.specs.declared.report_sink.Report.{Report}
-use Rattle.cj_stream.specs.Meaning.Lines.{Line, ended_line, lines}
-use Rattle.cj_stream.specs.Lines.{joined, closed, begun, last_line, NoLf, whole}
-use Rattle.cj_stream.specs.Cut.{in_pieces}
-use Rattle.cj_stream.specs.Ending.{line_end}
-use Rattle.cj_stream.specs.Items.{Item}
 use Rattle.cj_stream.specs.LinePieces.{reported_after, NotesLines, later_pieces}
-use Rattle.cj_stream.specs.Reading.{Reading, told_verdict, Stores, Settles, Reads, JudgedAs}
-use Rattle.cj_stream.specs.ReportSink.{Collects, Notes, NotesRun, NotesPieces}
-use Rattle.cj_stream.specs.Run.{Run, Ends, RunsNoting}
-use Rattle.cj_stream.specs.Meaning.Outputs.{Took}
-use Rattle.cj_stream.specs.Sink.{SinkLaw, with_sink}
-use Rattle.cj_stream.specs.Meaning.Rules.{Rules}
-use Rattle.cj_stream.specs.Meaning.Verdict.{Verdict, Invalid, Blank, LeftOut, Kept}
-use Rattle.cj_stream.specs.Verdict.{verdict, refusal_in, judged, good, good_from, reports_of, reported_from, reported, reported_first, stretch, stream_of}
-use Rattle.cj_stream.proofs.Apart.{some-none}
 use Rattle.cj_stream.proofs.CutLemmas.{given-told}
 use Rattle.cj_stream.proofs.EngineLemmas.{Counts-front}
 use Rattle.cj_stream.proofs.FirstLemmas.{lines-front, first-either, first-good, first-same, first-split, first-whole}

@@ -1,20 +1,5 @@
 -- How runs over two parts went, as one: with counts that stop at the greatest u64.
-use Rattle.std.proofs.Common.{◌≡◌, ℕ, ◌+◌, ◌-◌, ◌^◌, ◌<◌, ◌≤◌, List, [], ◌∷◌, ◌++◌, Bool, true, false, cond, length, take, arith, refl, sym, ap, ◌∙◌, subst, length-append}
-use Rattle.std.specs.List.{filter}
-use Rattle.std.proofs.lemmas.List.{length-take}
-use Rattle.cj_budget.specs.declared.limits.Peaks.{Peaks}
-use Rattle.cj_stream.specs.declared.ending.End.{End}
-use Rattle.cj_stream.specs.declared.ending.End.TheVariants.{Complete, Refused, ReadFault, ReadLimit, WriteFault, Memory}
-use Rattle.cj_stream.specs.declared.running.Outcome.{Outcome}
-use Rattle.cj_stream.specs.Engine.{Counts}
-use Rattle.cj_stream.specs.Items.{is_feature}
-use Rattle.cj_stream.specs.Meaning.Lines.{Line, lines}
-use Rattle.cj_stream.specs.Parts.{headed, IsCut, moved_end, capped_end, both_outcomes, capped_outcome}
-use Rattle.cj_stream.specs.Run.{Ends, Account}
-use Rattle.cj_stream.specs.Tallied.{capped}
-use Rattle.cj_stream.specs.Meaning.Rules.{Rules}
-use Rattle.cj_stream.specs.Meaning.Verdict.{Verdict, Invalid, Blank, LeftOut, Kept}
-use Rattle.cj_stream.specs.Verdict.{verdict, item_after, is_kept, reports_of, kept_from, reported_from}
+use Rattle.cj_stream.proofs.Common.{Account, Blank, Bool, Complete, Counts, End, Ends, Invalid, IsCut, Kept, LeftOut, Line, List, Memory, Outcome, Peaks, ReadFault, ReadLimit, Refused, Rules, Verdict, WriteFault, [], ap, arith, both_outcomes, capped, capped_end, capped_outcome, cond, false, filter, headed, is_feature, is_kept, item_after, kept_from, length, length-append, length-take, lines, moved_end, refl, reported_from, reports_of, subst, sym, take, true, verdict, ℕ, ◌++◌, ◌+◌, ◌-◌, ◌<◌, ◌^◌, ◌∙◌, ◌∷◌, ◌≡◌, ◌≤◌}
 use Rattle.cj_stream.proofs.GoodLemmas.{good-refused}
 use Rattle.cj_stream.proofs.PartsLemmas.{front-good}
 use Rattle.cj_stream.proofs.AccountLemmas.{run_over, Account-joined}

@@ -1,23 +1,6 @@
 -- The bytes that a writer gets in a run.
-use Rattle.std.proofs.Common.{◌≡◌, ℕ, List, [], ◌∷◌, ◌++◌, true, length, take, drop, Option, Some, None, refl, sym, ap, ◌∙◌}
-use Rattle.std.specs.Prelude.{slice_get}
-use Rattle.std.specs.List.{flat_map}
-use Rattle.std.proofs.lemmas.List.{append-nil}
-use Rattle.std.specs.Io.KnownBytes.{Appends, Keeps}
-use Rattle.cj_stream.specs.declared.ending.End.{End}
-use Rattle.cj_stream.specs.declared.ending.End.TheVariants.{Complete, Refused, ReadFault, ReadLimit, WriteFault, Memory}
-use Rattle.cj_stream.specs.Meaning.Lines.{Line, lines}
-use Rattle.cj_stream.specs.Lines.{whole}
-use Rattle.cj_stream.specs.Items.{Item, raw_item}
-use Rattle.cj_stream.specs.Meaning.Rules.{Rules}
-use Rattle.cj_stream.specs.Verdict.{verdict, is_kept, refusal_in, good, good_from, kept_from, kept, kept_first, item_after, output_first, stretch, up_to, stream_of}
-use Rattle.cj_stream.specs.Engine.{Counts, Delivers}
-use Rattle.cj_stream.specs.Cut.{AppendsMore}
-use Rattle.cj_stream.specs.Run.{Run, Account, Ends, Puts, Runs, Writes, WritesLines}
-use Rattle.cj_stream.specs.Meaning.Outputs.{Took}
-use Rattle.cj_stream.specs.Sink.{TookFront, LeavesNext, AppendsPart, SinkLaw, prefixes}
-use Rattle.cj_stream.specs.Output.{writes_law}
-use Rattle.std.proofs.lemmas.Grind.{flat_map-append}
+use Rattle.cj_stream.proofs.Common.{Account, Appends, AppendsMore, AppendsPart, Complete, Counts, Delivers, End, Ends, Item, Keeps, LeavesNext, Line, List, Memory, None, Option, Puts, ReadFault, ReadLimit, Refused, Rules, Run, SinkLaw, Some, Took, TookFront, WriteFault, [], ap, append-nil, drop, flat_map, flat_map-append, good, good_from, is_kept, item_after, kept, kept_first, kept_from, length, lines, output_first, prefixes, raw_item, refl, refusal_in, slice_get, stream_of, stretch, sym, take, true, up_to, verdict, whole, writes_law, ℕ, ◌++◌, ◌∙◌, ◌∷◌, ◌≡◌}
+use Rattle.cj_stream.specs.Run.{Runs, Writes, WritesLines}
 use Rattle.cj_stream.proofs.FirstLemmas.{first-good, first-whole, first-split}
 use Rattle.cj_stream.proofs.GoodLemmas.{drop-next, kept-head}
 use Rattle.cj_stream.proofs.VerdictLemmas.{kept-append}

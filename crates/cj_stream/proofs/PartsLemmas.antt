@@ -1,35 +1,10 @@
 -- A stream in parts: its lines, and what is said of them.
-use Rattle.std.proofs.Common.{◌≡◌, ℕ, ◌+◌, List, [], ◌∷◌, ◌++◌, Bool, true, false, cond, ltb, length, map, max, Option, Some, None, arith, refl, sym, ap, ◌∙◌, append_assoc, length-append}
-use Rattle.std.specs.Prelude.{not, ◌&&◌, option_map, unwrap_or}
-use Rattle.std.specs.List.{filter, flat_map, list_all}
-use Rattle.std.specs.Str.{is_utf8}
-use Rattle.std.specs.Str.Lossy.{utf8_valid_len}
-use Rattle.std.proofs.lemmas.List.{append-nil, map-append, length-map}
-use Rattle.std.proofs.lemmas.List.Elements.{filter-append}
-use Rattle.cj_budget.specs.Meaning.Limits.{LimitPair}
-use Rattle.cj_budget.specs.declared.limits.Peaks.{Peaks}
-use Rattle.cj_spans.specs.declared.finding.Finding.{Finding}
-use Rattle.cj_spans.specs.declared.reason.Reason.TheVariants.{LineTooLong, NotUtf8}
-use Rattle.cj_spans.specs.Meaning.Finding.{least}
-use Rattle.cj_spans.specs.Meaning.Judgement.{Judgement, spelled, broken, sunk}
-use Rattle.cj_spans.specs.Meaning.Tree.{Tree}
+use Rattle.cj_stream.proofs.Common.{Blank, Bool, Complete, End, Finding, Invalid, IsCut, Judgement, Kept, LeftOut, LimitPair, Line, LineTooLong, List, NoLf, None, NotUtf8, Option, Peaks, Refused, Rules, Some, Tree, Verdict, [], ap, append-nil, append_assoc, arith, begun, broken, by_least, closed, cond, contents, ended_line, ending, ending_of, exact_peaks, false, filter, filter-append, findings, first_content, flat_map, flat_map-append, good, good_from, greater_peaks, greatest, headed, held_length, is_blank_byte, is_feature, is_utf8, item_after, kept, kept_from, later_of, least, length, length-append, length-map, lines, list_all, map, map-append, max, moved_end, moved_report, not, option_map, output, raw_item, refl, refusal_from, refusal_in, refusal_of, reported, reported_from, some-none, spelled, sunk, sym, text_verdict, tree_nest, tree_size, true, unwrap_or, utf8_valid_len, verdict, verdict_at, whole, ℕ, ◌&&◌, ◌++◌, ◌+◌, ◌∙◌, ◌∷◌, ◌≡◌}
+use Rattle.std.proofs.Common.{ltb}
 use Rattle.cj_spans.proofs.Judgements.{judgement}
-use Rattle.cj_stream.specs.declared.ending.End.{End}
-use Rattle.cj_stream.specs.declared.ending.End.TheVariants.{Complete, Refused}
-use Rattle.cj_stream.specs.Bound.{exact_peaks, contents, held_length, tree_size, tree_nest}
-use Rattle.cj_stream.specs.Meaning.Bound.{greatest}
-use Rattle.cj_stream.specs.Items.{raw_item, is_feature}
-use Rattle.cj_stream.specs.Meaning.Lines.{Line, ended_line, lines}
-use Rattle.cj_stream.specs.Lines.{closed, begun, later_of, first_content, NoLf, whole}
-use Rattle.cj_stream.specs.Parts.{headed, IsCut, moved_end, moved_report, greater_peaks}
-use Rattle.cj_stream.specs.Meaning.Rules.{Rules}
-use Rattle.cj_stream.specs.Meaning.Verdict.{Verdict, Invalid, Blank, LeftOut, Kept, is_blank_byte}
-use Rattle.cj_stream.specs.Verdict.{by_least, verdict_at, text_verdict, verdict, findings, item_after, refusal_of, refusal_from, refusal_in, good_from, good, kept_from, kept, reported_from, reported, output, ending, ending_of}
-use Rattle.cj_stream.proofs.Apart.{some-none}
 use Rattle.cj_stream.proofs.CutLemmas.{lines-more, good-stays}
 use Rattle.cj_stream.proofs.EngineLemmas.{same-peaks}
 use Rattle.cj_stream.proofs.GoodLemmas.{good-append, good-all, complete-none, ending-refused}
-use Rattle.std.proofs.lemmas.Grind.{flat_map-append}
 use Rattle.cj_stream.proofs.IsLinesLemmas.{lines-ended, whole-begun}
 use Rattle.cj_stream.proofs.LineLemmas.{closed-ended, begun-ended, lines-cut, none-from_length}
 use Rattle.cj_stream.proofs.MovedLemmas.{refusal-moved, good-moved, kept-moved, reported-moved}

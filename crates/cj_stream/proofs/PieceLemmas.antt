@@ -1,22 +1,7 @@
 -- How a framer advances over a piece, and where it stops.
-use Rattle.std.proofs.Common.{◌≡◌, ℕ, ◌+◌, ◌<◌, inl, inr, List, [], ◌∷◌, ◌++◌, Bool, true, false, ltb, length, map, Some, None, Result, Ok, Err, arith, refl, sym, ap, ◌∙◌, subst, append_assoc, length-append}
-use Rattle.std.specs.Prelude.{if◌then◌else◌, slice_get}
-use Rattle.std.proofs.lemmas.List.{append-nil}
-use Rattle.std.proofs.lemmas.Bool.Decides.{nat_tests}
-use Rattle.cj_budget.specs.Meaning.Limits.{LimitPair}
-use Rattle.cj_spans.specs.declared.reason.Reason.{Reason}
-use Rattle.cj_spans.specs.declared.reason.Reason.TheVariants.{LineTooLong}
-use Rattle.cj_stream.specs.declared.ending.End.{End}
-use Rattle.cj_stream.specs.declared.ending.End.TheVariants.{Refused, WriteFault, Memory}
-use Rattle.cj_stream.specs.Meaning.Lines.{lines, ended_line}
-use Rattle.cj_stream.specs.Lines.{closed, begun, NoLf}
-use Rattle.cj_stream.specs.Items.{Item}
-use Rattle.cj_stream.specs.Meaning.Rules.{Rules}
-use Rattle.cj_stream.specs.Meaning.Verdict.{Verdict, Invalid, Blank, LeftOut, Kept}
-use Rattle.cj_stream.specs.Verdict.{verdict, item_after, refusal_of, is_kept, long_line}
-use Rattle.cj_stream.specs.Reading.{Reading, begun_of, told_verdict, next_verdict, is_lenient, IsBegun, IsLeft, Unstored, Stores, Passes, Refuses, Deals, Settles, Reads, kept_closed, Advances, IsNext, HasCause, Stops, further, JudgedAs, judged_next, stop_at}
-use Rattle.cj_stream.specs.Meaning.Outputs.{Took}
-use Rattle.cj_stream.specs.Sink.{SinkLaw, with_sink, TookMore}
+use Rattle.cj_stream.proofs.Common.{Blank, Bool, Deals, End, Err, Invalid, IsLeft, Item, JudgedAs, Kept, LeftOut, LimitPair, LineTooLong, List, Memory, NoLf, None, Ok, Passes, Reading, Reads, Reason, Refused, Refuses, Result, Rules, Settles, SinkLaw, Some, Stops, Stores, Took, TookMore, Unstored, Verdict, WriteFault, [], ap, append-nil, append_assoc, arith, begun, begun_of, closed, ended_line, false, further, if◌then◌else◌, inl, inr, is_kept, is_lenient, item_after, judged_next, length, length-append, lines, long_line, map, nat_tests, next_verdict, refl, refusal_of, slice_get, subst, sym, told_verdict, true, verdict, with_sink, ℕ, ◌++◌, ◌+◌, ◌<◌, ◌∙◌, ◌∷◌, ◌≡◌}
+use Rattle.std.proofs.Common.{ltb}
+use Rattle.cj_stream.specs.Reading.{IsBegun, kept_closed, Advances, IsNext, HasCause, stop_at}
 use Rattle.cj_stream.proofs.LineLemmas.{closed-more, begun-more, closed-lf, begun-lf, none-from_length}
 use Rattle.cj_stream.proofs.VerdictLemmas.{verdict-long}
 use Rattle.cj_stream.proofs.ReadingLemmas.{left-same, strict-first, Reads-left, Reads-stored, Reads-passed, is_refused, held-whole, dropped-long, told-verdict, next-verdict, next-item, kept_closed-lf, map_lines-append}

@@ -1,8 +1,5 @@
 -- A piece, cut where a search finds an LF.
-use Rattle.std.proofs.Common.{◌≡◌, ℕ, ◌+◌, ◌-◌, ◌<◌, suc, List, [], ◌∷◌, ◌++◌, length, take, drop, get_or, Option, Some, None, arith, sym, ap, ◌∙◌, append_assoc, length-take, length-drop, drop-cons, add-one, refl}
-use Rattle.std.proofs.lemmas.List.{get_or-take, take-append-drop, take_all}
-use Rattle.std.proofs.Math.Seq.{take-suc}
-use Rattle.std.proofs.lemmas.Bool.{eqb-true}
+use Rattle.std.proofs.Common.{◌≡◌, ℕ, ◌+◌, ◌-◌, ◌<◌, suc, List, [], ◌∷◌, ◌++◌, length, take, drop, get_or, Option, Some, None, arith, sym, ap, ◌∙◌, append_assoc, length-take, length-drop, drop-cons, add-one, refl, get_or-take, take-append-drop, take_all, take-suc, eqb-true}
 use Rattle.memchr.specs.Find.{IsFirstByte, is_byte}
 use Rattle.cj_stream.specs.Lines.{NoLf}
 use Rattle.cj_stream.proofs.LineLemmas.{NoLf-from_places}

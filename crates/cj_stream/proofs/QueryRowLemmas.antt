@@ -1,19 +1,10 @@
 -- Which small features satisfy what is asked, computed.
-use Rattle.std.proofs.Common.{◌≡◌, List, [], ◌∷◌, Bool, Option, Some, None, ℤ, ℕ, pos, refl}
-use Rattle.std.specs.Prelude.{◌^◌, ◌&&◌, codes, int_le, get_or}
-use Rattle.std.specs.List.{list_any}
-use Rattle.std.specs.Str.{chars}
+use Rattle.cj_stream.proofs.Common.{Bool, Box, List, None, Option, Some, Tree, [], chars, code_points_after, codes, coordinate_by, first_code_point, first_width, get_or, holds, int_le, list_any, pos, refl, text, there_is, units_at, vertices_of, ℕ, ℤ, ◌&&◌, ◌^◌, ◌∷◌, ◌≡◌}
 use lib.Utf8.{encode}
 use Rattle.cj_decimal.specs.Meaning.Decimal.{decimal_of}
-use Rattle.cj_decimal.specs.Meaning.Reading.{digits_front, digits_rest, begins, begins_digit, is_empty, body, is_int}
-use Rattle.cj_decimal.specs.Meaning.Reading.{is_frac, frac_digits, after_frac, exp_digits, is_whole_digits, is_exp}
-use Rattle.cj_decimal.specs.Meaning.Reading.{exp_value}
-use Rattle.cj_spans.specs.Meaning.Text.{text, code_points_after, first_code_point, first_width}
-use Rattle.cj_spans.specs.Meaning.Tree.{Tree}
+use Rattle.cj_decimal.specs.Meaning.Reading.{digits_front, digits_rest, begins, begins_digit, is_empty, body, is_int, is_frac, frac_digits, after_frac, exp_digits, is_whole_digits, is_exp, exp_value}
 use Rattle.cj_geometry.specs.Meaning.ObjectTypes.{object_types}
 use Rattle.cj_geometry.proofs.Digits.{whole-zero, whole-one}
-use Rattle.cj_feature.specs.Meaning.Transform.{units_at}
-use Rattle.cj_stream.specs.Meaning.Criteria.{Box, coordinate_by, holds, there_is, vertices_of}
 use Rattle.cj_stream.specs.QueryRows.{plain_header, two_objects, one_instance, boxed, IdRows, TypeRows, LodRows, InstanceRows, InBoxRows, OutOfBoxRows, EachPartRows, ExtensionRows, NameRows, MemoryRows}
 
 pub ids : IdRows

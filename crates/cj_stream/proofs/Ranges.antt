@@ -1,17 +1,9 @@
 -- Ranges that are widened.
-use Rattle.std.proofs.Common.{◌≡◌, ℕ, ◌≤◌, List, [], ◌∷◌, ◌++◌, Option, Some, None, sym, ap, subst, refl, ◌∙◌, arith, append_assoc, ℤ, ◌≤ℤ◌, inl, inr, Bool, true, false, cond, get_or, length, map, pos, zero, suc, ◌+◌, ◌<◌}
-use Rattle.std.specs.Prelude.{All, Contains, IsTrue, ◌⊎◌, ◌-◌, ◌^◌, int_lt, min, max}
+use Rattle.cj_stream.proofs.Common.{All, All-append, All-cons, All-nil, AreWordsOf, Bool, Contains, IsRange, IsTrue, IsWordOf, List, None, Option, Some, TakesNumber, Widens, WidensFront, [], ap, append-nil, append_assoc, arith, cases_lt, cond, false, false≢true, get_or, inl, inr, int_lt, ints, length, map, max, min, number_on, pos, refl, subst, suc, sym, true, wider, zero, ℕ, ℤ, ◌++◌, ◌+◌, ◌-◌, ◌<◌, ◌^◌, ◌∙◌, ◌∷◌, ◌≡◌, ◌≤ℤ◌, ◌≤◌, ◌⊎◌}
 use Rattle.std.specs.Int.{int_min, int_max}
-use Rattle.std.proofs.lemmas.Int.{ints}
-use Rattle.std.proofs.lemmas.Bool.{cases_lt, false≢true}
-use Rattle.std.proofs.lemmas.List.{append-nil}
-use Rattle.std.proofs.lemmas.List.Elements.{All-nil, All-cons, All-append, All-contains, All-contains_itself, All-weaker, Contains-append_cases, Contains-append_left, Contains-append_right, Contains-push}
-use Rattle.cj_decimal.specs.Word.{IsWordOf}
+use Rattle.std.proofs.lemmas.List.Elements.{All-contains, All-contains_itself, All-weaker, Contains-append_cases, Contains-append_left, Contains-append_right, Contains-push}
 use Rattle.cj_decimal.proofs.Below.{words_in_order, word_room, word_zero}
-use Rattle.cj_feature.specs.Axes.{number_on}
-use Rattle.cj_stream.specs.Parts.{wider, WidensFront}
-use Rattle.cj_stream.specs.Tallied.{IsRange}
-use Rattle.cj_stream.specs.TallySink.{AreWordsOf, RangesFront, TakesNumber, TakesSome, Widens}
+use Rattle.cj_stream.specs.TallySink.{RangesFront, TakesSome}
 
 -- not below one number and not above another
 abbrev Within : ℤ → ℤ → ℤ → Type 0

@@ -1,25 +1,7 @@
 -- What a framer has read after it stored a part, and after it dealt with a line.
-use Rattle.std.proofs.Common.{◌≡◌, ℕ, ◌+◌, ◌<◌, ◌≤◌, ◌⊎◌, inl, inr, max, zero, suc, List, [], ◌∷◌, ◌++◌, Bool, true, false, cond, eqb, ltb, length, map, None, arith, refl, sym, ap, ◌∙◌, append_assoc, length-append}
-use Rattle.std.specs.Prelude.{◌&&◌, nat_lt, if◌then◌else◌}
-use Rattle.std.proofs.lemmas.List.{append-nil, length-map, map-append}
-use Rattle.std.proofs.lemmas.List.Elements.{filter-append}
-use Rattle.std.proofs.lemmas.Bool.{ltb-true}
-use Rattle.std.proofs.lemmas.Bool.Decides.{nat_tests}
-use Rattle.cj_budget.specs.Bounded.{IsWithin}
-use Rattle.cj_budget.specs.Meaning.Limits.{LimitPair}
-use Rattle.cj_spans.specs.declared.reason.Reason.TheVariants.{LineTooLong}
-use Rattle.cj_stream.specs.Meaning.Lines.{Line, ended_line}
-use Rattle.cj_stream.specs.Lines.{closed, begun, first_of, first_content, later_of, begun_after, begun_later, NoLf}
-use Rattle.std.specs.List.{filter}
-use Rattle.cj_spans.specs.Meaning.Tree.{Tree}
-use Rattle.cj_stream.specs.Items.{Item, is_feature}
-use Rattle.cj_stream.specs.Item.{item_at}
-use Rattle.cj_stream.specs.Meaning.Rules.{Rules}
-use Rattle.cj_stream.specs.Meaning.Verdict.{Verdict, Invalid, Blank, LeftOut, Kept}
-use Rattle.cj_stream.specs.Verdict.{verdict_at, verdict, header_of, item_after, goes_on, refusal_of, reports_of, is_kept, kept_from, reported_from}
-use Rattle.cj_stream.specs.Meaning.Bound.{greatest}
-use Rattle.cj_stream.specs.Bound.{held_length}
-use Rattle.cj_stream.specs.Reading.{Reading, begun_of, told_verdict, held_header, next_verdict, next_item, is_lenient, stored, IsBegun, IsLeft, Fits, Drops, StaysDropped, Stores, Passes, Reads, kept_closed}
+use Rattle.cj_stream.proofs.Common.{Blank, Bool, Invalid, IsLeft, IsWithin, Item, Kept, LeftOut, LimitPair, Line, LineTooLong, List, NoLf, None, Passes, Reading, Reads, Rules, Stores, Tree, Verdict, [], ap, append-nil, append_assoc, arith, begun, begun_after, begun_later, begun_of, closed, cond, ended_line, false, filter, filter-append, first_content, first_of, goes_on, greatest, header_of, held_length, if◌then◌else◌, inl, inr, is_feature, is_kept, is_lenient, item_after, item_at, kept_from, later_of, length, length-append, length-map, map, map-append, max, nat_lt, nat_tests, next_item, next_verdict, refl, refusal_of, reported_from, reports_of, suc, sym, told_verdict, true, verdict, verdict_at, zero, ℕ, ◌&&◌, ◌++◌, ◌+◌, ◌<◌, ◌∙◌, ◌∷◌, ◌≡◌, ◌≤◌, ◌⊎◌}
+use Rattle.std.proofs.Common.{eqb, ltb, ltb-true}
+use Rattle.cj_stream.specs.Reading.{held_header, stored, IsBegun, Fits, Drops, StaysDropped, kept_closed}
 use Rattle.cj_stream.proofs.LineLemmas.{closed-more, begun-more, closed-lf, begun-lf, first_of-some, first_of-lf, begun_after-some, begun_after-empty, none-from_length}
 use Rattle.cj_stream.proofs.VerdictLemmas.{verdict-first, verdict-long, before-more, refusal-append, kept-append}
 

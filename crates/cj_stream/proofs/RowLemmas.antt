@@ -1,37 +1,16 @@
 -- Worked rows: the trees of their lines, the verdicts, and what comes of them.
-use Rattle.std.proofs.Common.{true, ◌≡◌, ℕ, ◌≤◌, List, [], ◌∷◌, ◌++◌, length, false, Some, refl, sym, ap, subst, ◌∙◌, lit≤, lit<}
-use Rattle.std.specs.Prelude.{IsUtf8, ◌&&◌, nat_lt, codes, take, replicate}
-use Rattle.std.specs.List.{flat_map, list_all}
-use Rattle.std.specs.Str.{is_utf8, chars}
-use Rattle.std.proofs.lemmas.Str.{IsUtf8-from_is_utf8}
-use Rattle.std.specs.Str.Lossy.{utf8_valid_len}
+use Rattle.cj_stream.proofs.Common.{Blank, Complete, Gives, IdNotFound, Invalid, IsUtf8, IsUtf8-from_is_utf8, Json, Judgement, Kept, Line, LineTooLong, List, MissingMember, NotUtf8, Reason, Refused, Rules, Some, Syntax, Token, TooDeep, Tree, [], ap, broken, by_least, chars, codes, ended_line, ending_of, false, flat_map, forest, goes_on, good_from, holds, is_blank_byte, is_kept_if_valid, is_utf8, judged_tree, kept_from, length, list_all, lit<, lit≤, nat_lt, nest, other_id, plain_header, raw, raw_item, refl, replicate, small_feature, small_header, spelled, subst, sunk, sym, take, text_verdict, tight_rules, tree_of, tree_verdict, true, utf8_valid_len, verdict, verdict_at, wide_rules, ℕ, ◌&&◌, ◌++◌, ◌∙◌, ◌∷◌, ◌≡◌, ◌≤◌}
 use lib.Utf8.{encode}
-use Rattle.cj_spans.specs.declared.reason.Reason.{Reason}
-use Rattle.cj_spans.specs.declared.reason.Reason.TheVariants.{LineTooLong, NotUtf8, Syntax, TooDeep, MissingMember, IdNotFound}
 use Rattle.cj_spans.specs.declared.step.Mode.TheVariants.{After}
-use Rattle.cj_spans.specs.declared.token.Token.{Token}
-use Rattle.cj_spans.specs.Forest.{forest}
-use Rattle.cj_spans.specs.Meaning.Json.{Json}
-use Rattle.cj_spans.specs.Meaning.Judgement.{Judgement, spelled, broken, sunk}
 use Rattle.cj_spans.specs.inner.Machine.{State, state, between, settle}
 use Rattle.cj_spans.specs.Preorder.{preorder, spans_of}
-use Rattle.cj_spans.specs.Meaning.Tree.{Tree, nest}
 use Rattle.cj_spans.proofs.Forests.{json_shown}
 use Rattle.cj_spans.proofs.Judgements.{judgement, over, by_step, by_depth, sinks, at_end, by_end, text_of, no_end, ends_at, say_same}
 use Rattle.cj_spans.proofs.Lists.{spans_of-flatten}
 use Rattle.cj_spans.proofs.WorkedLines.{after, spells_end}
-use Rattle.cj_feature.specs.Examples.{plain_header, other_id}
 use Rattle.cj_feature.proofs.Worked.{plain_feature, euro_feature as euro_tree, euro_feature-valid, plain_header-valid, plain_feature-valid, other_id-refused, feature-no_header, header-no_feature}
-use Rattle.cj_stream.specs.declared.ending.End.TheVariants.{Complete, Refused}
-use Rattle.cj_stream.specs.Items.{raw_item}
-use Rattle.cj_stream.specs.Item.{judged_tree, tree_of}
-use Rattle.cj_stream.specs.Meaning.Lines.{Line, raw, ended_line}
-use Rattle.cj_stream.specs.Rows.{small_header, small_feature, lost_feature, euro_feature, wide_rules, tight_rules, Gives, WholeRow, BlankRow, OrderRow, BadRow, LongRow}
-use Rattle.cj_stream.specs.Meaning.Criteria.{holds}
+use Rattle.cj_stream.specs.Rows.{lost_feature, euro_feature, WholeRow, BlankRow, OrderRow, BadRow, LongRow}
 use Rattle.cj_stream.specs.Usual.{everything, usual_options}
-use Rattle.cj_stream.specs.Meaning.Rules.{Rules}
-use Rattle.cj_stream.specs.Verdict.{goes_on, is_kept_if_valid, verdict, verdict_at, text_verdict, by_least, tree_verdict, ending_of, good_from, kept_from}
-use Rattle.cj_stream.specs.Meaning.Verdict.{Invalid, Blank, Kept, is_blank_byte}
 use Rattle.cj_stream.proofs.VerdictLemmas.{verdict-long, verdict-json, verdict-blank, tree-valid}
 
 -- ---- trees

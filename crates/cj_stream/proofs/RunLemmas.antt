@@ -1,22 +1,8 @@
 -- How the calls of a run add up.
-use Rattle.std.proofs.Common.{◌≡◌, inl, inr, ℕ, zero, suc, ◌+◌, ◌-◌, ◌⊎◌, ◌<◌, ◌≤◌, List, [], ◌∷◌, ◌++◌, Bool, true, false, cond, ltb, length, Option, Some, None, refl, sym, ap, ◌∙◌, subst, append_assoc, length-append, arith}
-use Rattle.std.specs.Prelude.{◌≢◌, is_some, IfSome}
-use Rattle.std.proofs.lemmas.List.{append-nil}
-use Rattle.std.specs.Io.KnownBytes.{Consumes, Keeps}
-use Rattle.cj_stream.specs.declared.ending.End.{End}
-use Rattle.cj_stream.specs.declared.ending.End.TheVariants.{Complete, Refused, ReadFault, ReadLimit, WriteFault, Memory}
-use Rattle.cj_stream.specs.Meaning.Lines.{Line, lines}
-use Rattle.cj_stream.specs.Lines.{closed, last_line, whole}
-use Rattle.cj_stream.specs.Meaning.Rules.{Rules}
-use Rattle.cj_stream.specs.Verdict.{verdict, refusal_of, refusal_in, refusal_from, judged, ending, ending_of, kept_first, stretch, up_to}
-use Rattle.cj_stream.specs.Engine.{EngineState, EngineFailsToGrow, HasFailedToGrow, StandsFor, Counts, Delivers, Faults, Concludes, Tells, rules_of, limits_of, lines_of, peaks_of}
-use Rattle.cj_stream.specs.Reading.{Reading, Reads}
-use Rattle.cj_stream.specs.Run.{Run, Ends, Gave, HeldBegun, IsLastRead, IsReadWithin, LacksRoom, Runs, StopsInTime, outcome_of}
-use Rattle.cj_stream.specs.Bound.{IsBelow, exact_peaks, first_lines}
-use Rattle.cj_stream.specs.Scanning.{Scanned}
-use Rattle.cj_stream.specs.Sink.{HasRisen, SinkLaw}
-use Rattle.cj_stream.specs.Meaning.Outputs.{Took}
-use Rattle.cj_stream.specs.Cut.{IsUnread}
+use Rattle.cj_stream.proofs.Common.{Bool, Complete, Concludes, Consumes, Counts, Delivers, End, Ends, EngineState, Faults, HasRisen, IfSome, IsBelow, IsUnread, Keeps, Line, List, Memory, None, Option, ReadFault, ReadLimit, Reading, Reads, Refused, Rules, Run, Scanned, SinkLaw, Some, StandsFor, Tells, Took, WriteFault, [], ap, append-nil, append_assoc, arith, closed, cond, ending, ending_of, exact_peaks, false, first_lines, inl, inr, is_some, judged, kept_first, last_line, length, length-append, limits_of, lines, lines_of, none-some, outcome_of, peaks_of, refl, refusal_from, refusal_in, refusal_of, rules_of, stretch, subst, suc, sym, true, up_to, verdict, whole, zero, ℕ, ◌++◌, ◌+◌, ◌-◌, ◌<◌, ◌∙◌, ◌∷◌, ◌≡◌, ◌≤◌, ◌⊎◌}
+use Rattle.std.proofs.Common.{ltb, ◌≢◌}
+use Rattle.cj_stream.specs.Engine.{EngineFailsToGrow, HasFailedToGrow}
+use Rattle.cj_stream.specs.Run.{Gave, HeldBegun, IsLastRead, IsReadWithin, LacksRoom, Runs, StopsInTime}
 use Rattle.cj_stream.proofs.PieceLemmas.{Took-append}
 use Rattle.cj_stream.proofs.EngineLemmas.{begun-good, judged-front}
 use Rattle.cj_stream.proofs.ReadingLemmas.{length-map_lines, zero_or}
@@ -25,7 +11,6 @@ use Rattle.cj_stream.proofs.GoodLemmas.{good-refused, ending-refused}
 use Rattle.cj_stream.proofs.LeastLemmas.{held-scanned, least-read}
 use Rattle.cj_stream.proofs.OutputLemmas.{Runs-told}
 pub use Rattle.cj_stream.proofs.OutputLemmas.{memory-sink}
-use Rattle.cj_stream.proofs.Apart.{none-some}
 
 pub Consumes-then : (a b c : Option (List ℕ)) (x y : List ℕ) → Consumes a b x → Consumes b c y → Consumes a c (x ++ y)
 Consumes-then None b c x y p q = tt

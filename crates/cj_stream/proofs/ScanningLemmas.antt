@@ -1,21 +1,9 @@
 -- What is held of the trees of lines, from line to line.
-use Rattle.std.proofs.Common.{◌≡◌, ℕ, ◌<◌, ◌≤◌, max, suc, List, [], ◌∷◌, ◌++◌, Bool, true, false, ltb, length, arith, refl, sym, ap, subst, ◌∙◌, append_assoc}
-use Rattle.std.specs.List.{list_all}
-use Rattle.std.specs.Prelude.{◌&&◌}
-use Rattle.std.specs.Str.{is_utf8}
-use Rattle.std.proofs.lemmas.Bool.Decides.{nat_tests}
-use Rattle.std.proofs.lemmas.List.Folds.{list_all-append}
-use Rattle.cj_budget.specs.Meaning.Limits.{LimitPair}
-use Rattle.cj_spans.specs.declared.token.Token.{Token}
+use Rattle.cj_stream.proofs.Common.{Bool, Forgets, HasHeld, HasRoom, HoldsFew, HoldsFewNext, Judgement, LimitPair, List, NoLf, Reading, Reads, Rises, Scanned, Scanning, ScansLine, ScansNext, Stores, Token, [], ap, append_assoc, are_readable, arith, begun, begun_of, broken, closed, false, first_content, first_of, is_blank_byte, is_readable, is_spelled, is_utf8, judged_nest, judged_size, length, list_all, list_all-append, max, nat_tests, refl, spelled, subst, suc, sunk, sym, tree_nest, tree_size, true, ℕ, ◌&&◌, ◌++◌, ◌<◌, ◌∙◌, ◌∷◌, ◌≡◌, ◌≤◌}
+use Rattle.std.proofs.Common.{ltb}
 use Rattle.cj_spans.specs.Marks.{bare}
-use Rattle.cj_spans.specs.Meaning.Judgement.{Judgement, spelled, broken, sunk, judged_size, judged_nest}
 use Rattle.cj_spans.specs.Scan.{KeepsLaw}
 use Rattle.cj_spans.proofs.Judgements.{judgement}
-use Rattle.cj_stream.specs.Lines.{closed, begun, first_of, first_content, NoLf}
-use Rattle.cj_stream.specs.Bound.{tree_size, tree_nest, is_spelled, is_readable}
-use Rattle.cj_stream.specs.Scanning.{Scanning, HasRoom, HasHeld, are_readable, Scanned, ScansNext, HoldsFew, HoldsFewNext, Rises, ScansLine, Forgets}
-use Rattle.cj_stream.specs.Meaning.Verdict.{is_blank_byte}
-use Rattle.cj_stream.specs.Reading.{Reading, begun_of, Stores, Reads}
 use Rattle.cj_stream.proofs.LineLemmas.{closed-more, begun-more, closed-lf, first_content-grows}
 use Rattle.cj_stream.proofs.ReadingLemmas.{true-false, greatest-append, held-whole, dropped-long, IsBegun-stored}
 use Rattle.cj_stream.proofs.VerdictLemmas.{and-both}

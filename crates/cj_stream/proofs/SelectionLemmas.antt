@@ -1,16 +1,6 @@
 -- A stream keeps the same where lines are left out of it that are not kept.
-use Rattle.std.proofs.Common.{◌≡◌, ℕ, suc, arith, List, [], ◌∷◌, Bool, true, false, cond, Option, Some, None, refl, sym, ap, ◌∙◌}
-use Rattle.std.specs.Prelude.{option_map, unwrap_or}
-use Rattle.std.specs.List.{flat_map}
-use Rattle.cj_stream.specs.declared.ending.End.{End}
-use Rattle.cj_stream.specs.declared.ending.End.TheVariants.{Complete}
-use Rattle.cj_stream.specs.Items.{raw_item}
-use Rattle.cj_stream.specs.Meaning.Lines.{Line, ended_line, lines}
-use Rattle.cj_stream.specs.Lines.{NoLf}
-use Rattle.cj_stream.specs.Parts.{headed, moved_end}
+use Rattle.cj_stream.proofs.Common.{Bool, Complete, End, Line, List, NoLf, None, Option, Rules, Some, [], ap, arith, cond, ended_line, ending, ending_of, false, flat_map, good_from, headed, is_kept, item_after, kept, kept_from, lines, moved_end, option_map, output, raw_item, refl, refusal_from, refusal_in, refusal_of, suc, sym, true, unwrap_or, verdict, ℕ, ◌∙◌, ◌∷◌, ◌≡◌}
 use Rattle.cj_stream.specs.Selection.{LeavesKept, all_lines, staying}
-use Rattle.cj_stream.specs.Meaning.Rules.{Rules}
-use Rattle.cj_stream.specs.Verdict.{ending, ending_of, good_from, is_kept, item_after, kept, kept_from, output, refusal_from, refusal_in, refusal_of, verdict}
 use Rattle.cj_stream.proofs.GoodLemmas.{good-all, complete-none}
 use Rattle.cj_stream.proofs.VerdictLemmas.{refusal-step}
 use Rattle.cj_stream.proofs.MovedLemmas.{kept-moved, refusal-moved}

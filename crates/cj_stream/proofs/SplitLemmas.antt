@@ -1,12 +1,7 @@
 -- A text that is split at its separators gives its items.
-use Rattle.std.proofs.Common.{◌≡◌, ℕ, ◌<◌, List, Option, Bor, true}
+use Rattle.cj_stream.proofs.Common.{Bor, FindsChar, List, Option, Split, YieldsList-at, YieldsList-from_str_split, parted, true, ℕ, ◌<◌, ◌≡◌}
 use Rattle.std.proofs.lemmas.Iterator.{YieldsList}
-use Rattle.std.proofs.lemmas.Iterator.Consumers.{YieldsList-at}
-use Rattle.std.proofs.lemmas.Iterator.Splits.{YieldsList-from_str_split}
 use Rattle.std.specs.Str.Iter.{split_steps, split_text, split_has_more, split_pattern}
-use Rattle.std.specs.Str.Pattern.{FindsChar}
-use Rattle.std.specs.declared.str.Split.{Split}
-use Rattle.cj_stream.specs.Adding.{parted}
 
 -- calls of the iterator over the items of a text
 abbrev pub steps : Split ℕ → Option (Bor (List ℕ)) → Split ℕ → Type 0

@@ -1,10 +1,5 @@
 -- What stays of a reading, whatever comes of some bytes.
-use Rattle.std.proofs.Common.{◌≡◌, ◌+◌, inl, inr, Bool, true, false, Result, Ok, Err, arith, refl, ap, ◌∙◌}
-use Rattle.cj_stream.specs.declared.ending.End.{End}
-use Rattle.cj_stream.specs.Items.{Item}
-use Rattle.cj_stream.specs.Meaning.Verdict.{Verdict, Invalid, Blank, LeftOut, Kept}
-use Rattle.cj_stream.specs.Reading.{Reading, Stays, Settles, JudgedAs}
-use Rattle.cj_stream.specs.Sink.{SinkLaw, with_sink}
+use Rattle.cj_stream.proofs.Common.{Blank, Bool, End, Err, Invalid, Item, JudgedAs, Kept, LeftOut, Ok, Reading, Result, Settles, SinkLaw, Stays, Verdict, ap, arith, false, inl, inr, refl, true, with_sink, ◌+◌, ◌∙◌, ◌≡◌}
 
 pub Stays-same : (f g : Reading) → g ≡ f → Stays f g
 Stays-same f g e = rw e (record { rules = refl; header_rises = omega arith; line_rises = omega arith })

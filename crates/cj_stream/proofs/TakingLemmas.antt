@@ -1,12 +1,5 @@
 -- What a framer has taken with a part of a line, or with its last part and LF.
-use Rattle.std.proofs.Common.{◌≡◌, ℕ, true, List, [], ◌∷◌, ◌++◌, Result, Ok, Err}
-use Rattle.cj_stream.specs.declared.ending.End.{End}
-use Rattle.cj_stream.specs.Carrying.{FramerState, TakesAll, TakesSome}
-use Rattle.cj_stream.specs.Lines.{NoLf, closed}
-use Rattle.cj_stream.specs.Meaning.Lines.{newline}
-use Rattle.cj_stream.specs.Reading.{Settles, Stores, Unstored, is_lenient, judged_begun, told_verdict}
-use Rattle.cj_stream.specs.Scanning.{HoldsFewNext, ScansNext}
-use Rattle.cj_stream.specs.Sink.{SinkLaw, with_sink}
+use Rattle.cj_stream.proofs.Common.{End, Err, FramerState, HoldsFewNext, List, NoLf, Ok, Result, ScansNext, Settles, SinkLaw, Stores, TakesAll, TakesSome, Unstored, [], closed, is_lenient, judged_begun, newline, told_verdict, true, with_sink, ℕ, ◌++◌, ◌∷◌, ◌≡◌}
 use Rattle.cj_stream.proofs.PieceLemmas.{Advances-line, Advances-stored, Stops-undealt, Stops-unstored, Stops-unstored_last}
 use Rattle.cj_stream.proofs.ScanningLemmas.{few-line, few-scanned, first-closed, scanned-begun, scanned-line}
 

@@ -1,20 +1,7 @@
 -- Counts of what a sink took.
-use Rattle.std.proofs.Common.{◌≡◌, ℕ, ◌+◌, ◌-◌, ◌^◌, ◌≤◌, List, [], ◌∷◌, ◌++◌, length, min, take, Option, Some, None, ap, ◌∙◌, cond, arith}
-use Rattle.std.specs.Prelude.{is_some, not}
-use Rattle.std.specs.List.{filter}
-use Rattle.cj_spans.specs.Meaning.Tree.{Tree}
+use Rattle.cj_stream.proofs.Common.{Complete, End, Item, LeavesNext, List, Memory, None, Option, Puts, PutsPieces, ReadFault, ReadLimit, Refused, Rules, Some, Took, Tree, WriteFault, [], ap, arith, cond, filter, in_pieces, is_feature, is_header, is_some, joined, kept, length, min, never_fails, not, stream_of, take, whole, ℕ, ◌++◌, ◌+◌, ◌-◌, ◌^◌, ◌∙◌, ◌∷◌, ◌≡◌, ◌≤◌}
 use Rattle.cj_stream.specs.declared.sink.CountSink.{CountSink}
-use Rattle.cj_stream.specs.declared.ending.End.{End}
-use Rattle.cj_stream.specs.declared.ending.End.TheVariants.{Complete, Refused, ReadFault, ReadLimit, WriteFault, Memory}
-use Rattle.cj_stream.specs.Lines.{joined, whole}
-use Rattle.cj_stream.specs.Cut.{PutsPieces, in_pieces}
-use Rattle.cj_stream.specs.Items.{Item, is_feature}
-use Rattle.cj_stream.specs.Run.{Puts}
-use Rattle.cj_stream.specs.Meaning.Outputs.{Took}
-use Rattle.cj_stream.specs.Sink.{LeavesNext, never_fails}
-use Rattle.cj_stream.specs.CountSink.{Counts, CountsBy, is_header, no_counts, counts_of, CountsRun, CountsPieces}
-use Rattle.cj_stream.specs.Meaning.Rules.{Rules}
-use Rattle.cj_stream.specs.Verdict.{kept, stream_of}
+use Rattle.cj_stream.specs.CountSink.{Counts, CountsBy, no_counts, counts_of, CountsRun, CountsPieces}
 
 -- both counts are those of another sink
 both : (a b : CountSink) → a.headers ≡ b.headers → a.features ≡ b.features → a ≡ b

@@ -1,25 +1,6 @@
 -- The tally of a stream, from those of its parts.
-use Rattle.std.proofs.Common.{◌≡◌, ℕ, ◌+◌, List, [], ◌∷◌, ◌++◌, Bool, true, false, cond, ltb, length, get_or, map, Option, Some, None, ℤ, arith, refl, sym, ap, ◌∙◌, subst}
-use Rattle.std.specs.Prelude.{option_map, codes}
-use Rattle.std.specs.List.{filter, last_or}
-use Rattle.std.specs.Str.{chars}
-use Rattle.std.proofs.lemmas.Bool.Decides.{nat_tests}
-use Rattle.std.proofs.lemmas.List.{append-nil}
-use Rattle.std.proofs.lemmas.List.Elements.{filter-append}
-use Rattle.std.proofs.lemmas.Grind.{flat_map-append}
-use Rattle.cj_spans.specs.Meaning.Tree.{Tree}
-use Rattle.cj_decimal.specs.Meaning.Number.{Number}
-use Rattle.cj_feature.specs.Meaning.Transform.{transform_values}
-use Rattle.cj_stream.specs.declared.ending.End.TheVariants.{Complete}
-use Rattle.cj_stream.specs.CountSink.{is_header}
-use Rattle.cj_stream.specs.Items.{is_feature}
-use Rattle.cj_stream.specs.Meaning.Lines.{Line, ended_line}
-use Rattle.cj_stream.specs.Lines.{later_of}
-use Rattle.cj_stream.specs.Parts.{headed, IsCut, wider, JoinsTallies}
-use Rattle.cj_stream.specs.Tallied.{capped, how_often, type_numbers, lod_classes, numbers_on, IsRange, beside, over_features}
-use Rattle.cj_stream.specs.TallySink.{Tally, last_shown, IsTallyOf}
-use Rattle.cj_stream.specs.Meaning.Rules.{Rules}
-use Rattle.cj_stream.specs.Verdict.{verdict, item_after, is_kept, kept_from, good, kept, ending}
+use Rattle.cj_stream.proofs.Common.{Bool, Complete, IsCut, IsRange, IsTallyOf, JoinsTallies, Line, List, None, Number, Option, Rules, Some, Tally, Tree, [], ap, append-nil, arith, beside, capped, chars, codes, cond, ended_line, ending, false, filter, filter-append, flat_map-append, get_or, good, headed, how_often, is_feature, is_header, is_kept, item_after, kept, kept_from, last_or, last_shown, later_of, length, lod_classes, map, nat_tests, numbers_on, option_map, over_features, refl, subst, sym, transform_values, true, type_numbers, verdict, wider, ℕ, ℤ, ◌++◌, ◌+◌, ◌∙◌, ◌∷◌, ◌≡◌}
+use Rattle.std.proofs.Common.{ltb}
 use Rattle.cj_stream.proofs.PartsLemmas.{header-valid, back-good, back-kept, kept-first, kept-parts, features-counted}
 use Rattle.cj_stream.proofs.Ranges.{IsRange-two}
 use Rattle.cj_stream.proofs.ReadingLemmas.{after-feature}

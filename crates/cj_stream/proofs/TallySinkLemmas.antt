@@ -1,25 +1,6 @@
 -- Tallies of what a sink took.
-use Rattle.std.proofs.Common.{◌≡◌, ℕ, ◌+◌, ◌-◌, ◌^◌, ◌<◌, ◌≤◌, List, [], ◌∷◌, ◌++◌, length, take, get_or, map, Option, Some, None, ℤ, sym, ap, subst, refl, ◌∙◌, cond, zero, suc, arith, length-append}
-use Rattle.std.specs.Prelude.{is_some, not, nat_eq, option_map, codes, replicate}
-use Rattle.std.specs.List.{filter, last_or}
-use Rattle.std.specs.Str.{chars}
-use Rattle.std.proofs.lemmas.List.Elements.{filter-append}
-use Rattle.cj_spans.specs.Meaning.Tree.{Tree}
-use Rattle.cj_decimal.specs.Meaning.Number.{Number}
-use Rattle.cj_feature.specs.Meaning.Transform.{transform_values}
-use Rattle.cj_stream.specs.declared.ending.End.{End}
-use Rattle.cj_stream.specs.declared.ending.End.TheVariants.{Complete, Refused, ReadFault, ReadLimit, WriteFault, Memory}
-use Rattle.cj_stream.specs.Lines.{joined, whole}
-use Rattle.cj_stream.specs.Cut.{PutsPieces, in_pieces}
-use Rattle.cj_stream.specs.Items.{Item, is_feature}
-use Rattle.cj_stream.specs.Run.{Puts}
-use Rattle.cj_stream.specs.Meaning.Outputs.{Took}
-use Rattle.cj_stream.specs.Sink.{LeavesNext, never_fails}
-use Rattle.cj_stream.specs.CountSink.{is_header}
-use Rattle.cj_stream.specs.Tallied.{capped, how_often, type_numbers, lod_classes, numbers_on, beside, over_features}
-use Rattle.cj_stream.specs.TallySink.{Tally, no_tally, Widens, Shows, TalliesBy, Tallies, IsTallyOf, TalliesRun, TalliesPieces}
-use Rattle.cj_stream.specs.Meaning.Rules.{Rules}
-use Rattle.cj_stream.specs.Verdict.{kept, stream_of}
+use Rattle.cj_stream.proofs.Common.{Complete, End, IsTallyOf, Item, LeavesNext, List, Memory, None, Number, Option, Puts, PutsPieces, ReadFault, ReadLimit, Refused, Rules, Some, Tally, Took, Tree, Widens, WriteFault, [], ap, arith, beside, capped, chars, codes, cond, filter, filter-append, get_or, how_often, in_pieces, is_feature, is_header, is_some, joined, kept, last_or, length, length-append, lod_classes, map, nat_eq, never_fails, not, numbers_on, option_map, over_features, refl, replicate, stream_of, subst, suc, sym, take, transform_values, type_numbers, whole, zero, ℕ, ℤ, ◌++◌, ◌+◌, ◌-◌, ◌<◌, ◌^◌, ◌∙◌, ◌∷◌, ◌≡◌, ◌≤◌}
+use Rattle.cj_stream.specs.TallySink.{no_tally, Shows, TalliesBy, Tallies, TalliesRun, TalliesPieces}
 use Rattle.cj_stream.proofs.Ranges.{Widens-no, Widens-two}
 
 -- ---- counts

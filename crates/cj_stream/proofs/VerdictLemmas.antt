@@ -1,28 +1,8 @@
 -- The verdict case by case, and the refusals and kept lines of lines that follow one another.
-use Rattle.std.proofs.Common.{◌≡◌, ℕ, ◌+◌, ◌<◌, ◌≤◌, zero, suc, List, [], ◌∷◌, ◌++◌, Bool, true, false, cond, eqb, ltb, length, Option, Some, None, arith, refl, ap, ◌∙◌, append_assoc}
-use Rattle.std.specs.Prelude.{not, ◌&&◌, ◌||◌, nat_lt, if◌then◌else◌, is_some}
-use Rattle.std.specs.List.{list_all}
-use Rattle.std.proofs.lemmas.List.{append-nil}
-use Rattle.std.specs.Str.{IsUtf8, is_utf8}
-use Rattle.std.specs.Str.{IsAscii}
-use Rattle.std.specs.Str.Lossy.{utf8_valid_len}
-use Rattle.std.proofs.lemmas.Str.{IsUtf8-from_is_utf8, is_utf8-from_IsUtf8, IsUtf8-from_ascii}
-use Rattle.std.proofs.lemmas.Bool.Decides.{nat_tests}
-use Rattle.cj_spans.specs.declared.reason.Reason.TheVariants.{LineTooLong, NotUtf8}
-use Rattle.cj_spans.specs.Meaning.Judgement.{Judgement, spelled, broken, sunk}
+use Rattle.cj_stream.proofs.Common.{Blank, Bool, End, Finding, Invalid, IsLeast, IsUtf8, IsUtf8-from_ascii, IsUtf8-from_is_utf8, Item, Judgement, Kept, LeftOut, Line, LineTooLong, List, None, NotUtf8, Option, Rules, Some, Tree, [], ap, append-nil, append_assoc, arith, broken, by_least, cond, false, findings, if◌then◌else◌, is_blank_byte, is_kept, is_kept_if_valid, is_some, is_utf8, is_utf8-from_IsUtf8, item_after, kept_from, least, length, list_all, nat_lt, nat_tests, not, refl, refusal_from, refusal_of, spelled, suc, sunk, text_verdict, tree_verdict, true, utf8_valid_len, verdict, verdict_at, zero, ℕ, ◌&&◌, ◌++◌, ◌+◌, ◌<◌, ◌∙◌, ◌∷◌, ◌≡◌, ◌≤◌}
+use Rattle.std.proofs.Common.{eqb, ltb, ◌||◌, IsAscii, ltb-true}
 use Rattle.cj_spans.proofs.Judgements.{judgement}
-use Rattle.std.proofs.lemmas.Bool.{ltb-true}
-use Rattle.cj_stream.specs.declared.ending.End.{End}
-use Rattle.cj_spans.specs.Meaning.Tree.{Tree}
-use Rattle.cj_spans.specs.declared.finding.Finding.{Finding}
-use Rattle.cj_spans.specs.Meaning.Finding.{least}
-use Rattle.cj_spans.specs.Meaning.Least.{IsLeast}
 use Rattle.cj_spans.proofs.Findings.{least_only, fold_least}
-use Rattle.cj_stream.specs.Meaning.Lines.{Line}
-use Rattle.cj_stream.specs.Items.{Item}
-use Rattle.cj_stream.specs.Meaning.Rules.{Rules}
-use Rattle.cj_stream.specs.Meaning.Verdict.{Invalid, Blank, LeftOut, Kept, is_blank_byte}
-use Rattle.cj_stream.specs.Verdict.{verdict_at, verdict, findings, is_kept_if_valid, by_least, tree_verdict, text_verdict, item_after, refusal_of, is_kept, refusal_from, kept_from}
 use Rattle.cj_stream.proofs.LineLemmas.{not_true}
 
 blank-byte : (b : ℕ) → is_blank_byte b ≡ true → b < 128

@@ -1,17 +1,5 @@
 -- The counts of a run over pieces are of the whole stream.
-use Rattle.std.proofs.Common.{◌≡◌, ℕ, ◌+◌, ◌⊎◌, inl, inr, List, [], Some, length, take, drop, ap, ◌∙◌}
-use Rattle.std.specs.List.{filter}
-use Rattle.cj_budget.specs.declared.limits.Peaks.{Peaks}
-use Rattle.cj_stream.specs.declared.ending.End.{End}
-use Rattle.cj_stream.specs.declared.ending.End.TheVariants.{Complete, Refused, ReadFault, ReadLimit, WriteFault, Memory}
-use Rattle.cj_stream.specs.Lines.{joined}
-use Rattle.cj_stream.specs.Cut.{IsUnread}
-use Rattle.cj_stream.specs.Engine.{Counts}
-use Rattle.cj_stream.specs.Meaning.Headline.{IsUnhindered}
-use Rattle.cj_stream.specs.Items.{is_feature}
-use Rattle.cj_stream.specs.Run.{CountsAll, Ends}
-use Rattle.cj_stream.specs.Meaning.Rules.{Rules}
-use Rattle.cj_stream.specs.Verdict.{ending, refusal_in, judged, good, kept_from, kept, reported_from, reported}
+use Rattle.cj_stream.proofs.Common.{Complete, Counts, CountsAll, End, Ends, IsUnhindered, IsUnread, List, Memory, Peaks, ReadFault, ReadLimit, Refused, Rules, Some, WriteFault, [], ap, drop, ending, filter, good, inl, inr, is_feature, joined, judged, kept, kept_from, length, refusal_in, reported, reported_from, take, ℕ, ◌+◌, ◌∙◌, ◌≡◌, ◌⊎◌}
 use Rattle.cj_stream.proofs.CutLemmas.{given-told}
 use Rattle.cj_stream.proofs.FirstLemmas.{first-good}
 

@@ -1,8 +1,5 @@
-use Rattle.std.proofs.Common.{◌++◌, sym, ap, ◌∙◌}
-use Rattle.cj_stream.specs.Meaning.Headline.{IsUnhindered}
-use Rattle.cj_stream.specs.Sink.{never_fails}
-use Rattle.cityseq_c.specs.Features.{HoldsRecords, ListsItem, listed_loan, listed_room, spots}
-use Rattle.cityseq_c.specs.Request.{IsFit}
+use Rattle.cityseq_c.proofs.Common.{IsFit, IsUnhindered, ap, never_fails, spots, sym, ◌++◌, ◌∙◌}
+use Rattle.cityseq_c.specs.Features.{HoldsRecords, ListsItem, listed_loan, listed_room}
 use Rattle.cityseq_c.proofs.CalledLemmas.{goes-known, never-full, unjudged}
 use Rattle.cityseq_c.proofs.FeatureLemmas.{recorded}
 use Rattle.cityseq_c.proofs.cityseq_features.Goals as goal

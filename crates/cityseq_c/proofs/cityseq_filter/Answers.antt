@@ -1,5 +1,4 @@
-use Rattle.std.proofs.Common.{◌++◌, sym, ap, ◌∙◌}
-use Rattle.cityseq_c.specs.Called.{Copied}
+use Rattle.cityseq_c.proofs.Common.{Copied, ap, sym, ◌++◌, ◌∙◌}
 use Rattle.cityseq_c.specs.Room.{room_law, room_bytes, room_loan}
 use Rattle.cityseq_c.proofs.CalledLemmas.{filters, goes, unjudged}
 use Rattle.cityseq_c.proofs.RoomLemmas.{copied}

@@ -1,16 +1,8 @@
-use Rattle.std.proofs.Common.{◌++◌, ◌∙◌, sym}
-use Rattle.std.specs.Prelude.{OnOk}
-use Rattle.cj_stream.specs.Meaning.Headline.{IsUnhindered}
-use Rattle.cj_stream.specs.TallySink.{Tallies}
-use Rattle.cj_stream.specs.declared.ending.End.TheVariants.{Complete}
-use Rattle.cj_stream.specs.Sink.{never_fails}
-use Rattle.cj_stream.specs.Verdict.{stream_of}
-use Rattle.cityseq_c.specs.Called.{IsTalliedOf}
-use Rattle.cityseq_c.specs.Tally.{IsTally}
+use Rattle.cityseq_c.proofs.Common.{Complete, IsTalliedOf, IsTally, IsUnhindered, OnOk, Tallies, never_fails, stream_of, sym, ◌++◌, ◌∙◌}
 use Rattle.cityseq_c.proofs.CalledLemmas.{goes-known, known-ok, never-full, unknown-err}
 use Rattle.cityseq_c.proofs.TallyLemmas.{tallied}
-use Rattle.cityseq_c.proofs.cityseq_info.Goals as goal
 use Rattle.cityseq_c.proofs.cityseq_info.Goals.{then-is_ok, else-is_ok}
+use Rattle.cityseq_c.proofs.cityseq_info.Goals as goal
 
 pub returns-clause-tallies : goal.returns-clause-tallies
 returns-clause-tallies c =

@@ -1,9 +1,6 @@
-use Rattle.std.proofs.Common.{◌≡◌, ℕ, List, Bor, None, Some, ap, nat_eq, rules, sym, tests, ◌∙◌}
-use Rattle.std.specs.Prelude.{option_and_then, option_map, slice_get}
-use Rattle.std.specs.List.{slice_split}
+use Rattle.cityseq_c.proofs.Common.{Bor, List, None, Some, YieldsList-from_slice_split, ap, has_edge, option_and_then, option_map, rules, slice_get, slice_split, sym, ℕ, ◌∙◌, ◌≡◌}
+use Rattle.std.proofs.Common.{nat_eq, tests}
 use Rattle.std.proofs.lemmas.Iterator.Consumers.{nth_from_yields_List}
-use Rattle.std.proofs.lemmas.Iterator.Splits.{YieldsList-from_slice_split}
-use Rattle.cityseq_c.specs.FaultPlace.{has_edge}
 use Rattle.cityseq_c.proofs.fault_place.edge_at.Goals as goal
 
 pub returns-in-Some : goal.returns-in-Some

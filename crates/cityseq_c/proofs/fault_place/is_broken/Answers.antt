@@ -1,5 +1,4 @@
-use Rattle.std.proofs.Common.{◌∙◌, ap}
-use Rattle.std.specs.Prelude.{not}
+use Rattle.std.proofs.Common.{◌∙◌, ap, not}
 use Rattle.cityseq_c.proofs.AskedLemmas.{is-text, not-flipped}
 use Rattle.cityseq_c.proofs.fault_place.is_broken.Goals as goal
 

@@ -1,8 +1,7 @@
-use Rattle.std.proofs.Common.{ℕ, List, nat_eq, rules, tests, ◌∙◌}
-use Rattle.std.specs.List.{slice_split}
+use Rattle.cityseq_c.proofs.Common.{List, YieldsList-from_slice_split, rules, slice_split, ℕ, ◌∙◌}
+use Rattle.std.proofs.Common.{nat_eq, tests}
 use Rattle.std.proofs.lemmas.Iterator.Consumers.{YieldsList-at, count_from_yields_List}
 use Rattle.std.proofs.lemmas.Iterator.Search.{YieldsList-from_take_while}
-use Rattle.std.proofs.lemmas.Iterator.Splits.{YieldsList-from_slice_split}
 use Rattle.std.proofs.lemmas.List.Folds.{length-prefix_len}
 use Rattle.cityseq_c.specs.FaultPlace.{is_kept}
 use Rattle.cityseq_c.proofs.fault_place.items_before.Goals as goal

@@ -1,9 +1,5 @@
-use Rattle.std.proofs.Common.{ap, inl, ◌∙◌}
-use Rattle.std.proofs.lemmas.Result.{err_from_is_err_and}
-use Rattle.cj_stream.specs.Engine.{rules_of}
-use Rattle.cj_stream.specs.Query.{criteria, rules_for}
-use Rattle.cj_stream.specs.Meaning.Rules.{Rules}
-use Rattle.cityseq_c.specs.Request.{IsFit}
+use Rattle.cityseq_c.proofs.Common.{IsFit, Rules, ap, criteria, err_from_is_err_and, inl, rules_of, ◌∙◌}
+use Rattle.cj_stream.specs.Query.{rules_for}
 use Rattle.cityseq_c.proofs.CalledLemmas.{known-ok}
 use Rattle.cityseq_c.proofs.FaultLemmas.{call-declined, no-fault}
 use Rattle.cityseq_c.proofs.NarrowLemmas.{asked-ok, declined-memory}

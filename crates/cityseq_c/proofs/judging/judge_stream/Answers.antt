@@ -1,6 +1,4 @@
-use Rattle.std.proofs.Common.{◌∙◌, sym}
-use Rattle.cj_stream.specs.Engine.{rules_of}
-use Rattle.cj_stream.specs.Run.{outcome_of}
+use Rattle.cityseq_c.proofs.Common.{outcome_of, rules_of, sym, ◌∙◌}
 use Rattle.cityseq_c.proofs.JudgedLemmas.{judged}
 use Rattle.cityseq_c.proofs.judging.judge_stream.Goals as goal
 

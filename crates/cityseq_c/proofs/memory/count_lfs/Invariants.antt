@@ -1,5 +1,4 @@
-use Rattle.std.proofs.Common.{◌≡◌, nat_eq, take}
-use Rattle.std.specs.List.{count_by}
+use Rattle.std.proofs.Common.{◌≡◌, nat_eq, take, count_by}
 use Rattle.cityseq_c.proofs.memory.count_lfs.Given as goal
 
 abbrev pub invariant-loop-byte : goal.invariant-loop-byte

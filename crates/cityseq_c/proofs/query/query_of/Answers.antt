@@ -1,4 +1,4 @@
-use Rattle.std.proofs.lemmas.Result.{err_from_is_err_and}
+use Rattle.cityseq_c.proofs.Common.{err_from_is_err_and}
 use Rattle.cityseq_c.proofs.FaultLemmas.{edges-declined, ids-declined, lods-declined, types-declined}
 use Rattle.cityseq_c.proofs.query.query_of.Goals as goal
 

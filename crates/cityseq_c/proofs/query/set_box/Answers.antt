@@ -1,6 +1,4 @@
-use Rattle.std.proofs.Common.{refl}
-use Rattle.cj_stream.specs.BoxText.{box_text}
-use Rattle.cj_stream.specs.Query.{criteria}
+use Rattle.cityseq_c.proofs.Common.{box_text, criteria, refl}
 use Rattle.cityseq_c.proofs.BoxLemmas.{box-declined, box-set}
 use Rattle.cityseq_c.proofs.query.set_box.Goals as goal
 

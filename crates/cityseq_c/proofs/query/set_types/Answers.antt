@@ -1,7 +1,4 @@
-use Rattle.std.proofs.Common.{refl}
-use Rattle.std.proofs.lemmas.Result.{IfErr-weaker}
-use Rattle.cj_stream.specs.Query.{criteria}
-use Rattle.cityseq_c.specs.Request.{items}
+use Rattle.cityseq_c.proofs.Common.{IfErr-weaker, criteria, items, refl}
 use Rattle.cityseq_c.proofs.TypeLemmas.{part-declined, types-set}
 use Rattle.cityseq_c.proofs.query.set_types.Goals as goal
 

@@ -1,8 +1,5 @@
-use Rattle.std.proofs.Common.{◌≡◌, ℕ, ◌+◌, ◌<◌, Bool, true, false, Option, List, length, drop, get_or, nat_eq, refl, ◌∙◌, add-one, drop-cons}
-use Rattle.std.proofs.lemmas.Bool.{eqb-true}
-use Rattle.cj_spans.specs.Meaning.Reason.{code_of}
-use Rattle.cj_spans.specs.declared.reason.Reason.{Reason}
-use Rattle.cityseq_c.specs.Words.{reason_in}
+use Rattle.cityseq_c.proofs.Common.{Bool, List, Option, Reason, add-one, code_of, drop, false, get_or, length, reason_in, refl, true, ℕ, ◌+◌, ◌<◌, ◌∙◌, ◌≡◌}
+use Rattle.std.proofs.Common.{nat_eq, drop-cons, eqb-true}
 use Rattle.cityseq_c.proofs.words.reason_of.Goals as goal
 
 not-true : (x : Bool) → ¬ (x ≡ true) → x ≡ false

@@ -1,5 +1,4 @@
-use Rattle.std.proofs.Common.{◌≡◌, drop}
-use Rattle.cityseq_c.specs.Words.{reason_in, reason_with}
+use Rattle.cityseq_c.proofs.Common.{drop, reason_in, reason_with, ◌≡◌}
 use Rattle.cityseq_c.proofs.words.reason_of.Given as goal
 
 abbrev pub invariant-loop-reason : goal.invariant-loop-reason

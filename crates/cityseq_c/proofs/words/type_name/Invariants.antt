@@ -1,6 +1,5 @@
-use Rattle.std.proofs.Common.{◌≡◌, drop, map}
+use Rattle.cityseq_c.proofs.Common.{drop, map, name_in, type_words, ◌≡◌}
 use Rattle.cj_geometry.specs.ObjectTypes.{row_at}
-use Rattle.cityseq_c.specs.Words.{name_in, type_words}
 use Rattle.cityseq_c.proofs.words.type_name.Given as goal
 
 abbrev pub invariant-loop-object_type : goal.invariant-loop-object_type

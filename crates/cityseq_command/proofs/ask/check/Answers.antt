@@ -1,10 +1,5 @@
-use Rattle.std.proofs.Common.{◌≡◌, ap, refl}
-use Rattle.cj_stream.specs.Output.{channel}
-use Rattle.cj_stream.specs.Query.{rules_for}
-use Rattle.cityseq_command.specs.Performed.{all_under, run_of}
-use Rattle.cityseq_command.specs.declared.ask.Ask.TheVariants.{Check}
-use Rattle.cityseq_command.proofs.PerformLemmas.{Does-run, Says-check, Says-nothing, features-kept, lines-refused}
-use Rattle.cityseq_command.proofs.PerformLemmas.{cause-text, no_fault}
+use Rattle.cityseq_command.proofs.Common.{Check, all_under, ap, channel, refl, rules_for, run_of, ◌≡◌}
+use Rattle.cityseq_command.proofs.PerformLemmas.{Does-run, Says-check, Says-nothing, features-kept, lines-refused, cause-text, no_fault}
 use Rattle.cityseq_command.proofs.ask.check.Goals as goal
 
 pub returns-in-Complete : goal.returns-in-Complete

@@ -1,10 +1,4 @@
-use Rattle.std.proofs.Common.{◌≡◌, ap, refl}
-use Rattle.cj_stream.specs.declared.ending.End.TheVariants.{Complete}
-use Rattle.cj_stream.specs.Output.{channel}
-use Rattle.cj_stream.specs.Query.{rules_for}
-use Rattle.cj_stream.specs.Verdict.{stream_of}
-use Rattle.cityseq_command.specs.Performed.{all_under, run_of}
-use Rattle.cityseq_command.specs.declared.ask.Ask.TheVariants.{Info}
+use Rattle.cityseq_command.proofs.Common.{Complete, Info, all_under, ap, channel, refl, rules_for, run_of, stream_of, ◌≡◌}
 use Rattle.cityseq_command.proofs.PerformLemmas.{Does-run, Says-summary, Says-no_summary, cause-text, no_fault}
 use Rattle.cityseq_command.proofs.ask.info.Goals as goal
 

@@ -1,18 +1,11 @@
-use Rattle.std.proofs.Common.{◌≡◌, ◌∙◌, List, ℕ, [], Ok, ap, refl, subst, sym}
-use Rattle.std.specs.Io.KnownBytes.{Consumes, IsAtEnd}
-use Rattle.cj_stream.specs.Output.{channel, output_failures}
-use Rattle.cj_stream.specs.Sink.{HasRisen}
-use Rattle.cj_stream.specs.Verdict.{stream_of}
-use Rattle.cj_stream.specs.declared.ending.End.TheVariants.{Memory}
-use Rattle.cityseq_command.specs.Performed.{told_by, Does, Performs, asked, rules_of_ask, run_of}
-use Rattle.cityseq_command.specs.FaultLines.{fault_line, status_after}
+use Rattle.cityseq_command.proofs.Common.{Consumes, Filter, HasRisen, IsAtEnd, List, Memory, Ok, [], ap, channel, fault_line, output_failures, refl, run_of, status_after, stream_of, subst, sym, ℕ, ◌∙◌, ◌≡◌}
+use Rattle.cityseq_command.specs.Performed.{told_by, Does, Performs, asked, rules_of_ask}
 use Rattle.cityseq_command.specs.ReportWriter.{WritesReport, lent_output, report_lines}
-use Rattle.cityseq_command.specs.declared.ask.Ask.TheVariants.{Filter}
 use Rattle.cityseq_command.proofs.PerformLemmas.{Answers-kept, Does-run, enough-told, lacks-room}
 use Rattle.cityseq_command.proofs.WroteLemmas.{WroteAfter-then, wrote-reports}
 use Rattle.cityseq_command.proofs.ask.perform.Given.{Over}
-use Rattle.cityseq_command.proofs.ask.perform.Goals as goal
 use Rattle.cityseq_command.proofs.ask.perform.Goals.{in-Check, in-Filter, in-Info}
+use Rattle.cityseq_command.proofs.ask.perform.Goals as goal
 
 -- what is asked was done before the flush
 abbrev Did : (g : Over) → goal.After-status_after g → List ℕ → Type 0

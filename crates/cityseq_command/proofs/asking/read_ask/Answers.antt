@@ -1,10 +1,6 @@
-use Rattle.std.proofs.Common.{◌≡◌, ◌∙◌, List, ℕ, Option, Some, None, ap, refl, sym, subst, map, option_map}
-use Rattle.std.specs.Prelude.{string_bytes}
-use Rattle.std.proofs.lemmas.Result.{IfErr-weaker, IfOk-weaker}
-use Rattle.clap.specs.Words.{Row, Text, found_of, rows_of, subcommand_name_of, subcommand_of, subcommand_rows_of}
-use Rattle.clap.specs.declared.parser.matches.ArgMatches.{ArgMatches}
+use Rattle.cityseq_command.proofs.Common.{ArgMatches, IfErr-weaker, IfOk-weaker, IsCalled, List, None, Option, Some, Text, ap, map, option_map, program_app, refl, string_bytes, subst, sym, ℕ, ◌∙◌, ◌≡◌}
+use Rattle.clap.specs.Words.{Row, found_of, rows_of, subcommand_name_of, subcommand_of, subcommand_rows_of}
 use Rattle.clap.specs.declared.parser.matches.ArgMatches.TheViews.{out-ArgMatches}
-use Rattle.cityseq_command.specs.Commands.{IsCalled, program_app}
 use Rattle.cityseq_command.specs.Words.{IsNoCommand, MayDecline, DeclinesOptions}
 use Rattle.cityseq_command.specs.declared.asking.NoAsk.{NoAsk}
 use Rattle.cityseq_command.specs.declared.asking.NoAsk.TheVariants.{Words, NoCommand, Limits, Query}

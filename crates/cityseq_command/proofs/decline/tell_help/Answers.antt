@@ -1,6 +1,4 @@
-use Rattle.cj_stream.specs.declared.ending.End.{End}
-use Rattle.cj_stream.specs.declared.ending.End.TheVariants.{Complete}
-use Rattle.cj_stream.specs.Output.{channel}
+use Rattle.cityseq_command.proofs.Common.{Complete, End, channel}
 use Rattle.cityseq_command.proofs.PerformLemmas.{Says-kept}
 use Rattle.cityseq_command.proofs.decline.tell_help.Goals as goal
 

@@ -1,5 +1,4 @@
-use Rattle.std.proofs.Common.{refl, inl, inr}
-use Rattle.cj_geometry.specs.Meaning.ObjectTypes.{object_types}
+use Rattle.cityseq_command.proofs.Common.{inl, inr, object_types, refl}
 use Rattle.cityseq_command.proofs.end_laws.declines_compute.Goals as goal
 
 pub returns : goal.returns

@@ -1,7 +1,4 @@
-use Rattle.std.proofs.Common.{Ok, take}
-use Rattle.std.specs.List.{flat_map}
-use Rattle.cj_stream.specs.Output.{channel}
-use Rattle.cityseq_command.specs.FaultLines.{Wrote}
+use Rattle.cityseq_command.proofs.Common.{Ok, Wrote, channel, flat_map, take}
 use Rattle.cityseq_command.proofs.fault_lines.write_texts.Given as goal
 
 abbrev pub invariant-loop-text : goal.invariant-loop-text

@@ -1,5 +1,4 @@
-use Rattle.std.proofs.Common.{refl}
-use Rattle.cj_geometry.specs.Meaning.ObjectTypes.{object_types}
+use Rattle.cityseq_command.proofs.Common.{object_types, refl}
 use Rattle.cityseq_command.proofs.option_laws.options_compute.Goals as goal
 
 pub returns : goal.returns

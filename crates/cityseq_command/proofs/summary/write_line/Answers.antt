@@ -1,6 +1,4 @@
-use Rattle.std.proofs.Common.{◌++◌, ◌∷◌, [], Ok, map, sym, append-nil, arith}
-use Rattle.std.proofs.lemmas.List.Folds.{flat_map-map}
-use Rattle.std.specs.List.{flat_map}
+use Rattle.cityseq_command.proofs.Common.{Ok, [], append-nil, arith, flat_map, flat_map-map, map, sym, ◌++◌, ◌∷◌}
 use Rattle.cityseq_command.proofs.WroteLemmas.{Wrote-nothing, Wrote-then, Wrote-front, Wrote-stops, part-wrote, part-stops, parts-wrote}
 use Rattle.cityseq_command.proofs.summary.write_line.Goals as goal
 

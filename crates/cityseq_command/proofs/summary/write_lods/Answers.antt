@@ -1,8 +1,5 @@
-use Rattle.std.proofs.Common.{◌≡◌, ◌∙◌, ℕ, List, ◌∷◌, [], Ok, Err, get_or, sym, subst, zero-add, arith}
+use Rattle.cityseq_command.proofs.Common.{Err, List, Ok, Wrote, [], arith, channel, class_text, get_or, subst, sym, zero-add, ℕ, ◌∙◌, ◌∷◌, ◌≡◌}
 use Rattle.std.proofs.lemmas.List.FromFn.{get_or-range_with_len}
-use Rattle.cj_stream.specs.Output.{channel}
-use Rattle.cityseq_command.specs.FaultLines.{Wrote}
-use Rattle.cityseq_command.specs.Summary.{class_text}
 use Rattle.cityseq_command.proofs.WroteLemmas.{Wrote-nothing, part-wrote, part-stops}
 use Rattle.cityseq_command.proofs.summary.write_lods.Goals as goal
 

@@ -1,8 +1,4 @@
-use Rattle.std.proofs.Common.{Ok, ◌∷◌, [], take}
-use Rattle.std.specs.List.{flat_map}
-use Rattle.cj_stream.specs.Output.{channel}
-use Rattle.cityseq_command.specs.FaultLines.{Wrote}
-use Rattle.cityseq_command.specs.Summary.{class_text}
+use Rattle.cityseq_command.proofs.Common.{Ok, Wrote, [], channel, class_text, flat_map, take, ◌∷◌}
 use Rattle.cityseq_command.proofs.summary.write_lods.Given as goal
 
 abbrev pub invariant-loop-class : goal.invariant-loop-class

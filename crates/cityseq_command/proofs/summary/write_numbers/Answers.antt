@@ -1,7 +1,4 @@
-use Rattle.std.proofs.Common.{◌++◌, ◌∷◌, [], Ok, map, sym, arith}
-use Rattle.std.proofs.lemmas.List.Folds.{flat_map-map}
-use Rattle.std.specs.List.{flat_map}
-use Rattle.cityseq_command.specs.Summary.{power_text}
+use Rattle.cityseq_command.proofs.Common.{Ok, [], arith, flat_map, flat_map-map, map, power_text, sym, ◌++◌, ◌∷◌}
 use Rattle.cityseq_command.proofs.WroteLemmas.{Wrote-nothing, Wrote-then, Wrote-front, Wrote-stops, part-wrote, part-stops, parts-wrote}
 use Rattle.cityseq_command.proofs.summary.write_numbers.Goals as goal
 

@@ -1,8 +1,4 @@
-use Rattle.std.proofs.Common.{Ok, ◌∷◌, take}
-use Rattle.std.specs.List.{flat_map}
-use Rattle.cj_stream.specs.Output.{channel}
-use Rattle.cityseq_command.specs.FaultLines.{Wrote}
-use Rattle.cityseq_command.specs.Summary.{power_text}
+use Rattle.cityseq_command.proofs.Common.{Ok, Wrote, channel, flat_map, power_text, take, ◌∷◌}
 use Rattle.cityseq_command.proofs.summary.write_numbers.Given as goal
 
 abbrev pub invariant-loop-number : goal.invariant-loop-number

@@ -1,5 +1,4 @@
-use Rattle.std.proofs.Common.{None, get_or, codes}
-use Rattle.cityseq_command.specs.Summary.{range_line}
+use Rattle.cityseq_command.proofs.Common.{None, codes, get_or, range_line}
 use Rattle.cityseq_command.proofs.WroteLemmas.{Wrote-then, Wrote-last, Wrote-stops}
 use Rattle.cityseq_command.proofs.summary.write_ranges.Goals as goal
 

@@ -1,6 +1,4 @@
-use Rattle.std.proofs.Common.{codes}
-use Rattle.cityseq_command.specs.Text.{count_line}
-use Rattle.cityseq_command.specs.Summary.{tally_text, peaks_text}
+use Rattle.cityseq_command.proofs.Common.{codes, count_line, peaks_text, tally_text}
 use Rattle.cityseq_command.proofs.TextLemmas.{fault-before, fault-after, last-fault, written-after, last-written}
 use Rattle.cityseq_command.proofs.summary.write_summary.Goals as goal
 

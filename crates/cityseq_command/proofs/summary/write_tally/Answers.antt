@@ -1,5 +1,4 @@
-use Rattle.std.proofs.Common.{codes}
-use Rattle.cityseq_command.specs.Text.{count_line}
+use Rattle.cityseq_command.proofs.Common.{codes, count_line}
 use Rattle.cityseq_command.specs.Summary.{numbers_line, types_text, extensions_text, lods_text, ranges_text}
 use Rattle.cityseq_command.proofs.WroteLemmas.{Wrote-then, Wrote-last, Wrote-stops}
 use Rattle.cityseq_command.proofs.summary.write_tally.Goals as goal

@@ -1,9 +1,5 @@
-use Rattle.std.proofs.Common.{◌∙◌, sym, ap, arith}
-use Rattle.std.proofs.lemmas.List.Folds.{flat_map-map}
-use Rattle.std.specs.List.{flat_map}
-use Rattle.cj_geometry.specs.ObjectTypes.{row_at}
+use Rattle.cityseq_command.proofs.Common.{ap, arith, flat_map, flat_map-map, row_at, sym, type_text, ◌∙◌}
 use Rattle.cj_geometry.specs.declared.object_type.ObjectType.TheVariants.{Bridge}
-use Rattle.cityseq_command.specs.Summary.{type_text}
 use Rattle.cityseq_command.proofs.WroteLemmas.{Wrote-nothing, part-wrote, part-stops, parts-wrote}
 use Rattle.cityseq_command.proofs.summary.write_types.Goals as goal
 

@@ -1,9 +1,4 @@
-use Rattle.std.proofs.Common.{Ok, take}
-use Rattle.std.specs.List.{flat_map}
-use Rattle.cj_stream.specs.Output.{channel}
-use Rattle.cj_geometry.specs.ObjectTypes.{row_at}
-use Rattle.cityseq_command.specs.FaultLines.{Wrote}
-use Rattle.cityseq_command.specs.Summary.{type_text}
+use Rattle.cityseq_command.proofs.Common.{Ok, Wrote, channel, flat_map, row_at, take, type_text}
 use Rattle.cityseq_command.proofs.summary.write_types.Given as goal
 
 abbrev pub invariant-loop-object_type : goal.invariant-loop-object_type

@@ -1,6 +1,4 @@
-use Rattle.std.proofs.Common.{refl}
-use Rattle.std.specs.Fmt.{digits}
-use Rattle.cj_geometry.specs.Meaning.ObjectTypes.{object_types}
+use Rattle.cityseq_command.proofs.Common.{digits, object_types, refl}
 use Rattle.cityseq_command.proofs.summary_laws.summaries_compute.Goals as goal
 
 pub returns : goal.returns

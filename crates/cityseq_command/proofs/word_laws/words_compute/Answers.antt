@@ -1,5 +1,4 @@
-use Rattle.std.proofs.Common.{◌≡◌, ◌∷◌, [], List, lit<, refl, rules}
-use Rattle.std.specs.Fmt.{digits}
+use Rattle.cityseq_command.proofs.Common.{List, [], digits, lit<, refl, rules, ◌∷◌, ◌≡◌}
 use Rattle.clap.proofs.OnLiterals.{clap_on_literals}
 use Rattle.clap.specs.declared.error.kind.ErrorKind.{ErrorKind}
 use Rattle.cityseq_command.proofs.word_laws.words_compute.Goals as goal

@@ -1,6 +1,4 @@
-use Rattle.std.proofs.Common.{codes}
-use Rattle.std.proofs.lemmas.Result.{IfOk-weaker}
-use Rattle.clap.specs.Words.{new_app}
+use Rattle.cityseq_command.proofs.Common.{IfOk-weaker, codes, new_app}
 use Rattle.cityseq_command.proofs.CommandLemmas.{with_option}
 use Rattle.cityseq_command.proofs.words.check_command.Goals as goal
 

@@ -1,6 +1,4 @@
-use Rattle.std.proofs.Common.{ℕ, Result, Ok, Err, refl}
-use Rattle.std.specs.Prelude.{IfErr, IsErrOf}
-use Rattle.clap.specs.declared.parser.matches.ArgMatches.{ArgMatches}
+use Rattle.cityseq_command.proofs.Common.{ArgMatches, Err, IfErr, IsErrOf, Ok, Result, refl, ℕ}
 use Rattle.cj_budget.specs.Limits.{InLine, InDepth}
 use Rattle.cj_budget.specs.declared.limits.LimitFault.{LimitFault}
 use Rattle.cj_budget.specs.declared.limits.LimitFault.TheVariants.{LineLimit, DepthLimit}

@@ -1,7 +1,5 @@
-use Rattle.std.proofs.Common.{◌≡◌, ◌∙◌, ℕ, List, Option, Some, None, Result, Ok, Err, ap}
-use Rattle.std.specs.Option.{unwrap_or}
+use Rattle.cityseq_command.proofs.Common.{Err, List, None, Ok, Option, ReadsOne, Result, Some, Text, ap, unwrap_or, ℕ, ◌∙◌, ◌≡◌}
 use Rattle.std.specs.Str.Parse.{ParsesUnsigned, ExplainsUnsignedError, HasUnsignedDigitsIfOk}
-use Rattle.clap.specs.Words.{ReadsOne, Text}
 use Rattle.cityseq_command.specs.Words.{IsNumber, number_in}
 use Rattle.cityseq_command.proofs.words.number_of.Goals as goal
 

@@ -1,6 +1,4 @@
-use Rattle.std.proofs.Common.{codes, rules}
-use Rattle.std.proofs.lemmas.Result.{IfOk-weaker}
-use Rattle.cityseq_command.specs.Commands.{IsCommand, bare_app}
+use Rattle.cityseq_command.proofs.Common.{IfOk-weaker, IsCommand, bare_app, codes, rules}
 use Rattle.cityseq_command.proofs.CommandLemmas.{with_command}
 use Rattle.cityseq_command.proofs.words.program.Goals as goal
 

@@ -1,8 +1,5 @@
-use Rattle.std.proofs.Common.{◌≡◌, ◌∙◌, ap, subst, refl, true, map}
-use Rattle.std.specs.Prelude.{string_bytes}
-use Rattle.std.proofs.lemmas.Result.{IfErr-weaker, IfOk-weaker}
+use Rattle.cityseq_command.proofs.Common.{IfErr-weaker, IfOk-weaker, ap, map, program_app, refl, string_bytes, subst, true, ◌∙◌, ◌≡◌}
 use Rattle.clap.specs.Words.{App, FailsBy, fault_of, is_simple, is_simple_and_free, subcommand_of, takes}
-use Rattle.cityseq_command.specs.Commands.{program_app}
 use Rattle.cityseq_command.proofs.words.read_words.Goals as goal
 
 simple : is_simple program_app ≡ true

@@ -1,5 +1,4 @@
-use Rattle.std.proofs.Common.{refl}
-use Rattle.std.specs.Fmt.{digits}
+use Rattle.cityseq_command.proofs.Common.{digits, refl}
 use Rattle.cityseq_command.proofs.words.usual_depth.Goals as goal
 
 pub returns : goal.returns

@@ -1,8 +1,5 @@
-use Rattle.std.proofs.Common.{◌≡◌, ◌-◌, ◌<◌, arith, sym, ap, ◌∙◌, refl}
-use Rattle.cj_spans.specs.Meaning.Finding.{least}
-use Rattle.cj_spans.specs.View.{tree}
+use Rattle.cj_geometry.proofs.Common.{ap, arith, least, refl, shape, sym, tree, ◌-◌, ◌<◌, ◌∙◌, ◌≡◌}
 use Rattle.cj_spans.proofs.Findings.{least_on}
-use Rattle.cj_geometry.specs.Meaning.Geometry.{shape}
 use Rattle.cj_geometry.proofs.Shapes.{shape-array}
 use Rattle.cj_geometry.proofs.boundaries.+check_shape.Goals as goal
 

@@ -1,8 +1,4 @@
-use Rattle.std.proofs.Common.{◌≡◌, ◌-◌}
-use Rattle.std.specs.List.{flat_map}
-use Rattle.cj_spans.specs.Meaning.Finding.{least}
-use Rattle.cj_spans.specs.View.{tree, items_left}
-use Rattle.cj_geometry.specs.Meaning.Geometry.{shape}
+use Rattle.cj_geometry.proofs.Common.{flat_map, items_left, least, shape, tree, ◌-◌, ◌≡◌}
 use Rattle.cj_geometry.proofs.boundaries.+check_shape.Given as goal
 
 abbrev pub decreases-check_shape : goal.decreases-check_shape

@@ -1,12 +1,6 @@
-use Rattle.std.proofs.Common.{ap, ◌∙◌}
-use Rattle.std.specs.List.{flat_map}
-use Rattle.cj_spans.specs.declared.reason.Reason.TheVariants.{VertexIndex}
-use Rattle.cj_spans.specs.Meaning.Finding.{least}
-use Rattle.cj_spans.specs.Meaning.Parts.{items_of}
-use Rattle.cj_spans.specs.View.{tree, items_left}
+use Rattle.cj_geometry.proofs.Common.{VertexIndex, ap, flat_map, items_left, items_of, least, shape, tree, ◌∙◌}
 use Rattle.cj_spans.proofs.Findings.{least_on}
 use Rattle.cj_geometry.proofs.Lone.{past-none}
-use Rattle.cj_geometry.specs.Meaning.Geometry.{shape}
 use Rattle.cj_geometry.proofs.boundaries.check_indices.Goals as goal
 
 pub loop-item-preserved : goal.loop-item-preserved

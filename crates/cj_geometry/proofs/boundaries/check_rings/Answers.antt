@@ -1,5 +1,5 @@
+use Rattle.cj_geometry.proofs.Common.{shape}
 use Rattle.cj_spans.proofs.Findings.{least_on}
-use Rattle.cj_geometry.specs.Meaning.Geometry.{shape}
 use Rattle.cj_geometry.proofs.boundaries.check_rings.Goals as goal
 
 pub loop-item-preserved : goal.loop-item-preserved

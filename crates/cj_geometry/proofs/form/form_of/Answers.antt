@@ -1,7 +1,4 @@
-use Rattle.std.proofs.Common.{◌≡◌, ◌∙◌, sym, ap, codes, true, false, Some}
-use Rattle.std.specs.Str.{chars}
-use Rattle.cj_spans.specs.Meaning.Parts.{has_text}
-use Rattle.cj_spans.specs.View.{tree}
+use Rattle.cj_geometry.proofs.Common.{Some, ap, chars, codes, false, has_text, sym, tree, true, ◌∙◌, ◌≡◌}
 use Rattle.cj_geometry.proofs.Texts.{other_text}
 use Rattle.cj_geometry.proofs.form.form_of.Goals as goal
 

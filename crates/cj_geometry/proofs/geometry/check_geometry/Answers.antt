@@ -1,9 +1,5 @@
-use Rattle.std.proofs.Common.{sym, ◌++◌}
-use Rattle.cj_spans.specs.View.{tree}
-use Rattle.cj_spans.specs.Meaning.Kinds.{is_object}
+use Rattle.cj_geometry.proofs.Common.{distinct, is_object, sym, tree, typed_rules, ◌++◌}
 use Rattle.cj_geometry.specs.Given.{given}
-use Rattle.cj_geometry.specs.Meaning.Rule.{distinct}
-use Rattle.cj_geometry.specs.Meaning.Geometry.{typed_rules}
 use Rattle.cj_spans.proofs.Findings.{least-two}
 use Rattle.cj_geometry.proofs.OfKind.{of_kind-then}
 use Rattle.cj_geometry.proofs.geometry.check_geometry.Goals as goal

@@ -1,9 +1,4 @@
-use Rattle.std.proofs.Common.{codes, ◌∙◌}
-use Rattle.std.specs.Str.{chars}
-use Rattle.cj_spans.specs.View.{tree}
-use Rattle.cj_spans.specs.Meaning.Kinds.{is_text}
-use Rattle.cj_geometry.specs.Meaning.Rule.{needs, of_kind, nothing}
-use Rattle.cj_geometry.specs.Meaning.Geometry.{shape, semantics_if}
+use Rattle.cj_geometry.proofs.Common.{chars, codes, is_text, needs, nothing, of_kind, semantics_if, shape, tree, ◌∙◌}
 use Rattle.cj_spans.proofs.Findings.{least-three}
 use Rattle.cj_geometry.proofs.geometry.check_parts.Goals as goal
 

@@ -1,9 +1,4 @@
-use Rattle.std.proofs.Common.{codes, Some}
-use Rattle.std.specs.Str.{chars}
-use Rattle.cj_spans.specs.declared.reason.Reason.TheVariants.{TemplateIndex, VertexIndex, BadInstance}
-use Rattle.cj_spans.specs.View.{tree}
-use Rattle.cj_geometry.specs.Meaning.Rule.{needs, of_length}
-use Rattle.cj_geometry.specs.Meaning.Numbers.{index, number}
+use Rattle.cj_geometry.proofs.Common.{BadInstance, Some, TemplateIndex, VertexIndex, chars, codes, index, needs, number, of_length, tree}
 use Rattle.cj_spans.proofs.Findings.{least-three}
 use Rattle.cj_geometry.proofs.instance.check_instance.Goals as goal
 

@@ -1,5 +1,4 @@
-use Rattle.std.proofs.Common.{◌≡◌, slice_get}
-use Rattle.cj_spans.specs.View.{items_left, items_source}
+use Rattle.cj_geometry.proofs.Common.{items_left, items_source, slice_get, ◌≡◌}
 use Rattle.cj_geometry.proofs.lod.item_at.Given as goal
 
 abbrev pub invariant-loop-item : goal.invariant-loop-item

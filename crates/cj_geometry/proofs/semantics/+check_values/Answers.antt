@@ -1,9 +1,4 @@
-use Rattle.std.proofs.Common.{◌≡◌, ◌-◌, ◌<◌, arith, sym, ap, ◌∙◌, option_map, rules}
-use Rattle.std.specs.List.{flat_map}
-use Rattle.cj_spans.specs.View.{tree, items_left}
-use Rattle.cj_spans.specs.Meaning.Parts.{items_of, items_if}
-use Rattle.cj_geometry.specs.Meaning.Geometry.{values, entry, paired, other_count}
-use Rattle.cj_geometry.specs.ListSteps.{left_of}
+use Rattle.cj_geometry.proofs.Common.{ap, arith, entry, flat_map, items_if, items_left, items_of, left_of, option_map, other_count, paired, rules, sym, tree, values, ◌-◌, ◌<◌, ◌∙◌, ◌≡◌}
 use Rattle.cj_spans.proofs.Findings.{least-two, least-swap}
 use Rattle.cj_geometry.proofs.Sequences.{beside-on}
 use Rattle.cj_geometry.proofs.Shapes.{values-array, values-one}

@@ -1,9 +1,4 @@
-use Rattle.std.proofs.Common.{◌≡◌, ◌-◌, ◌&&◌, nat_eq, length, option_map}
-use Rattle.cj_spans.specs.Meaning.Finding.{least}
-use Rattle.cj_spans.specs.Meaning.Parts.{items_of, items_if}
-use Rattle.cj_spans.specs.View.{tree, items_left}
-use Rattle.cj_geometry.specs.Meaning.Geometry.{values, paired}
-use Rattle.cj_geometry.specs.ListSteps.{left_of}
+use Rattle.cj_geometry.proofs.Common.{items_if, items_left, items_of, least, left_of, length, nat_eq, option_map, paired, tree, values, ◌&&◌, ◌-◌, ◌≡◌}
 use Rattle.cj_geometry.proofs.semantics.+check_values.Given as goal
 
 abbrev pub decreases-check_values : goal.decreases-check_values

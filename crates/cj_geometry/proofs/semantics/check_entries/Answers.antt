@@ -1,11 +1,5 @@
-use Rattle.std.proofs.Common.{ap, arith, length, option_map, ◌∙◌}
-use Rattle.std.specs.List.{flat_map}
-use Rattle.std.proofs.lemmas.List.{length-drop}
-use Rattle.cj_spans.specs.Meaning.Finding.{least}
-use Rattle.cj_spans.specs.Meaning.Parts.{items_of}
-use Rattle.cj_spans.specs.View.{tree, items_left}
+use Rattle.cj_geometry.proofs.Common.{ap, arith, entry, flat_map, items_left, items_of, least, length, length-drop, option_map, other_count, tree, ◌∙◌}
 use Rattle.cj_spans.proofs.Findings.{least-two}
-use Rattle.cj_geometry.specs.Meaning.Geometry.{entry, other_count}
 use Rattle.cj_geometry.proofs.Lone.{past-none}
 use Rattle.cj_geometry.proofs.semantics.check_entries.Goals as goal
 

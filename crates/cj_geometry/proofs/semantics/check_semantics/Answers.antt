@@ -1,11 +1,4 @@
-use Rattle.std.proofs.Common.{sym, codes, ◌++◌, option_map}
-use Rattle.std.specs.Str.{chars}
-use Rattle.cj_spans.specs.Meaning.Tree.{Tree}
-use Rattle.cj_spans.specs.Meaning.Parts.{member_of}
-use Rattle.cj_spans.specs.View.{tree}
-use Rattle.cj_spans.specs.Meaning.Kinds.{is_object}
-use Rattle.cj_geometry.specs.Meaning.Rule.{distinct, needs}
-use Rattle.cj_geometry.specs.Meaning.Geometry.{surfaces, values, count_of}
+use Rattle.cj_geometry.proofs.Common.{Tree, chars, codes, count_of, distinct, is_object, member_of, needs, option_map, surfaces, sym, tree, values, ◌++◌}
 use Rattle.cj_spans.proofs.Findings.{least-three}
 use Rattle.cj_geometry.proofs.OfKind.{of_kind-then}
 use Rattle.cj_geometry.proofs.semantics.check_semantics.Goals as goal

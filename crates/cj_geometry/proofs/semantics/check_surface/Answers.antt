@@ -1,8 +1,4 @@
-use Rattle.std.proofs.Common.{sym, codes, ◌++◌}
-use Rattle.std.specs.Str.{chars}
-use Rattle.cj_spans.specs.View.{tree}
-use Rattle.cj_spans.specs.Meaning.Kinds.{is_text, is_object}
-use Rattle.cj_geometry.specs.Meaning.Rule.{distinct, needs, of_kind, nothing}
+use Rattle.cj_geometry.proofs.Common.{chars, codes, distinct, is_object, is_text, needs, nothing, of_kind, sym, tree, ◌++◌}
 use Rattle.cj_spans.proofs.Findings.{least-two}
 use Rattle.cj_geometry.proofs.OfKind.{of_kind-then}
 use Rattle.cj_geometry.proofs.semantics.check_surface.Goals as goal

@@ -1,5 +1,5 @@
+use Rattle.cj_geometry.proofs.Common.{surface}
 use Rattle.cj_spans.proofs.Findings.{least_on}
-use Rattle.cj_geometry.specs.Meaning.Geometry.{surface}
 use Rattle.cj_geometry.proofs.semantics.check_surfaces.Goals as goal
 
 pub loop-item-preserved : goal.loop-item-preserved

@@ -1,8 +1,4 @@
-use Rattle.std.proofs.Common.{◌≡◌, ◌+◌, ◌∷◌, drop, sym, ◌∙◌, arith}
-use Rattle.cj_spans.specs.Meaning.Parts.{items_of}
-use Rattle.cj_spans.specs.View.{tree, items_left}
-use Rattle.cj_geometry.specs.Meaning.Geometry.{entry}
-use Rattle.cj_geometry.specs.Lone.{AreLone}
+use Rattle.cj_geometry.proofs.Common.{AreLone, arith, drop, entry, items_left, items_of, sym, tree, ◌+◌, ◌∙◌, ◌∷◌, ◌≡◌}
 use Rattle.cj_geometry.proofs.Lone.{lone-more, none-more, lone-below, left-falls}
 use Rattle.cj_geometry.proofs.semantics.count_entries.Goals.{After-items_behind-items}
 use Rattle.cj_geometry.proofs.semantics.count_entries.Goals as goal

@@ -1,6 +1,4 @@
-use Rattle.std.proofs.Common.{◌∙◌, refl}
-use Rattle.cj_spans.specs.Meaning.Parts.{items_of}
-use Rattle.cj_spans.specs.View.{tree}
+use Rattle.cj_geometry.proofs.Common.{items_of, refl, tree, ◌∙◌}
 use Rattle.cj_geometry.proofs.ListSteps.{found_item}
 use Rattle.cj_geometry.proofs.steps.item_behind.Goals as goal
 

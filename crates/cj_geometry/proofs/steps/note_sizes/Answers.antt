@@ -1,8 +1,7 @@
-use Rattle.cj_spans.specs.Meaning.Parts.{items_of}
-use Rattle.cj_spans.specs.View.{tree, items_left}
+use Rattle.cj_geometry.proofs.Common.{items_left, items_of, tree}
 use Rattle.cj_geometry.proofs.ListSteps.{on_then, on_else}
-use Rattle.cj_geometry.proofs.steps.note_sizes.Goals as goal
 use Rattle.cj_geometry.proofs.steps.note_sizes.Goals.{then-until-eq0, else-until-eq0}
+use Rattle.cj_geometry.proofs.steps.note_sizes.Goals as goal
 
 pub loop-item-preserved : goal.loop-item-preserved
 loop-item-preserved c =

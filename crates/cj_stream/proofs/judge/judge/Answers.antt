@@ -1,12 +1,6 @@
-use Rattle.std.proofs.Common.{rules, ◌≡◌, false, refl, sym, subst, ◌∙◌, ap, Err}
-use Rattle.std.specs.Prelude.{IsUtf8}
-use Rattle.cj_spans.specs.Meaning.Json.{Json}
+use Rattle.cj_stream.proofs.Common.{Err, Invalid, IsUtf8, IsUtf8-from_is_utf8, IsValidUpTo, Json, NotUtf8, ap, false, is_utf8, is_utf8-from_IsUtf8, refl, rules, subst, sym, utf8_valid_len-IsValidUpTo, ◌∙◌, ◌≡◌}
 use Rattle.cj_spans.proofs.Judgements.{judgement}
-use Rattle.std.specs.Str.{IsValidUpTo, is_utf8}
-use Rattle.std.proofs.lemmas.Str.{utf8_valid_len-IsValidUpTo, is_utf8-from_IsUtf8, IsUtf8-from_is_utf8}
 use Rattle.cj_spans.specs.declared.fault.LineFault.TheVariants.{Syntax, TooDeep}
-use Rattle.cj_spans.specs.declared.reason.Reason.TheVariants.{NotUtf8}
-use Rattle.cj_stream.specs.Meaning.Verdict.{Invalid}
 use Rattle.cj_stream.proofs.VerdictLemmas.{verdict-bytes, verdict-json}
 use Rattle.cj_stream.proofs.JudgeLemmas.{ok-tree, ok-verdict, syntax-refused, deep-refused, not_text, syntax-text, deep-text, syntax-unspelled, deep-unspelled}
 use Rattle.cj_stream.proofs.LineLemmas.{not_true}

@@ -1,4 +1,4 @@
-use Rattle.cj_stream.specs.Meaning.Lines.{lines}
+use Rattle.cj_stream.proofs.Common.{lines}
 use Rattle.cj_stream.proofs.JudgedLemmas.{list-are, list-only}
 use Rattle.cj_stream.proofs.laws.lines_are_judged.Goals as goal
 

@@ -1,6 +1,4 @@
-use Rattle.std.proofs.Common.{subst, sym}
-use Rattle.std.specs.Io.KnownBytes.{IsAtEnd, Keeps}
-use Rattle.cj_stream.specs.Output.{output_writer, channel, output_failures, output_law}
+use Rattle.cj_stream.proofs.Common.{IsAtEnd, Keeps, channel, output_failures, output_law, output_writer, subst, sym}
 use Rattle.cj_stream.proofs.CutLemmas.{Copies-puts}
 use Rattle.cj_stream.proofs.HeadlineLemmas.{Headline-run, Keeps-same, unput}
 use Rattle.cj_stream.proofs.OutputLemmas.{Writes-puts, WritesLines-told}

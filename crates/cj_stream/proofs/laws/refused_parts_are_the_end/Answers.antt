@@ -1,8 +1,4 @@
-use Rattle.std.specs.Prelude.{[]}
-use Rattle.std.specs.List.{flat_map}
-use Rattle.std.proofs.Common.{ap}
-use Rattle.cj_stream.specs.Items.{raw_item}
-use Rattle.cj_stream.specs.Verdict.{kept_from, reported_from}
+use Rattle.cj_stream.proofs.Common.{[], ap, flat_map, kept_from, raw_item, reported_from}
 use Rattle.cj_stream.proofs.PartsLemmas.{refused-stays}
 use Rattle.cj_stream.proofs.laws.refused_parts_are_the_end.Goals as goal
 

@@ -1,8 +1,4 @@
-use Rattle.std.proofs.Common.{[], subst, sym}
-use Rattle.std.specs.Io.KnownBytes.{IsAtEnd, Keeps}
-use Rattle.cj_stream.specs.Output.{output_writer, channel, output_failures, output_law}
-use Rattle.cj_stream.specs.ReportSink.{Collects}
-use Rattle.cj_stream.specs.Verdict.{reported_first}
+use Rattle.cj_stream.proofs.Common.{Collects, IsAtEnd, Keeps, [], channel, output_failures, output_law, output_writer, reported_first, subst, sym}
 use Rattle.cj_stream.proofs.HeadlineLemmas.{Headline-run, Keeps-same, undealt, unput}
 use Rattle.cj_stream.proofs.NoteLemmas.{Noting-collected}
 use Rattle.cj_stream.proofs.OutputLemmas.{Writes-puts}

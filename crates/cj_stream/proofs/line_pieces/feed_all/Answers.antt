@@ -1,8 +1,4 @@
-use Rattle.std.proofs.Common.{[], ℕ, List, length, take, map, get_or, refl, sym, ap, arith, length-append, Err}
-use Rattle.std.proofs.lemmas.List.{length-map}
-use Rattle.cj_stream.specs.Lines.{joined}
-use Rattle.cj_stream.specs.Ending.{line_end}
-use Rattle.cj_stream.specs.Engine.{StandsFor, rules_of, lines_of}
+use Rattle.cj_stream.proofs.Common.{Err, List, StandsFor, [], ap, arith, get_or, joined, length, length-append, length-map, line_end, lines_of, map, refl, rules_of, sym, take, ℕ}
 use Rattle.cj_stream.proofs.GivingLemmas.{Given-none, Given-next, Given-fed, Given-finished}
 use Rattle.cj_stream.proofs.JoinedLemmas.{joined-more, joined-short}
 use Rattle.cj_stream.proofs.RunLemmas.{HasRisen-after}

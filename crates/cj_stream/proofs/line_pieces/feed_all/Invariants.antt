@@ -1,6 +1,4 @@
-use Rattle.std.proofs.Common.{◌≡◌, ◌+◌, ◌≤◌, ℕ, List, None, length, take, map}
-use Rattle.cj_stream.specs.Lines.{joined}
-use Rattle.cj_stream.specs.Engine.{StandsFor, rules_of, lines_of}
+use Rattle.cj_stream.proofs.Common.{List, None, StandsFor, joined, length, lines_of, map, rules_of, take, ℕ, ◌+◌, ◌≡◌, ◌≤◌}
 use Rattle.cj_stream.proofs.GivingLemmas.{IsGiven}
 use Rattle.cj_stream.proofs.line_pieces.feed_all.Given as goal
 

@@ -1,7 +1,4 @@
-use Rattle.std.proofs.Common.{map, ap}
-use Rattle.cj_stream.specs.Ending.{line_end}
-use Rattle.cj_stream.specs.Engine.{rules_of, lines_of}
-use Rattle.cj_stream.specs.Output.{output_writer, output_failures}
+use Rattle.cj_stream.proofs.Common.{ap, line_end, lines_of, map, output_failures, output_writer, rules_of}
 use Rattle.cj_stream.proofs.LinePieceLemmas.{CopiesLines-puts}
 use Rattle.cj_stream.proofs.line_pieces.headline_of_lines.Goals as goal
 

@@ -1,8 +1,6 @@
-use Rattle.std.proofs.Common.{map}
-use Rattle.cj_stream.specs.Engine.{rules_of, lines_of}
+use Rattle.cj_stream.proofs.Common.{line_end, lines_of, map, rules_of}
 use Rattle.cj_stream.proofs.LinePieceLemmas.{Delivers-whole, lines-put}
 use Rattle.cj_stream.proofs.NoteLemmas.{lines-noted}
-use Rattle.cj_stream.specs.Ending.{line_end}
 use Rattle.cj_stream.proofs.line_pieces.put_lines.Goals as goal
 
 pub returns-clause-puts : goal.returns-clause-puts

@@ -1,6 +1,4 @@
-use Rattle.std.proofs.Common.{[], length, get_or, refl, sym, ap, arith, Err}
-use Rattle.std.proofs.lemmas.List.{length-map}
-use Rattle.cj_stream.specs.Engine.{rules_of}
+use Rattle.cj_stream.proofs.Common.{Err, [], ap, arith, get_or, length, length-map, refl, rules_of, sym}
 use Rattle.cj_stream.proofs.GivingLemmas.{Given-none, Given-next, Given-fed, Given-finished}
 use Rattle.cj_stream.proofs.JoinedLemmas.{joined-more, joined-short}
 use Rattle.cj_stream.proofs.RunLemmas.{HasRisen-after, fails-grown}

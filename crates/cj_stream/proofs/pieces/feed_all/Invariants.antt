@@ -1,5 +1,4 @@
-use Rattle.std.proofs.Common.{◌≤◌, [], map}
-use Rattle.cj_stream.specs.Engine.{rules_of}
+use Rattle.cj_stream.proofs.Common.{[], map, rules_of, ◌≤◌}
 use Rattle.cj_stream.proofs.GivingLemmas.{IsGiven}
 use Rattle.cj_stream.proofs.pieces.feed_all.Given as goal
 

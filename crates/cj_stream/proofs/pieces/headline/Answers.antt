@@ -1,10 +1,4 @@
-use Rattle.std.proofs.Common.{◌+◌, drop, map, subst, sym, take}
-use Rattle.std.specs.Io.KnownBytes.{Keeps}
-use Rattle.cj_stream.specs.Engine.{rules_of, lines_of}
-use Rattle.cj_stream.specs.Judged.{judged_lines}
-use Rattle.cj_stream.specs.Meaning.Headline.{BeginsWell}
-use Rattle.cj_stream.specs.Lines.{joined}
-use Rattle.cj_stream.specs.Output.{outputs, channel, output_writer, output_failures}
+use Rattle.cj_stream.proofs.Common.{BeginsWell, Keeps, channel, drop, joined, judged_lines, lines_of, map, output_failures, output_writer, outputs, rules_of, subst, sym, take, ◌+◌}
 use Rattle.cj_stream.proofs.CutLemmas.{Copies-puts}
 use Rattle.cj_stream.proofs.HeadlineLemmas.{Copies-writes, Copies-ends, Headline-told, Keeps-same, NotesPieces-gives, begins-well}
 use Rattle.cj_stream.proofs.JoinedLemmas.{joined-cut}

@@ -1,6 +1,4 @@
-use Rattle.std.proofs.Common.{[], ◌+◌, map, take, refl}
-use Rattle.cj_stream.specs.Lines.{joined}
-use Rattle.cj_stream.specs.Engine.{rules_of, lines_of}
+use Rattle.cj_stream.proofs.Common.{[], joined, lines_of, map, refl, rules_of, take, ◌+◌}
 use Rattle.cj_stream.proofs.CutLemmas.{unread-at}
 use Rattle.cj_stream.proofs.LinePieceLemmas.{Delivers-whole, PutsPieces-ends}
 use Rattle.cj_stream.proofs.NoteLemmas.{NotesRun-told, NotesPieces-told, noted-none}

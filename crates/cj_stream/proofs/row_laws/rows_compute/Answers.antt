@@ -1,10 +1,6 @@
-use Rattle.std.proofs.Common.{refl}
-use Rattle.std.specs.Str.{is_utf8, chars}
-use Rattle.std.specs.Str.Lossy.{utf8_valid_len}
+use Rattle.cj_stream.proofs.Common.{chars, code_points_after, first_code_point, first_width, is_utf8, refl, text, utf8_valid_len, verdict_at}
 use lib.Utf8.{encode}
 use Rattle.cj_spans.proofs.Judgements.{judgement, over, by_step, by_depth, sinks, at_end, by_end, text_of, no_end, ends_at}
-use Rattle.cj_spans.specs.Meaning.Text.{text, code_points_after, first_code_point, first_width}
-use Rattle.cj_stream.specs.Verdict.{verdict_at}
 use Rattle.cj_stream.proofs.RowLemmas.{whole, blank, order, bad, long, euro, cut_after, comma_after, short_after, deep_after, open_after}
 use Rattle.cj_stream.proofs.row_laws.rows_compute.Goals as goal
 

@@ -1,13 +1,7 @@
-use Rattle.std.proofs.Common.{◌≡◌, ◌+◌, ◌++◌, ◌∙◌, [], inr, length, length-append, length-take, take, refl, sym, ap, arith, Err}
-use Rattle.std.proofs.lemmas.List.{append-nil}
-use Rattle.cj_stream.specs.declared.ending.End.TheVariants.{ReadFault, ReadLimit, Memory}
-use Rattle.cj_stream.specs.Engine.{rules_of, lines_of}
-use Rattle.cj_stream.specs.Run.{outcome_of}
+use Rattle.cj_stream.proofs.Common.{Err, Memory, ReadFault, ReadLimit, [], ap, append-nil, arith, inr, is_err, kept_from, length, length-append, length-take, lines_of, outcome_of, refl, rules_of, sym, take, ◌++◌, ◌+◌, ◌∙◌, ◌≡◌}
 use Rattle.cj_stream.proofs.RunLemmas.{Consumes-then, Consumes-kept, Delivers-then, Runs-left, Ends-finished, Ends-fed, whole-good, HasRisen-after, told-not_complete, fault-not_complete, limit-not_complete, Gave-finished, Gave-fed, last-none, last-piece, least-going, begun-judged, stops-after}
 use Rattle.cj_stream.proofs.LeastLemmas.{begun-held}
-use Rattle.std.specs.Prelude.{is_err}
 use Rattle.cj_stream.proofs.CutLemmas.{unread-told, unread-concludes}
-use Rattle.cj_stream.specs.Verdict.{kept_from}
 use Rattle.cj_stream.proofs.FirstLemmas.{first-same}
 use Rattle.cj_stream.proofs.NoteLemmas.{Notes-then, Notes-more, Noting-told}
 use Rattle.cj_stream.proofs.OutputLemmas.{Runs-told}

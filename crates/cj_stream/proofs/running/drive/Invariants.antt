@@ -1,9 +1,5 @@
-use Rattle.std.proofs.Common.{◌≡◌, ◌*◌, ◌≤◌, ℕ, List, None, length, false}
-use Rattle.std.specs.Io.KnownBytes.{Consumes}
+use Rattle.cj_stream.proofs.Common.{Consumes, Delivers, List, None, Notes, StandsFor, false, length, lines_of, rules_of, stretch, ℕ, ◌*◌, ◌≡◌, ◌≤◌}
 use Rattle.cj_stream.specs.Source.{source_reader, source_name, reads_of, has_failed}
-use Rattle.cj_stream.specs.Engine.{StandsFor, rules_of, lines_of, Delivers}
-use Rattle.cj_stream.specs.ReportSink.{Notes}
-use Rattle.cj_stream.specs.Verdict.{stretch}
 use Rattle.cj_stream.proofs.running.drive.Given as goal
 
 abbrev pub invariant-loop-i : goal.invariant-loop-i

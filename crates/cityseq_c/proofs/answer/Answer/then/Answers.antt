@@ -1,14 +1,8 @@
-use Rattle.std.proofs.Common.{◌≡◌, ℕ, ◌+◌, ◌-◌, None, subst, sym, ap, ◌∙◌}
-use Rattle.cj_stream.specs.declared.ending.End.TheVariants.{Complete}
-use Rattle.cj_stream.specs.Cut.{IsUnread}
-use Rattle.cj_stream.specs.declared.running.Outcome.{Outcome}
+use Rattle.cityseq_c.proofs.Common.{Account, Complete, IsJudged, IsUnread, None, Outcome, ap, capped, run_over, subst, sym, ℕ, ◌+◌, ◌-◌, ◌∙◌, ◌≡◌}
 use Rattle.cj_stream.specs.Parts.{headed, both_outcomes, capped_end, capped_outcome, moved_end}
-use Rattle.cj_stream.specs.Run.{Account}
-use Rattle.cj_stream.specs.Tallied.{capped}
 use Rattle.cj_stream.proofs.AccountLemmas.{Account-stays}
 use Rattle.cityseq_c.specs.Answer.{answer_of}
 use Rattle.cityseq_c.specs.Joined.{ended_by, outcome_by}
-use Rattle.cityseq_c.specs.Judged.{IsJudged, run_over}
 use Rattle.cityseq_c.proofs.AnswerLemmas.{complete-of, ended-of, judged-moved, judged-unread, not-complete, outcome-of, same-end}
 use Rattle.cityseq_c.proofs.answer.Answer.then.Goals as goal
 

@@ -1,8 +1,4 @@
-use Rattle.std.proofs.Common.{ap, sym, ◌∙◌}
-use Rattle.std.specs.Prelude.{codes, option_map}
-use Rattle.std.specs.Str.{chars}
-use Rattle.cj_spans.specs.Meaning.Parts.{member_if}
-use Rattle.cj_spans.specs.View.{tree}
+use Rattle.cityseq_c.proofs.Common.{ap, chars, codes, member_if, option_map, sym, tree, ◌∙◌}
 use Rattle.cityseq_c.proofs.MainLemmas.{line-kept}
 use Rattle.cityseq_c.proofs.features.record_of.attributes_of.Goals as goal
 

@@ -1,8 +1,4 @@
-use Rattle.std.proofs.Common.{ap, sym, ◌∙◌}
-use Rattle.std.specs.Prelude.{option_map}
-use Rattle.cj_spans.specs.View.{tree}
-use Rattle.cj_feature.specs.View.{feature_line, feature_tree}
-use Rattle.cityseq_c.specs.Features.{attributes_in}
+use Rattle.cityseq_c.proofs.Common.{ap, attributes_in, feature_line, feature_tree, option_map, sym, tree, ◌∙◌}
 use Rattle.cityseq_c.proofs.MainLemmas.{no-span, span-of}
 use Rattle.cityseq_c.proofs.features.record_of.attributes_span.Goals as goal
 

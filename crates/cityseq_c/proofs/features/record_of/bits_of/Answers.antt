@@ -1,10 +1,8 @@
-use Rattle.std.proofs.Common.{ℕ, Bool, true, false, get_or, sym, refl, arith}
+use Rattle.cityseq_c.proofs.Common.{Bool, arith, false, get_or, nat_tests, pow_mono, refl, sym, true, ℕ}
 use Rattle.std.specs.Prelude.{nat_lt}
-use Rattle.std.proofs.Math.Pow.{pow_mono}
-use Rattle.std.proofs.lemmas.Bool.Decides.{nat_tests}
 use Rattle.cityseq_c.proofs.BitLemmas.{bits-none, bits-step}
-use Rattle.cityseq_c.proofs.features.record_of.bits_of.Goals as goal
 use Rattle.cityseq_c.proofs.features.record_of.bits_of.Goals.{then-count-gt0, else-count-gt0}
+use Rattle.cityseq_c.proofs.features.record_of.bits_of.Goals as goal
 
 pub loop-count-init : goal.loop-count-init
 loop-count-init c = (refl, sym (bits-none _), omega arith)

@@ -1,6 +1,5 @@
-use Rattle.std.proofs.Common.{◌≡◌, ◌<◌, ◌^◌, get_or}
+use Rattle.cityseq_c.proofs.Common.{bits, get_or, ◌<◌, ◌^◌, ◌≡◌}
 use Rattle.std.specs.Prelude.{nat_lt}
-use Rattle.cityseq_c.specs.Features.{bits}
 use Rattle.cityseq_c.proofs.features.record_of.bits_of.Given as goal
 
 abbrev pub invariant-loop-count : goal.invariant-loop-count

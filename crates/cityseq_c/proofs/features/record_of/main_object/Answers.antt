@@ -1,8 +1,4 @@
-use Rattle.std.proofs.Common.{ap, sym, ◌∙◌}
-use Rattle.cj_spans.specs.Meaning.Parts.{first_named}
-use Rattle.cj_spans.specs.View.{tree}
-use Rattle.cj_feature.specs.View.{feature_tree}
-use Rattle.cj_feature.specs.Walks.{objects_left, objects_line}
+use Rattle.cityseq_c.proofs.Common.{ap, feature_tree, first_named, objects_left, objects_line, sym, tree, ◌∙◌}
 use Rattle.cityseq_c.proofs.MainLemmas.{main-first, main-here, main-past}
 use Rattle.cityseq_c.proofs.features.record_of.main_object.Goals as goal
 

@@ -1,9 +1,4 @@
-use Rattle.std.proofs.Common.{◌≡◌, ℕ, List, Some}
-use Rattle.cj_spans.specs.Meaning.Parts.{first_named, text_of}
-use Rattle.cj_spans.specs.View.{tree}
-use Rattle.cj_feature.specs.View.{feature_line, feature_tree}
-use Rattle.cj_feature.specs.Walks.{objects_left, objects_line}
-use Rattle.cityseq_c.specs.Features.{main_object}
+use Rattle.cityseq_c.proofs.Common.{List, Some, feature_line, feature_tree, first_named, main_object, objects_left, objects_line, text_of, tree, ℕ, ◌≡◌}
 use Rattle.cityseq_c.proofs.features.record_of.main_object.Given as goal
 
 abbrev pub invariant-loop-object : goal.invariant-loop-object

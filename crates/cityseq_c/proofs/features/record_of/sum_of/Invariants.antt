@@ -1,6 +1,4 @@
-use Rattle.std.proofs.Common.{◌≡◌, take}
-use Rattle.std.specs.Prelude.{sum}
-use Rattle.cj_stream.specs.Tallied.{capped}
+use Rattle.cityseq_c.proofs.Common.{capped, sum, take, ◌≡◌}
 use Rattle.cityseq_c.proofs.features.record_of.sum_of.Given as goal
 
 abbrev pub invariant-loop-count : goal.invariant-loop-count

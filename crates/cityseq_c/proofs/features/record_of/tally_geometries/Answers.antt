@@ -1,16 +1,8 @@
-use Rattle.std.proofs.Common.{◌≡◌, ℕ, ◌<◌, ◌∙◌, ap, arith, get_or, length, rules}
-use Rattle.std.specs.Prelude.{nat_lt, option_and_then, replicate}
-use Rattle.std.specs.List.{flat_map}
-use Rattle.std.proofs.lemmas.List.{get_or-replicate}
-use Rattle.cj_spans.specs.Meaning.Tree.{Tree}
+use Rattle.cityseq_c.proofs.Common.{Tree, ap, arith, bits, capped, class_of, feature_header, feature_tree, flat_map, get_or, get_or-replicate, length, lod_classes, object_geometries, objects_of, option_and_then, replicate, rules, ℕ, ◌<◌, ◌∙◌, ◌≡◌}
+use Rattle.std.specs.Prelude.{nat_lt}
 use Rattle.cj_spans.specs.Initials.{first_code_of}
 use Rattle.cj_geometry.specs.Meaning.Lod.{lod}
 use Rattle.cj_feature.specs.Meaning.Feature.{templates_of}
-use Rattle.cj_feature.specs.View.{feature_header, feature_tree}
-use Rattle.cj_feature.specs.Meaning.CityObject.{object_geometries}
-use Rattle.cj_stream.specs.Meaning.Criteria.{objects_of}
-use Rattle.cj_stream.specs.Tallied.{capped, class_of, lod_classes}
-use Rattle.cityseq_c.specs.Features.{bits}
 use Rattle.cityseq_c.proofs.BitLemmas.{bits-among}
 use Rattle.cityseq_c.proofs.CountLemmas.{all-counted, capped-sum, class-small, counts-at, counts_of}
 use Rattle.cityseq_c.proofs.features.record_of.tally_geometries.Goals as goal

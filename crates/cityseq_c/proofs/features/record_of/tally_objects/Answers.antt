@@ -1,8 +1,4 @@
-use Rattle.std.proofs.Common.{◌∷◌, ap, arith, length, map, refl, sym, ◌∙◌}
-use Rattle.cj_spans.specs.Meaning.Tree.{Tree}
-use Rattle.cj_feature.specs.Meaning.CityObject.{type_row}
-use Rattle.cj_feature.specs.Walks.{objects_left}
-use Rattle.cj_stream.specs.Tallied.{row_number}
+use Rattle.cityseq_c.proofs.Common.{Tree, ap, arith, length, map, objects_left, refl, row_number, sym, type_row, ◌∙◌, ◌∷◌}
 use Rattle.cityseq_c.proofs.BitLemmas.{Marking-end, Marking-start, Marking-step}
 use Rattle.cityseq_c.proofs.features.record_of.tally_objects.Goals as goal
 

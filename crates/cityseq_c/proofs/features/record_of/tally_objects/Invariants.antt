@@ -1,9 +1,4 @@
-use Rattle.std.proofs.Common.{◌≡◌, ◌+◌, ◌^◌, ◌<◌, length, map}
-use Rattle.cj_feature.specs.Meaning.CityObject.{type_row}
-use Rattle.cj_feature.specs.View.{feature_tree}
-use Rattle.cj_feature.specs.Walks.{objects_left}
-use Rattle.cj_stream.specs.Meaning.Criteria.{objects_of}
-use Rattle.cj_stream.specs.Tallied.{capped, row_number, type_numbers}
+use Rattle.cityseq_c.proofs.Common.{capped, feature_tree, length, map, objects_left, objects_of, row_number, type_numbers, type_row, ◌+◌, ◌<◌, ◌^◌, ◌≡◌}
 use Rattle.cityseq_c.proofs.BitLemmas.{Marking}
 use Rattle.cityseq_c.proofs.features.record_of.tally_objects.Given as goal
 

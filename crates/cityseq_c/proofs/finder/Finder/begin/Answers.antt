@@ -1,12 +1,7 @@
-use Rattle.std.proofs.Common.{◌≡◌, ◌⊎◌, ◌+◌, ◌++◌, ◌≤◌, [], ◌∙◌, ap, arith, inl, inr, length, refl, sym}
-use Rattle.std.proofs.lemmas.List.{drop_all}
-use Rattle.cj_stream.specs.Meaning.Lines.{lines}
-use Rattle.cityseq_c.specs.Begins.{begin_of}
-use Rattle.cityseq_c.specs.Features.{place_of}
-use Rattle.cityseq_c.specs.ReportSlice.{finder_text}
+use Rattle.cityseq_c.proofs.Common.{[], ap, arith, begin_of, drop_all, finder_text, inl, inr, length, lines, place_of, refl, sym, ◌++◌, ◌+◌, ◌∙◌, ◌≡◌, ◌≤◌, ◌⊎◌}
 use Rattle.cityseq_c.proofs.FinderLemmas.{along-next, begin-found}
-use Rattle.cityseq_c.proofs.finder.Finder.begin.Goals as goal
 use Rattle.cityseq_c.proofs.finder.Finder.begin.Goals.{then-line, else-line, then-loop-self-test+else-not-is_at_end, else-loop-self-test}
+use Rattle.cityseq_c.proofs.finder.Finder.begin.Goals as goal
 
 pub invariant_of-self-in-loop-self-clause-along : goal.invariant_of-self-in-loop-self-clause-along
 invariant_of-self-in-loop-self-clause-along c =

@@ -1,5 +1,4 @@
-use Rattle.std.proofs.Common.{sym, subst}
-use Rattle.cityseq_c.specs.Begins.{IsAlong}
+use Rattle.cityseq_c.proofs.Common.{IsAlong, subst, sym}
 use Rattle.cityseq_c.proofs.FinderLemmas.{along-new, behind}
 use Rattle.cityseq_c.proofs.finder.Finder.new.Goals as goal
 

@@ -1,8 +1,7 @@
-use Rattle.std.proofs.Common.{◌≡◌, ap, arith, rules}
-use Rattle.std.specs.Prelude.{◌≢◌}
+use Rattle.std.proofs.Common.{◌≡◌, ap, arith, rules, ◌≢◌}
 use Rattle.cityseq_c.proofs.TallyLemmas.{IsOfSize, tallied-then, zeros-then}
-use Rattle.cityseq_c.proofs.tally.Tally.then.Goals as goal
 use Rattle.cityseq_c.proofs.tally.Tally.then.Goals.{then-self-eq0, else-self-eq0}
+use Rattle.cityseq_c.proofs.tally.Tally.then.Goals as goal
 
 pub returns-clause-joined : goal.returns-clause-joined
 returns-clause-joined c rules h a b cut done first second =

@@ -1,8 +1,4 @@
-use Rattle.std.proofs.Common.{◌≡◌, ◌∙◌, ap, sym, ℕ, nat_eq, arith}
-use Rattle.std.specs.Prelude.{IsTrue}
-use Rattle.std.proofs.lemmas.Bool.Decides.{nat_tests}
-use Rattle.cj_geometry.specs.Meaning.Geometry.{template_count}
-use Rattle.cj_spans.specs.View.{document}
+use Rattle.cj_feature.proofs.Common.{IsTrue, ap, arith, document, nat_eq, nat_tests, sym, template_count, ℕ, ◌∙◌, ◌≡◌}
 use Rattle.cj_feature.specs.View.{feature_tree, feature_header}
 use Rattle.cj_feature.proofs.OwnLods.{valid-lods}
 use Rattle.cj_feature.proofs.feature.Feature.has_own_lods.Goals as goal

@@ -1,10 +1,4 @@
-use Rattle.std.proofs.Common.{codes, None, refl, sym}
-use Rattle.std.specs.Str.{chars}
-use Rattle.cj_spans.specs.Meaning.Kinds.{is_text}
-use Rattle.cj_spans.specs.Meaning.Parts.{member_of}
-use Rattle.cj_spans.specs.View.{document, tree}
-use Rattle.cj_geometry.specs.Meaning.Rule.{of_kind}
-use Rattle.cj_feature.specs.Meaning.Feature.{id_in, templates_of}
+use Rattle.cj_feature.proofs.Common.{None, chars, codes, document, id_in, is_text, member_of, of_kind, refl, sym, templates_of, tree}
 use Rattle.cj_feature.specs.View.{feature_tree}
 use Rattle.cj_feature.proofs.Ids.{has-name}
 use Rattle.cj_feature.proofs.None.{is-there}

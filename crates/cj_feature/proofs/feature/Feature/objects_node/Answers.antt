@@ -1,5 +1,4 @@
-use Rattle.std.proofs.Common.{◌∙◌, ap, sym, Some}
-use Rattle.cj_spans.specs.View.{line_of, source_of, document_line, document_source}
+use Rattle.cj_feature.proofs.Common.{Some, ap, document_line, document_source, line_of, source_of, sym, ◌∙◌}
 use Rattle.cj_feature.proofs.feature.Feature.objects_node.Goals as goal
 
 pub returns-clause-tree : goal.returns-clause-tree

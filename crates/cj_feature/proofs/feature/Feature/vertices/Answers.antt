@@ -1,9 +1,4 @@
-use Rattle.std.proofs.Common.{◌∙◌, ap, codes, Some, refl, sym}
-use Rattle.std.specs.Str.{chars}
-use Rattle.std.specs.List.{list_all}
-use Rattle.cj_spans.specs.View.{document, tree}
-use Rattle.cj_feature.specs.Meaning.Feature.{templates_of, vertex_list}
-use Rattle.cj_feature.specs.inner.Typed.{is_vertex}
+use Rattle.cj_feature.proofs.Common.{Some, ap, chars, codes, document, is_vertex, list_all, refl, sym, templates_of, tree, vertex_list, ◌∙◌}
 use Rattle.cj_feature.proofs.None.{then-none}
 use Rattle.cj_feature.proofs.Valid.{has-vertices}
 use Rattle.cj_feature.proofs.Typed.{all-vertices}

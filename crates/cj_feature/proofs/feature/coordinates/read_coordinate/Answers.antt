@@ -1,11 +1,4 @@
-use Rattle.std.proofs.Common.{◌≡◌, ◌∙◌, ℕ, List, sym, ap, map, drop, rules, arith}
-use Rattle.std.proofs.lemmas.List.{drop-map}
-use Rattle.cj_spans.specs.Meaning.Tree.{Tree}
-use Rattle.cj_spans.specs.Meaning.Parts.{items_of}
-use Rattle.cj_spans.specs.View.{tree, items_left}
-use Rattle.cj_geometry.specs.Meaning.Numbers.{whole_of}
-use Rattle.cj_feature.specs.Meaning.CityObject.{vertex_of}
-use Rattle.cj_feature.specs.inner.Typed.{begins_whole}
+use Rattle.cj_feature.proofs.Common.{List, Tree, ap, arith, begins_whole, drop, drop-map, items_left, items_of, map, rules, sym, tree, vertex_of, whole_of, ℕ, ◌∙◌, ◌≡◌}
 use Rattle.cj_feature.proofs.Typed.{three-begin, number-begins}
 use Rattle.cj_feature.proofs.feature.coordinates.read_coordinate.Goals as goal
 

@@ -1,6 +1,4 @@
-use Rattle.std.proofs.Common.{◌≡◌, drop}
-use Rattle.cj_spans.specs.Meaning.Parts.{items_of}
-use Rattle.cj_spans.specs.View.{tree, items_left}
+use Rattle.cj_feature.proofs.Common.{drop, items_left, items_of, tree, ◌≡◌}
 use Rattle.cj_feature.proofs.feature.coordinates.read_coordinate.Given as goal
 
 abbrev pub invariant-loop : goal.invariant-loop

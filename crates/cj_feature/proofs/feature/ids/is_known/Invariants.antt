@@ -1,7 +1,4 @@
-use Rattle.std.proofs.Common.{◌≡◌}
-use Rattle.cj_spans.specs.Meaning.Parts.{members_of}
-use Rattle.cj_spans.specs.View.{tree, members_left}
-use Rattle.cj_feature.specs.Meaning.Links.{is_known}
+use Rattle.cj_feature.proofs.Common.{is_known, members_left, members_of, tree, ◌≡◌}
 use Rattle.cj_feature.proofs.feature.ids.is_known.Given as goal
 
 abbrev pub invariant-loop-name : goal.invariant-loop-name

@@ -1,7 +1,5 @@
-use Rattle.cj_spans.specs.Meaning.Parts.{members_of}
-use Rattle.cj_spans.specs.View.{tree}
+use Rattle.cj_feature.proofs.Common.{members_of, object_links, tree}
 use Rattle.cj_spans.proofs.Findings.{least_on}
-use Rattle.cj_feature.specs.Meaning.Links.{object_links}
 use Rattle.cj_feature.proofs.feature.links.check_few_links.Goals as goal
 
 pub loop-name-preserved : goal.loop-name-preserved

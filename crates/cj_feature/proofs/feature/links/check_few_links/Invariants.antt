@@ -1,9 +1,4 @@
-use Rattle.std.proofs.Common.{◌≡◌}
-use Rattle.std.specs.List.{flat_map}
-use Rattle.cj_spans.specs.Meaning.Finding.{least}
-use Rattle.cj_spans.specs.Meaning.Parts.{members_of}
-use Rattle.cj_spans.specs.View.{tree, members_left}
-use Rattle.cj_feature.specs.Meaning.Links.{object_links}
+use Rattle.cj_feature.proofs.Common.{flat_map, least, members_left, members_of, object_links, tree, ◌≡◌}
 use Rattle.cj_feature.proofs.feature.links.check_few_links.Given as goal
 
 abbrev pub invariant-loop-name : goal.invariant-loop-name

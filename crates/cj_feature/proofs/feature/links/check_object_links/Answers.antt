@@ -1,7 +1,5 @@
-use Rattle.cj_spans.specs.Meaning.Parts.{members_of}
-use Rattle.cj_spans.specs.View.{tree, trees}
+use Rattle.cj_feature.proofs.Common.{children, members_of, parents, part, tree, trees}
 use Rattle.cj_spans.proofs.Findings.{least-three}
-use Rattle.cj_feature.specs.Meaning.Links.{children, parents, part}
 use Rattle.cj_feature.proofs.feature.links.check_object_links.Goals as goal
 
 pub returns : goal.returns

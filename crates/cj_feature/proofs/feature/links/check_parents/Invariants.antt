@@ -1,9 +1,4 @@
-use Rattle.std.proofs.Common.{◌≡◌}
-use Rattle.std.specs.List.{flat_map}
-use Rattle.cj_spans.specs.Meaning.Finding.{least}
-use Rattle.cj_spans.specs.Meaning.Parts.{members_of}
-use Rattle.cj_spans.specs.View.{tree, items_left}
-use Rattle.cj_feature.specs.Meaning.Links.{parent}
+use Rattle.cj_feature.proofs.Common.{flat_map, items_left, least, members_of, parent, tree, ◌≡◌}
 use Rattle.cj_feature.proofs.feature.links.check_parents.Given as goal
 
 abbrev pub invariant-loop-item : goal.invariant-loop-item

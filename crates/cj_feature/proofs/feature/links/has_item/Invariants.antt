@@ -1,6 +1,4 @@
-use Rattle.std.proofs.Common.{◌≡◌}
-use Rattle.cj_spans.specs.View.{tree, items_left}
-use Rattle.cj_feature.specs.Meaning.Links.{has_item}
+use Rattle.cj_feature.proofs.Common.{has_item, items_left, tree, ◌≡◌}
 use Rattle.cj_feature.proofs.feature.links.has_item.Given as goal
 
 abbrev pub invariant-loop-item : goal.invariant-loop-item

@@ -1,8 +1,4 @@
-use Rattle.std.proofs.Common.{◌≡◌}
-use Rattle.std.specs.List.{list_any}
-use Rattle.cj_spans.specs.Meaning.Parts.{items_of, members_of}
-use Rattle.cj_spans.specs.View.{tree, items_left}
-use Rattle.cj_feature.specs.Meaning.Links.{is_known}
+use Rattle.cj_feature.proofs.Common.{is_known, items_left, items_of, list_any, members_of, tree, ◌≡◌}
 use Rattle.cj_feature.proofs.feature.links.has_known_item.Given as goal
 
 abbrev pub invariant-loop-item : goal.invariant-loop-item

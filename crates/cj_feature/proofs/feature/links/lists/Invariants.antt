@@ -1,8 +1,4 @@
-use Rattle.std.proofs.Common.{◌≡◌}
-use Rattle.std.specs.Str.{chars}
-use Rattle.cj_spans.specs.Meaning.Parts.{members_of}
-use Rattle.cj_spans.specs.View.{tree, members_left}
-use Rattle.cj_feature.specs.Meaning.Links.{lists}
+use Rattle.cj_feature.proofs.Common.{chars, lists, members_left, members_of, tree, ◌≡◌}
 use Rattle.cj_feature.proofs.feature.links.lists.Given as goal
 
 abbrev pub invariant-loop-name : goal.invariant-loop-name

@@ -1,12 +1,7 @@
-use Rattle.std.proofs.Common.{sym, codes, ◌++◌, ◌∙◌}
-use Rattle.std.specs.Str.{chars}
-use Rattle.cj_spans.specs.View.{tree}
-use Rattle.cj_spans.specs.Meaning.Kinds.{is_object}
+use Rattle.cj_feature.proofs.Common.{chars, codes, distinct, geometries, is_object, may_have, needs, object_type, second_level, sym, texts, tree, ◌++◌, ◌∙◌}
 use Rattle.cj_spans.proofs.Findings.{least-two, least-three}
 use Rattle.cj_geometry.specs.Given.{given}
-use Rattle.cj_geometry.specs.Meaning.Rule.{needs, may_have, distinct}
 use Rattle.cj_geometry.proofs.OfKind.{of_kind-then}
-use Rattle.cj_feature.specs.Meaning.Feature.{object_type, geometries, texts, second_level}
 use Rattle.cj_feature.proofs.Unlinked.{neither, not_there, unlisted}
 use Rattle.cj_feature.proofs.feature.objects.check_city_object.Goals as goal
 

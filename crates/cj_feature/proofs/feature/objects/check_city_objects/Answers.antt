@@ -1,15 +1,7 @@
-use Rattle.std.proofs.Common.{sym, ◌++◌}
-use Rattle.std.specs.List.{flat_map}
-use Rattle.cj_spans.specs.Meaning.Tree.{Tree}
-use Rattle.cj_spans.specs.Meaning.Kinds.{is_object}
-use Rattle.cj_spans.specs.Meaning.Parts.{members_of}
-use Rattle.cj_spans.specs.View.{tree}
+use Rattle.cj_feature.proofs.Common.{Tree, city_object, distinct, flat_map, is_object, members_of, object_links, sym, tree, ◌++◌}
 use Rattle.cj_spans.proofs.Findings.{least_on, least-two}
 use Rattle.cj_geometry.specs.Given.{given}
-use Rattle.cj_geometry.specs.Meaning.Rule.{distinct}
 use Rattle.cj_geometry.proofs.OfKind.{of_kind-then}
-use Rattle.cj_feature.specs.Meaning.Feature.{city_object}
-use Rattle.cj_feature.specs.Meaning.Links.{object_links}
 use Rattle.cj_feature.proofs.Unlinked.{neither, next_unlinked}
 use Rattle.cj_feature.proofs.feature.objects.check_city_objects.Goals as goal
 

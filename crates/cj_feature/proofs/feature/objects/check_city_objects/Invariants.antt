@@ -1,12 +1,5 @@
-use Rattle.std.proofs.Common.{◌≡◌, List, false}
-use Rattle.std.specs.List.{flat_map}
-use Rattle.cj_spans.specs.Meaning.Finding.{least}
-use Rattle.cj_spans.specs.Meaning.Tree.{Tree}
-use Rattle.cj_spans.specs.Meaning.Parts.{members_of}
-use Rattle.cj_spans.specs.View.{tree, members_left}
+use Rattle.cj_feature.proofs.Common.{List, Tree, city_object, false, flat_map, least, members_left, members_of, object_links, tree, ◌≡◌}
 use Rattle.cj_geometry.specs.Given.{given}
-use Rattle.cj_feature.specs.Meaning.Feature.{city_object}
-use Rattle.cj_feature.specs.Meaning.Links.{object_links}
 use Rattle.cj_feature.proofs.feature.objects.check_city_objects.Given as goal
 
 abbrev pub invariant-loop-object : goal.invariant-loop-object

@@ -1,5 +1,5 @@
+use Rattle.cj_feature.proofs.Common.{geometry}
 use Rattle.cj_geometry.specs.Given.{given}
-use Rattle.cj_geometry.specs.Meaning.Geometry.{geometry}
 use Rattle.cj_spans.proofs.Findings.{least_on}
 use Rattle.cj_feature.proofs.feature.objects.check_geometries.Goals as goal
 

@@ -1,10 +1,5 @@
-use Rattle.std.proofs.Common.{◌≡◌}
-use Rattle.std.specs.List.{flat_map}
-use Rattle.cj_spans.specs.Meaning.Finding.{least}
-use Rattle.cj_spans.specs.Meaning.Parts.{items_of}
-use Rattle.cj_spans.specs.View.{tree, items_left}
+use Rattle.cj_feature.proofs.Common.{flat_map, geometry, items_left, items_of, least, tree, ◌≡◌}
 use Rattle.cj_geometry.specs.Given.{given}
-use Rattle.cj_geometry.specs.Meaning.Geometry.{geometry}
 use Rattle.cj_feature.proofs.feature.objects.check_geometries.Given as goal
 
 abbrev pub invariant-loop-item : goal.invariant-loop-item

@@ -1,5 +1,4 @@
-use Rattle.cj_spans.specs.Meaning.Kinds.{is_text}
-use Rattle.cj_geometry.specs.Meaning.Rule.{of_kind, nothing}
+use Rattle.cj_feature.proofs.Common.{is_text, nothing, of_kind}
 use Rattle.cj_spans.proofs.Findings.{least_on}
 use Rattle.cj_feature.proofs.feature.objects.check_texts.Goals as goal
 

@@ -1,10 +1,4 @@
-use Rattle.std.proofs.Common.{◌≡◌}
-use Rattle.std.specs.List.{flat_map}
-use Rattle.cj_spans.specs.Meaning.Finding.{least}
-use Rattle.cj_spans.specs.Meaning.Parts.{items_of}
-use Rattle.cj_spans.specs.View.{tree, items_left}
-use Rattle.cj_spans.specs.Meaning.Kinds.{is_text}
-use Rattle.cj_geometry.specs.Meaning.Rule.{of_kind, nothing}
+use Rattle.cj_feature.proofs.Common.{flat_map, is_text, items_left, items_of, least, nothing, of_kind, tree, ◌≡◌}
 use Rattle.cj_feature.proofs.feature.objects.check_texts.Given as goal
 
 abbrev pub invariant-loop-item : goal.invariant-loop-item

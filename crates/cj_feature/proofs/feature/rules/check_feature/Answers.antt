@@ -1,10 +1,4 @@
-use Rattle.std.proofs.Common.{◌≡◌, [], false, true, Option, sym, subst}
-use Rattle.cj_spans.specs.declared.finding.Finding.{Finding}
-use Rattle.cj_spans.specs.Meaning.Finding.{least}
-use Rattle.cj_spans.specs.Meaning.Least.{IsLeast}
-use Rattle.cj_spans.specs.View.{document}
-use Rattle.cj_feature.specs.Meaning.Feature.{feature, templates_of}
-use Rattle.cj_feature.specs.HeaderView.{header_tree}
+use Rattle.cj_feature.proofs.Common.{Finding, IsLeast, Option, [], document, false, feature, header_tree, least, subst, sym, templates_of, true, ◌≡◌}
 use Rattle.cj_feature.proofs.Valid.{valid-without}
 use Rattle.cj_feature.proofs.Verdict.{only-findings}
 use Rattle.cj_feature.proofs.feature.rules.check_feature.Goals as goal

@@ -1,7 +1,4 @@
-use Rattle.std.proofs.Common.{sym, ◌∙◌}
-use Rattle.cj_spans.specs.declared.reason.Reason.TheVariants.{NotThree}
-use Rattle.cj_spans.specs.View.{tree}
-use Rattle.cj_geometry.specs.Meaning.Numbers.{whole_number}
+use Rattle.cj_feature.proofs.Common.{NotThree, sym, tree, whole_number, ◌∙◌}
 use Rattle.cj_feature.proofs.Lengths.{of_length-late}
 use Rattle.cj_feature.proofs.feature.rules.check_other_vertex.Goals as goal
 

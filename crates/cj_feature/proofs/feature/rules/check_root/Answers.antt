@@ -1,18 +1,7 @@
-use Rattle.std.proofs.Common.{sym, codes, ◌++◌, ◌∙◌, ap, append_assoc}
-use Rattle.std.specs.Str.{chars}
-use Rattle.cj_spans.specs.declared.reason.Reason.TheVariants.{WrongType}
-use Rattle.cj_spans.specs.Meaning.Finding.{least}
-use Rattle.cj_spans.specs.Meaning.Kinds.{is_object}
-use Rattle.cj_spans.specs.Meaning.Parts.{member_of}
-use Rattle.cj_spans.specs.View.{tree}
+use Rattle.cj_feature.proofs.Common.{WrongType, ap, append_assoc, chars, city_objects, codes, count_of, distinct, feature_rules, has_member_named, id_rule, is_object, least, links, member_of, needs, reach_if, sym, tree, vertex_list, ◌++◌, ◌∙◌}
 use Rattle.cj_spans.proofs.Findings.{least-two, least-three, least-swap}
-use Rattle.cj_geometry.specs.Meaning.Geometry.{count_of}
 use Rattle.cj_geometry.specs.Given.{given}
-use Rattle.cj_geometry.specs.Meaning.Rule.{needs, distinct}
 use Rattle.cj_geometry.proofs.OfKind.{of_kind-then}
-use Rattle.cj_feature.specs.Meaning.Header.{has_member_named}
-use Rattle.cj_feature.specs.Meaning.Feature.{id_rule, city_objects, vertex_list, reach_if, feature_rules}
-use Rattle.cj_feature.specs.Meaning.Links.{links}
 use Rattle.cj_feature.proofs.feature.rules.check_root.Goals as goal
 
 pub returns-then-check_object : goal.returns-then-check_object

@@ -1,7 +1,4 @@
-use Rattle.std.proofs.Common.{length, ap, arith}
-use Rattle.cj_spans.specs.declared.reason.Reason.TheVariants.{NotThree}
-use Rattle.cj_geometry.specs.Meaning.Numbers.{whole_number}
-use Rattle.cj_geometry.specs.Meaning.Rule.{of_length}
+use Rattle.cj_feature.proofs.Common.{NotThree, ap, arith, length, of_length, whole_number}
 use Rattle.cj_spans.proofs.Findings.{least_on}
 use Rattle.cj_feature.proofs.feature.rules.check_vertices.Goals as goal
 

@@ -1,10 +1,4 @@
-use Rattle.std.proofs.Common.{length, ap, ◌∙◌, arith}
-use Rattle.std.proofs.lemmas.List.{length-drop}
-use Rattle.std.specs.List.{flat_map}
-use Rattle.cj_spans.specs.Meaning.Finding.{least}
-use Rattle.cj_spans.specs.Meaning.Parts.{items_of}
-use Rattle.cj_spans.specs.View.{tree, items_left}
-use Rattle.cj_geometry.specs.Meaning.Numbers.{whole_number}
+use Rattle.cj_feature.proofs.Common.{ap, arith, flat_map, items_left, items_of, least, length, length-drop, tree, whole_number, ◌∙◌}
 use Rattle.cj_geometry.proofs.Lone.{past-none}
 use Rattle.cj_feature.proofs.feature.rules.check_wholes.Goals as goal
 

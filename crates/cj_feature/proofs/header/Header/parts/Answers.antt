@@ -1,4 +1,4 @@
-use Rattle.cj_feature.specs.HeaderView.{header_tree, has_box}
+use Rattle.cj_feature.proofs.Common.{has_box, header_tree}
 use Rattle.cj_feature.specs.Shown.{parts_box}
 use Rattle.cj_feature.proofs.header.Header.parts.Goals as goal
 

@@ -1,5 +1,4 @@
-use Rattle.std.proofs.Common.{refl}
-use Rattle.cj_decimal.specs.Meaning.Number.{units_of}
+use Rattle.cj_feature.proofs.Common.{refl, units_of}
 use Rattle.cj_feature.proofs.Fixed.{fixed-units, units-only}
 use Rattle.cj_feature.proofs.header.reading.map_axis.Goals as goal
 

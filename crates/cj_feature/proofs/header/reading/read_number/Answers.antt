@@ -1,5 +1,4 @@
-use Rattle.std.proofs.Common.{sym}
-use Rattle.cj_spans.specs.View.{tree, line_of}
+use Rattle.cj_feature.proofs.Common.{line_of, sym, tree}
 use Rattle.cj_feature.proofs.Values.{read-in-range, read-value}
 use Rattle.cj_feature.proofs.header.reading.read_number.Goals as goal
 

@@ -1,7 +1,4 @@
-use Rattle.std.proofs.Common.{true, codes, Some, refl}
-use Rattle.std.specs.Str.{chars}
-use Rattle.cj_spans.specs.View.{tree}
-use Rattle.cj_feature.specs.Meaning.Header.{transform}
+use Rattle.cj_feature.proofs.Common.{Some, chars, codes, refl, transform, tree, true}
 use Rattle.cj_feature.proofs.FixedRule.{needs-three, axes-fixed}
 use Rattle.cj_feature.proofs.None.{then-none}
 use Rattle.cj_feature.proofs.Valid.{has-transform, has-scale, has-translate}

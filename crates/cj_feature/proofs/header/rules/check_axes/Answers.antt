@@ -1,13 +1,5 @@
-use Rattle.std.proofs.Common.{ap, ◌∙◌, take}
-use Rattle.std.specs.List.{flat_map}
-use Rattle.cj_spans.specs.declared.reason.Reason.TheVariants.{NotThree}
-use Rattle.cj_spans.specs.Meaning.Finding.{least}
-use Rattle.cj_spans.specs.Meaning.Parts.{items_of}
-use Rattle.cj_spans.specs.View.{tree}
+use Rattle.cj_feature.proofs.Common.{NotThree, ap, fixed, flat_map, items_of, least, number, of_length, take, tree, ◌∙◌}
 use Rattle.cj_spans.proofs.Findings.{least-two}
-use Rattle.cj_geometry.specs.Meaning.Numbers.{number}
-use Rattle.cj_geometry.specs.Meaning.Rule.{of_length}
-use Rattle.cj_feature.specs.Meaning.Header.{fixed}
 use Rattle.cj_feature.proofs.FixedRule.{first_two-take}
 use Rattle.cj_feature.proofs.header.rules.check_axes.Goals as goal
 

@@ -1,6 +1,4 @@
-use Rattle.std.proofs.Common.{◌∙◌, Some}
-use Rattle.cj_spans.specs.View.{document}
-use Rattle.cj_feature.specs.Meaning.Header.{header}
+use Rattle.cj_feature.proofs.Common.{Some, document, header, ◌∙◌}
 use Rattle.cj_feature.proofs.Verdict.{only-findings}
 use Rattle.cj_feature.proofs.header.rules.check_header.Goals as goal
 

@@ -1,10 +1,6 @@
-use Rattle.std.proofs.Common.{sym, ◌++◌}
-use Rattle.cj_spans.specs.View.{tree}
-use Rattle.cj_spans.specs.Meaning.Kinds.{is_object}
+use Rattle.cj_feature.proofs.Common.{distinct, is_object, sym, tree, without_members, ◌++◌}
 use Rattle.cj_spans.proofs.Findings.{least-two}
-use Rattle.cj_geometry.specs.Meaning.Rule.{distinct}
 use Rattle.cj_geometry.proofs.OfKind.{of_kind-then}
-use Rattle.cj_feature.specs.Meaning.Header.{without_members}
 use Rattle.cj_feature.proofs.header.rules.check_no_objects.Goals as goal
 
 pub returns-then-check_object : goal.returns-then-check_object

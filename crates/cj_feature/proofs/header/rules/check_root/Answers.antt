@@ -1,13 +1,7 @@
-use Rattle.std.proofs.Common.{sym, codes, ◌++◌}
-use Rattle.std.specs.Str.{chars}
-use Rattle.cj_spans.specs.declared.reason.Reason.TheVariants.{WrongType, WrongVersion}
-use Rattle.cj_spans.specs.View.{tree}
-use Rattle.cj_spans.specs.Meaning.Kinds.{is_object}
+use Rattle.cj_feature.proofs.Common.{WrongType, WrongVersion, chars, codes, distinct, has_member_named, header_rules, is_object, may_have, needs, sym, transform, tree, ◌++◌}
 use Rattle.cj_spans.proofs.Findings.{least-three}
-use Rattle.cj_geometry.specs.Meaning.Rule.{needs, may_have, distinct}
 use Rattle.cj_geometry.proofs.OfKind.{of_kind-then}
-use Rattle.cj_feature.specs.Meaning.Header.{has_member_named, transform, empty_object, empty_array, geometry_templates}
-use Rattle.cj_feature.specs.Meaning.Header.{header_rules}
+use Rattle.cj_feature.specs.Meaning.Header.{empty_object, empty_array, geometry_templates}
 use Rattle.cj_feature.proofs.header.rules.check_root.Goals as goal
 
 pub returns-then-check_object : goal.returns-then-check_object

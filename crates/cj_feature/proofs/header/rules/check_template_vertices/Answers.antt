@@ -1,7 +1,5 @@
+use Rattle.cj_feature.proofs.Common.{NotThree, number, of_length}
 use Rattle.cj_spans.proofs.Findings.{least_on}
-use Rattle.cj_spans.specs.declared.reason.Reason.TheVariants.{NotThree}
-use Rattle.cj_geometry.specs.Meaning.Numbers.{number}
-use Rattle.cj_geometry.specs.Meaning.Rule.{of_length}
 use Rattle.cj_feature.proofs.header.rules.check_template_vertices.Goals as goal
 
 pub loop-item-preserved : goal.loop-item-preserved

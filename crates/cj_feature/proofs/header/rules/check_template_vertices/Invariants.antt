@@ -1,11 +1,4 @@
-use Rattle.std.proofs.Common.{◌≡◌}
-use Rattle.std.specs.List.{flat_map}
-use Rattle.cj_spans.specs.Meaning.Finding.{least}
-use Rattle.cj_spans.specs.Meaning.Parts.{items_of}
-use Rattle.cj_spans.specs.View.{tree, items_left}
-use Rattle.cj_spans.specs.declared.reason.Reason.TheVariants.{NotThree}
-use Rattle.cj_geometry.specs.Meaning.Numbers.{number}
-use Rattle.cj_geometry.specs.Meaning.Rule.{of_length}
+use Rattle.cj_feature.proofs.Common.{NotThree, flat_map, items_left, items_of, least, number, of_length, tree, ◌≡◌}
 use Rattle.cj_feature.proofs.header.rules.check_template_vertices.Given as goal
 
 abbrev pub invariant-loop-item : goal.invariant-loop-item

@@ -1,14 +1,6 @@
-use Rattle.std.proofs.Common.{sym, codes, ◌++◌}
-use Rattle.std.specs.Str.{chars}
-use Rattle.cj_spans.specs.Meaning.Tree.{Tree}
-use Rattle.cj_spans.specs.Meaning.Parts.{member_of}
-use Rattle.cj_spans.specs.View.{tree}
-use Rattle.cj_spans.specs.Meaning.Kinds.{is_object}
+use Rattle.cj_feature.proofs.Common.{Tree, chars, codes, count_of, distinct, is_object, member_of, needs, sym, template_list, template_vertices, tree, ◌++◌}
 use Rattle.cj_spans.proofs.Findings.{least-three}
-use Rattle.cj_geometry.specs.Meaning.Rule.{needs, distinct}
-use Rattle.cj_geometry.specs.Meaning.Geometry.{count_of}
 use Rattle.cj_geometry.proofs.OfKind.{of_kind-then}
-use Rattle.cj_feature.specs.Meaning.Header.{template_list, template_vertices}
 use Rattle.cj_feature.proofs.header.rules.check_templates.Goals as goal
 
 pub returns-then-check_object : goal.returns-then-check_object

@@ -1,9 +1,4 @@
-use Rattle.std.proofs.Common.{◌≡◌}
-use Rattle.std.specs.List.{flat_map}
-use Rattle.cj_spans.specs.Meaning.Finding.{least}
-use Rattle.cj_spans.specs.Meaning.Parts.{items_of}
-use Rattle.cj_spans.specs.View.{tree, items_left}
-use Rattle.cj_geometry.specs.Meaning.Numbers.{number}
+use Rattle.cj_feature.proofs.Common.{flat_map, items_left, items_of, least, number, tree, ◌≡◌}
 use Rattle.cj_feature.proofs.header.rules.check_three_numbers.Given as goal
 
 abbrev pub invariant-loop-item : goal.invariant-loop-item

@@ -1,11 +1,6 @@
-use Rattle.std.proofs.Common.{sym, codes, ◌++◌}
-use Rattle.std.specs.Str.{chars}
-use Rattle.cj_spans.specs.View.{tree}
-use Rattle.cj_spans.specs.Meaning.Kinds.{is_object}
+use Rattle.cj_feature.proofs.Common.{chars, codes, distinct, is_object, needs, sym, three_numbers, tree, ◌++◌}
 use Rattle.cj_spans.proofs.Findings.{least-three}
-use Rattle.cj_geometry.specs.Meaning.Rule.{needs, distinct}
 use Rattle.cj_geometry.proofs.OfKind.{of_kind-then}
-use Rattle.cj_feature.specs.Meaning.Header.{three_numbers}
 use Rattle.cj_feature.proofs.header.rules.check_transform.Goals as goal
 
 pub returns-then-check_object : goal.returns-then-check_object

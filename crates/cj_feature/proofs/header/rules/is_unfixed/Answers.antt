@@ -1,7 +1,4 @@
-use Rattle.std.proofs.Common.{◌≡◌, ◌∙◌, sym, ap, true}
-use Rattle.cj_spans.specs.Meaning.Kinds.{is_number}
-use Rattle.cj_spans.specs.Meaning.Parts.{kind_of}
-use Rattle.cj_spans.specs.View.{tree, line_of}
+use Rattle.cj_feature.proofs.Common.{ap, is_number, kind_of, line_of, sym, tree, true, ◌∙◌, ◌≡◌}
 use Rattle.cj_feature.proofs.Fixed.{test-decides}
 use Rattle.cj_feature.proofs.FixedRule.{fixed-read, fixed-unread, by-answer}
 use Rattle.cj_feature.proofs.header.rules.is_unfixed.Goals as goal

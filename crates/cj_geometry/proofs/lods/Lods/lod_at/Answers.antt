@@ -1,9 +1,4 @@
-use Rattle.std.proofs.Common.{◌≡◌, Option, Some, sym, ap, ◌∙◌, subst, slice_get, codes, option_and_then}
-use Rattle.std.specs.Option.{ForSome}
-use Rattle.std.specs.Str.{chars}
-use Rattle.cj_spans.specs.declared.node.Node.{Node}
-use Rattle.cj_spans.specs.Meaning.Parts.{member_of, items_if}
-use Rattle.cj_spans.specs.View.{source_of}
+use Rattle.cj_geometry.proofs.Common.{ForSome, Node, Option, Some, ap, chars, codes, items_if, member_of, option_and_then, slice_get, source_of, subst, sym, ◌∙◌, ◌≡◌}
 use Rattle.cj_geometry.specs.Given.{list_of, given, given_source}
 use Rattle.cj_geometry.proofs.TemplateLods.{answer-right, if_some, kept-found}
 use Rattle.cj_geometry.proofs.lods.Lods.lod_at.Goals as goal

@@ -1,9 +1,5 @@
-use Rattle.std.proofs.Common.{◌≡◌, Bool, true, Some, sym, ◌∙◌, subst}
-use Rattle.std.specs.Prelude.{if◌then◌else◌}
-use Rattle.std.specs.Option.{IfSome}
-use Rattle.cj_spans.specs.View.{tree, line_of}
+use Rattle.cj_geometry.proofs.Common.{Bool, IfSome, Some, if◌then◌else◌, is_instance, line_of, subst, sym, tree, true, ◌∙◌, ◌≡◌}
 use Rattle.cj_geometry.specs.Given.{given_line}
-use Rattle.cj_geometry.specs.Meaning.Lod.{is_instance}
 use Rattle.cj_geometry.proofs.Places.{line_by}
 use Rattle.cj_geometry.proofs.lods.Lods.lod_of.Goals as goal
 

@@ -1,10 +1,4 @@
-use Rattle.std.proofs.Common.{◌≡◌, ℕ, List, Option, Some, sym, ap, ◌∙◌, subst, ◌%◌, slice_get, codes, option_and_then}
-use Rattle.std.specs.Option.{ForSome}
-use Rattle.std.specs.Str.{chars}
-use Rattle.cj_spans.specs.declared.node.Node.{Node}
-use Rattle.cj_spans.specs.Meaning.Parts.{member_of, items_if}
-use Rattle.cj_spans.specs.View.{source_of}
-use Rattle.cj_geometry.specs.declared.lods.TemplateLod.{TemplateLod}
+use Rattle.cj_geometry.proofs.Common.{ForSome, List, Node, Option, Some, TemplateLod, ap, chars, codes, items_if, member_of, option_and_then, slice_get, source_of, subst, sym, ℕ, ◌%◌, ◌∙◌, ◌≡◌}
 use Rattle.cj_geometry.specs.Given.{list_of, given, given_source}
 use Rattle.cj_geometry.specs.inner.TemplateLods.{AreAnswersIn, kept_at}
 use Rattle.cj_geometry.proofs.TemplateLods.{answer-kept, for_some, kept-set}

@@ -1,5 +1,4 @@
-use Rattle.std.proofs.Common.{◌≡◌, drop, map}
-use Rattle.cj_geometry.specs.ObjectTypes.{row_named_in, row_named, row_at}
+use Rattle.cj_geometry.proofs.Common.{drop, map, row_at, row_named, row_named_in, ◌≡◌}
 use Rattle.cj_geometry.proofs.object_type.ObjectType.named.Given as goal
 
 abbrev pub invariant-loop-object_type : goal.invariant-loop-object_type

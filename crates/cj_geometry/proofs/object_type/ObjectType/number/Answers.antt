@@ -1,6 +1,5 @@
-use Rattle.std.proofs.Common.{rules, ◌≡◌, ◌∙◌, sym}
+use Rattle.cj_geometry.proofs.Common.{number_of, rules, sym, ◌∙◌, ◌≡◌}
 use denote.Enum.Declared.{tag_of}
-use Rattle.cj_geometry.specs.ObjectTypes.{number_of}
 use Rattle.cj_geometry.specs.contracts.object_type.ObjectType.{the_type}
 use Rattle.cj_geometry.proofs.ObjectTypes.{type-number}
 use Rattle.cj_geometry.proofs.object_type.ObjectType.number.Goals as goal

@@ -1,7 +1,5 @@
-use Rattle.std.proofs.Common.{◌≡◌, drop, map}
-use Rattle.cj_spans.specs.View.{tree}
+use Rattle.cj_geometry.proofs.Common.{drop, map, row_at, tree, ◌≡◌}
 use Rattle.cj_geometry.specs.Meaning.ObjectTypes.{row_in, row_of}
-use Rattle.cj_geometry.specs.ObjectTypes.{row_at}
 use Rattle.cj_geometry.proofs.object_type.ObjectType.of_other.Given as goal
 
 abbrev pub invariant-loop-object_type : goal.invariant-loop-object_type

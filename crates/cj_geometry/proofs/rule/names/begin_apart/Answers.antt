@@ -1,9 +1,5 @@
-use Rattle.std.proofs.Common.{◌∙◌, true, false, ap, arith, refl, sym}
-use Rattle.std.proofs.lemmas.List.{length-set}
-use Rattle.std.specs.Prelude.{◌%◌, replicate}
-use Rattle.cj_spans.specs.Meaning.Parts.{members_of}
-use Rattle.cj_spans.specs.View.{tree, trees, members_left}
-use Rattle.cj_spans.specs.Initials.{are_apart}
+use Rattle.cj_geometry.proofs.Common.{ap, are_apart, arith, false, length-set, members_left, members_of, refl, replicate, sym, tree, true, ◌%◌, ◌∙◌}
+use Rattle.cj_spans.specs.View.{trees}
 use Rattle.cj_geometry.proofs.Initials.{apart-on, distinct_apart}
 use Rattle.cj_geometry.proofs.rule.names.begin_apart.Goals as goal
 

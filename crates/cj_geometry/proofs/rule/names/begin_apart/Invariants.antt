@@ -1,8 +1,4 @@
-use Rattle.std.proofs.Common.{◌≡◌, length, false}
-use Rattle.std.specs.Prelude.{replicate}
-use Rattle.cj_spans.specs.Meaning.Parts.{members_of}
-use Rattle.cj_spans.specs.View.{tree, members_left}
-use Rattle.cj_spans.specs.Initials.{are_apart}
+use Rattle.cj_geometry.proofs.Common.{are_apart, false, length, members_left, members_of, replicate, tree, ◌≡◌}
 use Rattle.cj_geometry.proofs.rule.names.begin_apart.Given as goal
 
 abbrev pub invariant-loop-name : goal.invariant-loop-name

@@ -1,9 +1,4 @@
-use Rattle.std.proofs.Common.{◌∙◌, ◌<◌, [], length, take, not, refl, sym, ap, subst, arith}
-use Rattle.std.proofs.lemmas.List.{length-take-le}
-use Rattle.cj_spans.specs.Meaning.Parts.{members_of}
-use Rattle.cj_spans.specs.View.{tree, source_of}
-use Rattle.cj_geometry.specs.inner.Names.{names_of, last_of}
-use Rattle.cj_geometry.specs.inner.WordedNames.{limit_in, names_in, HoldNames}
+use Rattle.cj_geometry.proofs.Common.{HoldNames, [], ap, arith, last_of, length, length-take-le, limit_in, members_of, names_in, names_of, not, refl, source_of, subst, sym, take, tree, ◌<◌, ◌∙◌}
 use Rattle.cj_geometry.proofs.Distinct.{left_above, reached_more, all_reached}
 use Rattle.cj_geometry.proofs.Rooms.{are_next, none_left, room_kept, first_held, none_there}
 use Rattle.cj_geometry.proofs.rule.names.check_in_order.Goals as goal

@@ -1,9 +1,4 @@
-use Rattle.std.proofs.Common.{◌<◌, length}
-use Rattle.std.specs.Prelude.{IfSome}
-use Rattle.cj_spans.specs.Meaning.Parts.{members_of}
-use Rattle.cj_spans.specs.View.{tree, source_of}
-use Rattle.cj_geometry.specs.inner.Names.{names_of}
-use Rattle.cj_geometry.specs.inner.WordedNames.{IsWorded, limit_in}
+use Rattle.cj_geometry.proofs.Common.{IfSome, IsWorded, length, limit_in, members_of, names_of, source_of, tree, ◌<◌}
 use Rattle.cj_geometry.proofs.Distinct.{HasReached, left_above}
 use Rattle.cj_geometry.proofs.rule.names.check_in_order.Given as goal
 

@@ -1,7 +1,4 @@
-use Rattle.std.proofs.Common.{◌≡◌}
-use Rattle.cj_spans.specs.Meaning.Finding.{least}
-use Rattle.cj_spans.specs.View.{tree, members_left}
-use Rattle.cj_geometry.specs.Meaning.Rule.{repeats_of}
+use Rattle.cj_geometry.proofs.Common.{least, members_left, repeats_of, tree, ◌≡◌}
 use Rattle.cj_geometry.proofs.rule.names.check_later.Given as goal
 
 abbrev pub invariant-loop-later : goal.invariant-loop-later

@@ -1,9 +1,4 @@
-use Rattle.std.proofs.Common.{◌≡◌, drop}
-use Rattle.std.specs.Prelude.{IfSome}
-use Rattle.cj_spans.specs.Meaning.Finding.{least}
-use Rattle.cj_spans.specs.View.{source_of}
-use Rattle.cj_geometry.specs.inner.Names.{neighbours, last_of}
-use Rattle.cj_geometry.specs.inner.WordedNames.{IsWorded, limit_in, names_in}
+use Rattle.cj_geometry.proofs.Common.{IfSome, IsWorded, drop, last_of, least, limit_in, names_in, neighbours, source_of, ◌≡◌}
 use Rattle.cj_geometry.proofs.rule.names.check_neighbours.Given as goal
 
 abbrev pub invariant-loop-name : goal.invariant-loop-name

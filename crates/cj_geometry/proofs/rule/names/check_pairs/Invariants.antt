@@ -1,7 +1,4 @@
-use Rattle.std.proofs.Common.{◌≡◌, length}
-use Rattle.cj_spans.specs.Meaning.Finding.{least}
-use Rattle.cj_spans.specs.View.{tree, members_left}
-use Rattle.cj_geometry.specs.Meaning.Rule.{repeats, distinct}
+use Rattle.cj_geometry.proofs.Common.{distinct, least, length, members_left, repeats, tree, ◌≡◌}
 use Rattle.cj_geometry.proofs.rule.names.check_pairs.Given as goal
 
 abbrev pub invariant-loop-name : goal.invariant-loop-name

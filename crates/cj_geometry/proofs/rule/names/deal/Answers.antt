@@ -1,6 +1,4 @@
-use Rattle.std.proofs.lemmas.List.Sorted.{All-permutation}
-use Rattle.cj_spans.specs.View.{source_of}
-use Rattle.cj_geometry.specs.inner.WordedNames.{IsWorded}
+use Rattle.cj_geometry.proofs.Common.{All-permutation, IsWorded, source_of}
 use Rattle.cj_geometry.proofs.rule.names.deal.Goals as goal
 
 pub check_neighbours-requires-clause-names : goal.check_neighbours-requires-clause-names

@@ -1,8 +1,4 @@
-use Rattle.std.proofs.Common.{◌≡◌, ◌∙◌, ◌&&◌, Bool, true, false, None, [], sym, ap, subst, take, arith}
-use Rattle.cj_spans.specs.Meaning.Parts.{members_of}
-use Rattle.cj_spans.specs.View.{tree, source_of, members_left, members_source}
-use Rattle.cj_geometry.specs.inner.Names.{names_of, is_above, is_below}
-use Rattle.cj_geometry.specs.inner.WordedNames.{IsWorded, name_in, limit_in}
+use Rattle.cj_geometry.proofs.Common.{Bool, IsWorded, None, [], ap, arith, false, is_above, is_below, limit_in, members_left, members_of, members_source, name_in, names_of, source_of, subst, sym, take, tree, true, ◌&&◌, ◌∙◌, ◌≡◌}
 use Rattle.cj_geometry.proofs.Rooms.{HasGathered, gathered_first, gathered_passed, gathered_more}
 use Rattle.cj_geometry.proofs.rule.names.gather.Goals.{else-is_left-via-then-is_left+else-has_place, else-is_left-via-else-is_left}
 use Rattle.cj_geometry.proofs.rule.names.gather.Goals as goal

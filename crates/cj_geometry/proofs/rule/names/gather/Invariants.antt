@@ -1,9 +1,4 @@
-use Rattle.std.proofs.Common.{◌≡◌, ◌<◌, length, take}
-use Rattle.std.specs.Prelude.{IsSome}
-use Rattle.cj_spans.specs.Meaning.Parts.{members_of}
-use Rattle.cj_spans.specs.View.{tree, source_of, members_left, members_source}
-use Rattle.cj_geometry.specs.inner.Names.{names_of}
-use Rattle.cj_geometry.specs.inner.WordedNames.{limit_in}
+use Rattle.cj_geometry.proofs.Common.{IsSome, length, limit_in, members_left, members_of, members_source, names_of, source_of, take, tree, ◌<◌, ◌≡◌}
 use Rattle.cj_geometry.proofs.Rooms.{HasGathered}
 use Rattle.cj_geometry.proofs.rule.names.gather.Given as goal
 

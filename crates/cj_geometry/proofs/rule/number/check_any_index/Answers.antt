@@ -1,6 +1,4 @@
-use Rattle.std.proofs.Common.{◌≡◌, ◌∙◌, sym, ap, refl, Ok, true, false, to_z, of_z, w64}
-use Rattle.cj_spans.specs.View.{tree, line_of}
-use Rattle.cj_geometry.specs.Meaning.Numbers.{is_outside}
+use Rattle.cj_geometry.proofs.Common.{Ok, ap, false, is_outside, line_of, of_z, refl, sym, to_z, tree, true, w64, ◌∙◌, ◌≡◌}
 use Rattle.cj_geometry.proofs.Numbers.{index-read, whole-fits}
 use Rattle.cj_geometry.proofs.rule.number.check_any_index.Goals as goal
 

@@ -1,6 +1,4 @@
-use Rattle.std.proofs.Common.{ap, sym}
-use Rattle.cj_spans.specs.Meaning.Finding.{least}
-use Rattle.cj_spans.specs.View.{tree}
+use Rattle.cj_geometry.proofs.Common.{ap, least, sym, tree}
 use Rattle.cj_geometry.proofs.Lone.{index-none}
 use Rattle.cj_geometry.proofs.Numbers.{index-told}
 use Rattle.cj_geometry.proofs.rule.number.check_index_below.Goals as goal

@@ -1,7 +1,4 @@
-use Rattle.std.proofs.Common.{◌∙◌, sym, ap, Err, refl}
-use Rattle.cj_decimal.specs.Meaning.Spelling.{IsNumberInRange}
-use Rattle.cj_spans.specs.View.{tree, line_of}
-use Rattle.cj_spans.specs.Places.{spelling_of}
+use Rattle.cj_geometry.proofs.Common.{Err, IsNumberInRange, ap, line_of, refl, spelling_of, sym, tree, ◌∙◌}
 use Rattle.cj_geometry.proofs.Numbers.{number-in, number-fault}
 use Rattle.cj_geometry.proofs.rule.number.check_number.Goals as goal
 

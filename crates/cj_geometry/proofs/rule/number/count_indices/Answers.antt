@@ -1,8 +1,4 @@
-use Rattle.std.proofs.Common.{◌≡◌, ℕ, ◌+◌, ◌∷◌, ◌<◌, ◌^◌, drop, Some, pos, sym, ◌∙◌, arith}
-use Rattle.cj_spans.specs.Meaning.Parts.{items_of}
-use Rattle.cj_spans.specs.View.{tree, items_left}
-use Rattle.cj_geometry.specs.Meaning.Numbers.{index, whole_of}
-use Rattle.cj_geometry.specs.Lone.{AreLone}
+use Rattle.cj_geometry.proofs.Common.{AreLone, Some, arith, drop, index, items_left, items_of, pos, sym, tree, whole_of, ℕ, ◌+◌, ◌<◌, ◌^◌, ◌∙◌, ◌∷◌, ◌≡◌}
 use Rattle.cj_geometry.proofs.Lone.{lone-more, none-more, lone-below, left-falls, whole-size, index-none}
 use Rattle.cj_geometry.proofs.rule.number.count_indices.Goals.{After-items_behind-items}
 use Rattle.cj_geometry.proofs.rule.number.count_indices.Goals as goal

@@ -1,11 +1,4 @@
-use Rattle.std.proofs.Common.{◌≡◌, ◌<◌, ◌^◌, [], take, drop, length}
-use Rattle.std.specs.List.{flat_map}
-use Rattle.cj_spans.specs.declared.reason.Reason.{Reason}
-use Rattle.cj_spans.specs.Forest.{total_size}
-use Rattle.cj_spans.specs.Meaning.Parts.{items_of}
-use Rattle.cj_spans.specs.View.{tree, items_left}
-use Rattle.cj_geometry.specs.Meaning.Numbers.{index}
-use Rattle.cj_geometry.specs.Lone.{AreLone}
+use Rattle.cj_geometry.proofs.Common.{AreLone, Reason, [], drop, flat_map, index, items_left, items_of, length, take, total_size, tree, ◌<◌, ◌^◌, ◌≡◌}
 use Rattle.cj_geometry.proofs.rule.number.count_indices.Given as goal
 
 abbrev pub invariant-loop-item : goal.invariant-loop-item

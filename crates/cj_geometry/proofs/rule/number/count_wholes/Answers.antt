@@ -1,9 +1,4 @@
-use Rattle.std.proofs.Common.{◌≡◌, ◌+◌, ◌∷◌, drop, Some, sym, ◌∙◌, arith}
-use Rattle.std.specs.Prelude.{ℤ}
-use Rattle.cj_spans.specs.Meaning.Parts.{items_of}
-use Rattle.cj_spans.specs.View.{tree, items_left}
-use Rattle.cj_geometry.specs.Meaning.Numbers.{whole_number, whole_of}
-use Rattle.cj_geometry.specs.Lone.{AreLone}
+use Rattle.cj_geometry.proofs.Common.{AreLone, Some, arith, drop, items_left, items_of, sym, tree, whole_number, whole_of, ℤ, ◌+◌, ◌∙◌, ◌∷◌, ◌≡◌}
 use Rattle.cj_geometry.proofs.Lone.{lone-more, none-more, lone-below, left-falls, whole-size, whole-none, whole-there}
 use Rattle.cj_geometry.proofs.rule.number.count_wholes.Goals.{After-items_behind-items}
 use Rattle.cj_geometry.proofs.rule.number.count_wholes.Goals as goal

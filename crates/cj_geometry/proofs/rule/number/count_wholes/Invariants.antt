@@ -1,10 +1,4 @@
-use Rattle.std.proofs.Common.{◌≡◌, ◌<◌, ◌^◌, [], take, drop, length}
-use Rattle.std.specs.List.{flat_map}
-use Rattle.cj_spans.specs.Forest.{total_size}
-use Rattle.cj_spans.specs.Meaning.Parts.{items_of}
-use Rattle.cj_spans.specs.View.{tree, items_left}
-use Rattle.cj_geometry.specs.Meaning.Numbers.{whole_number}
-use Rattle.cj_geometry.specs.Lone.{AreLone}
+use Rattle.cj_geometry.proofs.Common.{AreLone, [], drop, flat_map, items_left, items_of, length, take, total_size, tree, whole_number, ◌<◌, ◌^◌, ◌≡◌}
 use Rattle.cj_geometry.proofs.rule.number.count_wholes.Given as goal
 
 abbrev pub invariant-loop-item : goal.invariant-loop-item

@@ -1,5 +1,4 @@
-use Rattle.std.proofs.Common.{◌∙◌, sym}
-use Rattle.cj_spans.specs.View.{tree, line_of}
+use Rattle.cj_geometry.proofs.Common.{line_of, sym, tree, ◌∙◌}
 use Rattle.cj_geometry.proofs.Numbers.{few-signed-read}
 use Rattle.cj_geometry.proofs.rule.number.read_more_signed.Goals as goal
 

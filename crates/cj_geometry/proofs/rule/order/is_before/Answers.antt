@@ -1,6 +1,4 @@
-use Rattle.std.proofs.Common.{ap, ◌∙◌}
-use Rattle.std.specs.Ordering.{is_lt}
-use Rattle.cj_spans.specs.View.{source_of}
+use Rattle.cj_geometry.proofs.Common.{ap, is_lt, source_of, ◌∙◌}
 use Rattle.cj_geometry.proofs.WordedNames.{less_as_earlier}
 use Rattle.cj_geometry.proofs.rule.order.is_before.Goals as goal
 

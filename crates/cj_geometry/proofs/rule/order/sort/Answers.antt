@@ -1,8 +1,4 @@
-use Rattle.std.proofs.Common.{rules}
-use Rattle.std.specs.Ordering.{is_lt}
-use Rattle.std.proofs.lemmas.List.Sorted.{All-permutation, ranks_by}
-use Rattle.cj_spans.specs.View.{source_of}
-use Rattle.cj_geometry.specs.inner.WordedNames.{IsWorded, compare_worded}
+use Rattle.cj_geometry.proofs.Common.{All-permutation, IsWorded, compare_worded, is_lt, ranks_by, rules, source_of}
 use Rattle.cj_geometry.proofs.WordedNames.{ascend_sorted, compares_as, worded_order}
 use Rattle.cj_geometry.proofs.rule.order.sort.Goals as goal
 

@@ -1,8 +1,4 @@
-use Rattle.std.proofs.Common.{rules}
-use Rattle.std.specs.Ordering.{is_lt}
-use Rattle.std.proofs.lemmas.List.Sorted.{ranks_by}
-use Rattle.cj_spans.specs.View.{source_of}
-use Rattle.cj_geometry.specs.inner.WordedNames.{compare_worded}
+use Rattle.cj_geometry.proofs.Common.{compare_worded, is_lt, ranks_by, rules, source_of}
 use Rattle.cj_geometry.proofs.WordedNames.{compares_as, worded_order, least_copied}
 use Rattle.cj_geometry.proofs.rule.order.take_least.Goals as goal
 

@@ -1,11 +1,5 @@
-use Rattle.std.proofs.Common.{◌≡◌, ◌∙◌, refl, sym, subst, Some}
-use Rattle.cj_spans.specs.Meaning.Least.{IsLeast}
-use Rattle.cj_spans.specs.View.{document}
+use Rattle.cj_stream.proofs.Common.{IsLeast, Some, document, findings, needs_box, refl, rules_for, subst, sym, tree_of, ◌∙◌, ◌≡◌}
 use Rattle.cj_feature.specs.Meaning.Header.{header as header_findings}
-use Rattle.cj_stream.specs.Item.{tree_of}
-use Rattle.cj_stream.specs.Meaning.Criteria.{needs_box}
-use Rattle.cj_stream.specs.Query.{rules_for}
-use Rattle.cj_stream.specs.Verdict.{findings}
 use Rattle.cj_stream.proofs.VerdictLemmas.{tree-refused}
 use Rattle.cj_stream.proofs.desk.Desk.check_first.Goals as goal
 

@@ -1,14 +1,5 @@
-use Rattle.std.proofs.Common.{◌≡◌, ◌∙◌, refl, sym, eqb, ltb, true, false, arith, Some}
-use Rattle.std.specs.List.{list_all}
-use Rattle.std.proofs.lemmas.Bool.Decides.{nat_tests}
-use Rattle.cj_spans.specs.Meaning.Least.{IsLeast}
-use Rattle.cj_spans.specs.View.{document}
-use Rattle.cj_feature.specs.HeaderView.{header_tree}
-use Rattle.cj_stream.specs.Item.{tree_of}
-use Rattle.cj_stream.specs.Query.{rules_for}
-use Rattle.cj_stream.specs.Scanning.{scanning}
-use Rattle.cj_stream.specs.Verdict.{findings}
-use Rattle.cj_stream.specs.Meaning.Verdict.{is_blank_byte}
+use Rattle.cj_stream.proofs.Common.{IsLeast, Some, arith, document, false, findings, header_tree, is_blank_byte, list_all, nat_tests, refl, rules_for, scanning, sym, tree_of, true, ◌∙◌, ◌≡◌}
+use Rattle.std.proofs.Common.{eqb, ltb}
 use Rattle.cj_stream.proofs.BlankLemmas.{blank-tree}
 use Rattle.cj_stream.proofs.ScanningLemmas.{scans-none}
 use Rattle.cj_stream.proofs.VerdictLemmas.{tree-refused, verdict-blank}

@@ -1,5 +1,4 @@
-use Rattle.std.proofs.Common.{◌∙◌, length, sym, ap}
-use Rattle.cj_stream.specs.Item.{tree_of}
+use Rattle.cj_stream.proofs.Common.{ap, length, sym, tree_of, ◌∙◌}
 use Rattle.cj_stream.proofs.ScanningLemmas.{length-bare}
 use Rattle.cj_stream.proofs.desk.Desk.mark.Goals as goal
 

@@ -1,5 +1,4 @@
-use Rattle.std.proofs.Common.{refl}
-use Rattle.cj_stream.specs.Scanning.{scanning}
+use Rattle.cj_stream.proofs.Common.{refl, scanning}
 use Rattle.cj_stream.proofs.ScanningLemmas.{scans-unread, unread-told}
 use Rattle.cj_stream.proofs.desk.Desk.scan_later.Goals as goal
 

@@ -1,5 +1,4 @@
-use Rattle.std.proofs.Common.{◌∙◌, refl, arith}
-use Rattle.cj_stream.specs.Ending.{answer_of, header_end, line_end}
+use Rattle.cj_stream.proofs.Common.{answer_of, arith, header_end, line_end, refl, ◌∙◌}
 use Rattle.cj_stream.proofs.FeedingLemmas.{header-lacks, never-lacks, IsFinished-finishes}
 use Rattle.cj_stream.proofs.FinishLemmas.{Counts-finished}
 use Rattle.cj_stream.proofs.NoteLemmas.{Notes-first}

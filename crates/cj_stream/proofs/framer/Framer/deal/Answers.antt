@@ -1,9 +1,4 @@
-use Rattle.std.proofs.Common.{◌≡◌, ◌+◌, ◌∙◌, sym, ap, inl, true, false, arith}
-use Rattle.cj_stream.specs.declared.ending.End.TheVariants.{Refused}
-use Rattle.cj_stream.specs.Ending.{answer_of, line_end}
-use Rattle.cj_stream.specs.Reading.{begun_of, told_verdict, is_lenient, Refuses}
-use Rattle.cj_stream.specs.Scanning.{scanning, ScansLine, Forgets}
-use Rattle.cj_stream.specs.Meaning.Verdict.{Invalid}
+use Rattle.cj_stream.proofs.Common.{Forgets, Invalid, Refused, Refuses, ScansLine, answer_of, ap, arith, begun_of, false, inl, is_lenient, line_end, scanning, sym, told_verdict, true, ◌+◌, ◌∙◌, ◌≡◌}
 use Rattle.cj_stream.proofs.FinishLemmas.{ok-then}
 use Rattle.cj_stream.proofs.ReadingLemmas.{begun_of-later}
 use Rattle.cj_stream.proofs.ScanningLemmas.{ScansNext-held, ScansNext-dropped}

@@ -1,7 +1,4 @@
-use Rattle.std.proofs.Common.{rules, ℕ, List, ◌∙◌, false, sym}
-use Rattle.cj_stream.specs.Ending.{answer_of, line_end}
-use Rattle.cj_stream.specs.Lines.{begun}
-use Rattle.cj_stream.specs.Reading.{is_lenient, Reads}
+use Rattle.cj_stream.proofs.Common.{List, Reads, answer_of, begun, false, is_lenient, line_end, rules, sym, ℕ, ◌∙◌}
 use Rattle.cj_stream.proofs.FinishLemmas.{err-answer, ok-answer, ok-then, finishes-with, scanned-last, scanned-closed}
 use Rattle.cj_stream.proofs.NoteLemmas.{Notes-finished}
 use Rattle.cj_stream.proofs.PieceLemmas.{Settles-begun}

@@ -1,7 +1,4 @@
-use Rattle.std.proofs.Common.{List, ℕ, rules, false}
-use Rattle.cj_stream.specs.Ending.{answer_of, header_end}
-use Rattle.cj_stream.specs.Lines.{begun}
-use Rattle.cj_stream.specs.Reading.{is_lenient, Reads}
+use Rattle.cj_stream.proofs.Common.{List, Reads, answer_of, begun, false, header_end, is_lenient, rules, ℕ}
 use Rattle.cj_stream.proofs.FinishLemmas.{ok-answer, ok-then, finishes-with, scanned-last}
 use Rattle.cj_stream.proofs.PieceLemmas.{Settles-begun, Settles-first}
 use Rattle.cj_stream.proofs.ReadingLemmas.{has-begun}

@@ -1,6 +1,4 @@
-use Rattle.std.proofs.Common.{◌≡◌, ◌++◌, ◌-◌, ◌∙◌, ℕ, List, length, take, drop, length-drop, refl, ap, arith}
-use Rattle.std.proofs.lemmas.List.{take_all, take-append-drop}
-use Rattle.std.proofs.lemmas.Result.{err_from_is_err_and}
+use Rattle.cj_stream.proofs.Common.{List, ap, arith, drop, err_from_is_err_and, length, length-drop, refl, take, take-append-drop, take_all, ℕ, ◌++◌, ◌-◌, ◌∙◌, ◌≡◌}
 use Rattle.cj_stream.proofs.CarryingLemmas.{TakesAll-then, TakesSome-then, HeldUntil-then}
 use Rattle.cj_stream.proofs.NoteLemmas.{Notes-none, Notes-header}
 use Rattle.cj_stream.proofs.framer.Framer.take.Goals as goal

@@ -1,7 +1,4 @@
-use Rattle.std.proofs.Common.{ap, true, false, ◌∙◌}
-use Rattle.std.proofs.lemmas.Result.{err_from_is_err_and}
-use Rattle.cj_stream.specs.Ending.{answer_of, header_end}
-use Rattle.cj_stream.specs.Reading.{begun_of, next_item, told_verdict}
+use Rattle.cj_stream.proofs.Common.{answer_of, ap, begun_of, err_from_is_err_and, false, header_end, next_item, told_verdict, true, ◌∙◌}
 use Rattle.cj_stream.proofs.PieceLemmas.{Settles-first}
 use Rattle.cj_stream.proofs.StaysLemmas.{settled-err}
 use Rattle.cj_stream.proofs.TakingLemmas.{TakesSome-unstored, TakesAll-line, TakesSome-line}

@@ -1,12 +1,7 @@
-use Rattle.std.proofs.Common.{◌≡◌, ◌+◌, ◌∙◌, length, take, drop, refl, sym, subst, arith}
-use Rattle.std.proofs.lemmas.Result.{err_from_is_err_and}
-use Rattle.std.proofs.lemmas.List.{take_all}
-use Rattle.cj_stream.specs.Ending.{header_end}
-use Rattle.cj_stream.specs.Sink.{with_sink}
+use Rattle.cj_stream.proofs.Common.{TakesAll, TakesSome, arith, drop, err_from_is_err_and, header_end, length, refl, subst, sym, take, take_all, with_sink, ◌+◌, ◌∙◌, ◌≡◌}
 use Rattle.cj_stream.proofs.PieceSlices.{lf_found, lf_front, NoLf-before, NoLf-not_found}
 use Rattle.cj_stream.proofs.LeastLemmas.{held-now}
 use Rattle.cj_stream.proofs.TakingLemmas.{TakesAll-stored, TakesSome-last}
-use Rattle.cj_stream.specs.Carrying.{TakesAll, TakesSome}
 use Rattle.cj_stream.proofs.framer.Framer.take_front.Goals as goal
 
 pub returns-in_err-store_first-clause-err : goal.returns-in_err-store_first-clause-err

@@ -1,7 +1,4 @@
-use Rattle.std.proofs.Common.{◌≡◌, ◌∷◌, [], ◌++◌, ◌+◌, ◌∙◌, take, drop, refl, sym, ap, arith, append_assoc}
-use Rattle.std.proofs.lemmas.Result.{err_from_is_err_and}
-use Rattle.std.proofs.lemmas.List.{append-nil}
-use Rattle.cj_stream.specs.Ending.{answer_of, line_end}
+use Rattle.cj_stream.proofs.Common.{[], answer_of, ap, append-nil, append_assoc, arith, drop, err_from_is_err_and, line_end, refl, sym, take, ◌++◌, ◌+◌, ◌∙◌, ◌∷◌, ◌≡◌}
 use Rattle.cj_stream.proofs.NoteLemmas.{Notes-line, Notes-none, Notes-then}
 use Rattle.cj_stream.proofs.PieceSlices.{lf_found, NoLf-before, NoLf-not_found, left_length, piece_more}
 use Rattle.cj_stream.proofs.PieceLemmas.{Advances-none}

@@ -1,10 +1,4 @@
-use Rattle.std.proofs.Common.{◌≡◌, ◌+◌, ◌≤◌, ◌++◌, ℕ, List, length}
-use Rattle.cj_stream.specs.Carrying.{TakesAll}
-use Rattle.cj_stream.specs.Reading.{Reads, Stays}
-use Rattle.cj_stream.specs.ReportSink.{Notes}
-use Rattle.cj_stream.specs.Scanning.{IsReady, Rises}
-use Rattle.cj_stream.specs.Sink.{with_sink}
-use Rattle.cj_stream.specs.Verdict.{stretch}
+use Rattle.cj_stream.proofs.Common.{IsReady, List, Notes, Reads, Rises, Stays, TakesAll, length, stretch, with_sink, ℕ, ◌++◌, ◌+◌, ◌≡◌, ◌≤◌}
 use Rattle.cj_stream.proofs.framer.Framer.take_piece.Given as goal
 
 abbrev pub invariant-loop-at : goal.invariant-loop-at

@@ -1,6 +1,4 @@
-use Rattle.std.proofs.Common.{ap, take, length-take, arith, refl}
-use Rattle.std.specs.Prelude.{option_map}
-use Rattle.cj_stream.specs.Ending.{header_end, answer_of}
+use Rattle.cj_stream.proofs.Common.{answer_of, ap, arith, header_end, length-take, option_map, refl, take}
 use Rattle.cj_stream.proofs.EngineLemmas.{none_from_not_some}
 use Rattle.cj_stream.proofs.FeedingLemmas.{Feeds-again, Feeds-advances, Feeds-stops}
 use Rattle.cj_stream.proofs.header_reader.HeaderReader.feed.Goals as goal

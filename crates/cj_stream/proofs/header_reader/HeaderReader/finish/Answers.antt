@@ -1,6 +1,4 @@
-use Rattle.std.proofs.Common.{ap, refl}
-use Rattle.std.specs.Prelude.{option_map}
-use Rattle.cj_stream.specs.Ending.{header_end}
+use Rattle.cj_stream.proofs.Common.{ap, header_end, option_map, refl}
 use Rattle.cj_stream.proofs.EngineLemmas.{none_from_not_some}
 use Rattle.cj_stream.proofs.FeedingLemmas.{header-lacks, IsFinished-again, IsFinished-finishes}
 use Rattle.cj_stream.proofs.header_reader.HeaderReader.finish.Goals as goal

@@ -1,6 +1,4 @@
-use Rattle.std.proofs.Common.{ap, refl}
-use Rattle.std.specs.Prelude.{option_map}
-use Rattle.cj_stream.specs.Ending.{line_end, answer_of}
+use Rattle.cj_stream.proofs.Common.{answer_of, ap, line_end, option_map, refl}
 use Rattle.cj_stream.proofs.EngineLemmas.{none_from_not_some}
 use Rattle.cj_stream.proofs.FeedingLemmas.{not-going, Feeds-again, Feeds-advances, Feeds-stops}
 use Rattle.cj_stream.proofs.line_reader.LineReader.feed.Goals as goal

@@ -1,6 +1,4 @@
-use Rattle.std.proofs.Common.{ap, refl}
-use Rattle.std.specs.Prelude.{option_map}
-use Rattle.cj_stream.specs.Ending.{line_end}
+use Rattle.cj_stream.proofs.Common.{ap, line_end, option_map, refl}
 use Rattle.cj_stream.proofs.EngineLemmas.{none_from_not_some}
 use Rattle.cj_stream.proofs.FeedingLemmas.{never-lacks, not-going, IsFinished-again, IsFinished-finishes}
 use Rattle.cj_stream.proofs.line_reader.LineReader.finish.Goals as goal

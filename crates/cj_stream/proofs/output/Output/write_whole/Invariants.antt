@@ -1,6 +1,4 @@
-use Rattle.std.proofs.Common.{◌≡◌, ◌++◌, ℕ, List, None, length}
-use Rattle.std.specs.Io.KnownBytes.{Appends}
-use Rattle.cj_stream.specs.Output.{output_writer, output_failures, flush_answer}
+use Rattle.cj_stream.proofs.Common.{Appends, List, None, flush_answer, length, output_failures, output_writer, ℕ, ◌++◌, ◌≡◌}
 use Rattle.cj_stream.proofs.output.Output.write_whole.Given as goal
 
 abbrev pub invariant-loop-rest : goal.invariant-loop-rest

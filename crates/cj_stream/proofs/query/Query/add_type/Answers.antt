@@ -1,9 +1,4 @@
-use Rattle.std.proofs.Common.{◌≡◌, Option, Some, refl}
-use Rattle.std.specs.Prelude.{option_map}
-use Rattle.std.proofs.lemmas.Result.{on_ok_weaker}
-use Rattle.cj_stream.specs.Adding.{with_type_in}
-use Rattle.cj_stream.specs.Meaning.Criteria.{ChosenTypes, Criteria}
-use Rattle.cj_stream.specs.Query.{criteria}
+use Rattle.cj_stream.proofs.Common.{ChosenTypes, Criteria, Option, Some, criteria, on_ok_weaker, option_map, refl, with_type_in, ◌≡◌}
 use Rattle.cj_stream.proofs.query.Query.add_type.Goals as goal
 
 -- what is asked once the part is this one

@@ -1,5 +1,4 @@
-use Rattle.std.proofs.Common.{◌≡◌, Some, map}
-use Rattle.cj_stream.specs.Query.{criteria, failed_growths_of}
+use Rattle.cj_stream.proofs.Common.{Some, criteria, failed_growths_of, map, ◌≡◌}
 use Rattle.cj_stream.proofs.query.Query.set_ids.Given as goal
 
 abbrev pub invariant-loop-id : goal.invariant-loop-id

@@ -1,4 +1,4 @@
-use Rattle.std.proofs.lemmas.Iterator.Consumers.{YieldsList-end}
+use Rattle.cj_stream.proofs.Common.{YieldsList-end}
 use Rattle.cj_stream.proofs.SplitLemmas.{items-split}
 use Rattle.cj_stream.proofs.query.Query.set_lods.Goals as goal
 

@@ -1,14 +1,9 @@
-use Rattle.std.proofs.Common.{◌≡◌, ◌∙◌, List, ◌∷◌, ℕ, ◌+◌, ◌<◌, Bool, true, false, ◌&&◌, ◌||◌, Option, None, Some, refl, sym, ap, length, get_or, drop, arith}
-use Rattle.std.specs.Prelude.{is_some, option_and_then, option_map, unwrap_or}
-use Rattle.std.proofs.lemmas.Iterator.Consumers.{YieldsList-turn, YieldsList-end}
+use Rattle.cj_stream.proofs.Common.{Bool, ChosenTypes, Criteria, List, None, Option, QueryFault, Some, YieldsList-end, YieldsList-turn, ap, arith, criteria, drop, err_from_is_err_and, false, get_or, is_some, length, option_map, parted, refl, sym, true, unwrap_or, ℕ, ◌&&◌, ◌+◌, ◌<◌, ◌∙◌, ◌∷◌, ◌≡◌}
+use Rattle.std.proofs.Common.{◌||◌, option_and_then}
 use Rattle.std.proofs.lemmas.List.{at_drop_more, at_drop_all, length_push}
-use Rattle.std.proofs.lemmas.Result.{err_from_is_err_and}
 use Rattle.cj_geometry.specs.Meaning.ObjectTypes.{ObjectRow}
 use Rattle.cj_geometry.specs.ObjectTypes.{row_named}
-use Rattle.cj_stream.specs.Meaning.Criteria.{ChosenTypes, Criteria}
-use Rattle.cj_stream.specs.Adding.{adding_type, has_extension, is_extension, is_type, no_types, parted, with_name, with_type, with_types, DeclinesType, DeclinesTypes}
-use Rattle.cj_stream.specs.Query.{criteria}
-use Rattle.cj_stream.specs.declared.query.fault.QueryFault.{QueryFault}
+use Rattle.cj_stream.specs.Adding.{adding_type, has_extension, is_extension, is_type, no_types, with_name, with_type, with_types, DeclinesType, DeclinesTypes}
 use Rattle.cj_stream.specs.declared.query.fault.QueryFault.TheVariants.{Memory, UnknownTypeName, BadBox, BoxRange, EmptyBox}
 use Rattle.cj_stream.proofs.SplitLemmas.{items-split}
 use Rattle.cj_stream.proofs.query.Query.set_types.Goals as goal

@@ -1,7 +1,5 @@
-use Rattle.std.proofs.Common.{◌≡◌, true, Some, length, drop}
-use Rattle.std.specs.Prelude.{unwrap_or}
-use Rattle.cj_stream.specs.Adding.{has_extension, no_types, parted, with_types}
-use Rattle.cj_stream.specs.Query.{criteria, failed_growths_of}
+use Rattle.cj_stream.proofs.Common.{Some, criteria, drop, failed_growths_of, length, parted, true, unwrap_or, ◌≡◌}
+use Rattle.cj_stream.specs.Adding.{has_extension, no_types, with_types}
 use Rattle.cj_stream.proofs.query.Query.set_types.Given as goal
 
 abbrev pub invariant-loop-name : goal.invariant-loop-name

@@ -1,6 +1,4 @@
-use Rattle.std.proofs.Common.{[], ◌∷◌, refl, ap, length, lit<, arith}
-use Rattle.std.proofs.lemmas.Iterator.Splits.{YieldsList-from_str_split}
-use Rattle.cj_stream.specs.BoxText.{fields}
+use Rattle.cj_stream.proofs.Common.{YieldsList-from_str_split, [], ap, arith, fields, length, lit<, refl, ◌∷◌}
 use Rattle.cj_stream.proofs.BoxTextLemmas.{Came, came-some, came-none}
 use Rattle.cj_stream.proofs.query.bounds.four_fields.Goals as goal
 

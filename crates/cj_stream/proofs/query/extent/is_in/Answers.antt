@@ -1,10 +1,4 @@
-use Rattle.std.proofs.Common.{◌≡◌, ◌∙◌, ◌&&◌, length, subst, sym, rules, arith}
-use Rattle.std.specs.Prelude.{IfSome}
-use Rattle.cj_feature.specs.Axes.{AreThere}
-use Rattle.cj_feature.specs.HeaderView.{header_tree}
-use Rattle.cj_feature.specs.View.{feature_tree}
-use Rattle.cj_stream.specs.Query.{box_of}
-use Rattle.cj_stream.specs.Meaning.Criteria.{some_at_most, some_at_least}
+use Rattle.cj_stream.proofs.Common.{AreThere, IfSome, arith, box_of, feature_tree, header_tree, length, rules, some_at_least, some_at_most, subst, sym, ◌&&◌, ◌∙◌, ◌≡◌}
 use Rattle.cj_stream.proofs.BoxLemmas.{on-axis, box-first, box-numbers, and_second, and_first}
 use Rattle.cj_stream.proofs.query.extent.is_in.Goals as goal
 

@@ -1,10 +1,4 @@
-use Rattle.std.proofs.Common.{◌≡◌, ◌∙◌, List, [], ◌∷◌, Some, sym, ap, codes, rules}
-use Rattle.std.specs.Str.{chars}
-use Rattle.cj_spans.specs.Meaning.Tree.{Tree}
-use Rattle.cj_spans.specs.Meaning.Parts.{member_of, items_if}
-use Rattle.cj_feature.specs.View.{feature_tree}
-use Rattle.cj_feature.specs.Walks.{coordinates_left}
-use Rattle.cj_stream.specs.Extent.{alone, widened, range_of, meets}
+use Rattle.cj_stream.proofs.Common.{List, Some, Tree, [], alone, ap, chars, codes, coordinates_left, feature_tree, items_if, meets, member_of, range_of, rules, sym, widened, ◌∙◌, ◌∷◌, ◌≡◌}
 use Rattle.cj_stream.proofs.BoxLemmas.{first_small, range_small, first_meets}
 use Rattle.cj_stream.proofs.query.extent.meets_on.Goals as goal
 

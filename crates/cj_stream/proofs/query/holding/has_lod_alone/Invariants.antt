@@ -1,11 +1,5 @@
-use Rattle.std.proofs.Common.{◌≡◌, map, string_bytes}
-use Rattle.std.specs.List.{list_any}
+use Rattle.cj_stream.proofs.Common.{feature_tree, geometries_left, has_lod, header_tree, is_one_of, list_any, lod, map, string_bytes, there_is, ◌≡◌}
 use Rattle.cj_geometry.specs.Given.{given}
-use Rattle.cj_geometry.specs.Meaning.Lod.{lod}
-use Rattle.cj_feature.specs.Walks.{geometries_left}
-use Rattle.cj_feature.specs.HeaderView.{header_tree}
-use Rattle.cj_feature.specs.View.{feature_tree}
-use Rattle.cj_stream.specs.Meaning.Criteria.{there_is, is_one_of, has_lod}
 use Rattle.cj_stream.proofs.query.holding.has_lod_alone.Given as goal
 
 abbrev pub invariant-loop-geometry : goal.invariant-loop-geometry

@@ -1,6 +1,4 @@
-use Rattle.std.proofs.Common.{◌≡◌, map, drop, string_bytes}
-use Rattle.cj_spans.specs.View.{tree}
-use Rattle.cj_stream.specs.Meaning.Criteria.{is_one_of}
+use Rattle.cj_stream.proofs.Common.{drop, is_one_of, map, string_bytes, tree, ◌≡◌}
 use Rattle.cj_stream.proofs.query.holding.is_one_of.Given as goal
 
 abbrev pub invariant-loop-text : goal.invariant-loop-text

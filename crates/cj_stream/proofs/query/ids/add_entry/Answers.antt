@@ -1,9 +1,5 @@
-use Rattle.std.proofs.Common.{◌≡◌, ℕ, ◌+◌, ◌-◌, List, [], ◌∷◌, ◌++◌, length, take, drop, vec_items, string_bytes, ◌∙◌, sym, ap, subst, arith, rules}
-use Rattle.std.specs.List.Sorted.{IsPermutation}
+use Rattle.cj_stream.proofs.Common.{AreIndexed, Ascend, Entry, IsPermutation, List, [], ap, arith, drop, keys_at, length, length-append, pieces, rules, string_bytes, subst, sym, take, take_at, vec_items, ℕ, ◌++◌, ◌+◌, ◌-◌, ◌∙◌, ◌∷◌, ◌≡◌}
 use Rattle.std.proofs.lemmas.List.Sorted.{length_permutation}
-use Rattle.std.proofs.lemmas.List.{length-append, take_at}
-use Rattle.cj_stream.specs.declared.query.ids.Entry.{Entry}
-use Rattle.cj_stream.specs.Ids.{Ascend, keys_at, pieces, AreIndexed}
 use Rattle.cj_stream.proofs.IdLemmas.{indexed_more, pieces_more, runs_held}
 use Rattle.cj_stream.proofs.query.ids.add_entry.Goals as goal
 

@@ -1,11 +1,5 @@
-use Rattle.std.proofs.Common.{◌≡◌, Some, ◌∙◌, ap}
-use Rattle.std.specs.Ordering.{nat_cmp, ordering_reverse}
-use Rattle.std.specs.Str.{chars}
-use Rattle.std.specs.declared.cmp.Ordering.TheVariants.{Equal}
-use Rattle.cj_spans.specs.Order.{compare_texts}
-use Rattle.cj_spans.specs.Meaning.Parts.{text_of}
-use Rattle.cj_spans.specs.View.{tree}
-use Rattle.cj_stream.specs.Ids.{piece}
+use Rattle.cj_stream.proofs.Common.{Equal, Some, ap, chars, compare_texts, nat_cmp, piece, text_of, tree, ◌∙◌, ◌≡◌}
+use Rattle.std.specs.Ordering.{ordering_reverse}
 use Rattle.cj_stream.proofs.IdLemmas.{compare_turned}
 use Rattle.cj_stream.proofs.query.ids.compare_with_node.Goals as goal
 

@@ -1,9 +1,4 @@
-use Rattle.std.proofs.Common.{◌≡◌, drop}
-use Rattle.std.specs.List.{list_any}
-use Rattle.std.specs.Ordering.{is_eq}
-use Rattle.cj_spans.specs.Meaning.Parts.{text_of}
-use Rattle.cj_spans.specs.View.{tree}
-use Rattle.cj_stream.specs.Ids.{compare_keys, keys_at}
+use Rattle.cj_stream.proofs.Common.{compare_keys, drop, is_eq, keys_at, list_any, text_of, tree, ◌≡◌}
 use Rattle.cj_stream.proofs.query.ids.is_among.Given as goal
 
 abbrev pub invariant-loop-entry : goal.invariant-loop-entry

@@ -1,8 +1,4 @@
-use Rattle.std.proofs.Common.{◌∙◌, rules}
-use Rattle.std.proofs.lemmas.Fn.{always_returns_same}
-use Rattle.cj_spans.specs.Meaning.Parts.{text_of}
-use Rattle.cj_spans.specs.View.{tree}
-use Rattle.cj_stream.specs.Ids.{Key, compare_keys, key_at}
+use Rattle.cj_stream.proofs.Common.{Key, always_returns_same, compare_keys, key_at, rules, text_of, tree, ◌∙◌}
 use Rattle.cj_stream.proofs.IdLemmas.{found}
 use Rattle.cj_stream.proofs.query.ids.is_in_run.Goals as goal
 

@@ -1,7 +1,4 @@
-use Rattle.std.proofs.Common.{◌∙◌}
-use Rattle.cj_spans.specs.Meaning.Parts.{text_of}
-use Rattle.cj_spans.specs.View.{tree}
-use Rattle.cj_stream.specs.Ids.{Key, key_at}
+use Rattle.cj_stream.proofs.Common.{Key, key_at, text_of, tree, ◌∙◌}
 use Rattle.cj_stream.proofs.IdLemmas.{numbers_rise, part_keys}
 use Rattle.cj_stream.proofs.query.ids.is_in_run_of.Goals as goal
 

@@ -1,6 +1,4 @@
-use Rattle.std.proofs.Common.{get_or, take, ◌∙◌, sym, ap, subst}
-use Rattle.std.proofs.lemmas.List.{drop_more, take-map}
-use Rattle.cj_stream.specs.Ids.{Ascend, key_at, keys_at}
+use Rattle.cj_stream.proofs.Common.{Ascend, ap, drop_more, get_or, key_at, keys_at, subst, sym, take, take-map, ◌∙◌}
 use Rattle.cj_stream.proofs.IdLemmas.{first_run}
 use Rattle.cj_stream.proofs.query.ids.is_in_runs.Goals as goal
 

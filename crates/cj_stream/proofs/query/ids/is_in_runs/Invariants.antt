@@ -1,9 +1,4 @@
-use Rattle.std.proofs.Common.{◌≡◌, drop}
-use Rattle.std.specs.List.{list_any}
-use Rattle.std.specs.Ordering.{is_eq}
-use Rattle.cj_spans.specs.Meaning.Parts.{text_of}
-use Rattle.cj_spans.specs.View.{tree}
-use Rattle.cj_stream.specs.Ids.{key_of, compare_keys, keys_at, AreRuns}
+use Rattle.cj_stream.proofs.Common.{AreRuns, compare_keys, drop, is_eq, key_of, keys_at, list_any, text_of, tree, ◌≡◌}
 use Rattle.cj_stream.proofs.query.ids.is_in_runs.Given as goal
 
 abbrev pub invariant-loop-length : goal.invariant-loop-length

@@ -1,9 +1,4 @@
-use Rattle.std.proofs.Common.{◌≡◌, Some, ◌∙◌, ap}
-use Rattle.std.specs.Ordering.{is_eq}
-use Rattle.std.specs.Str.{chars}
-use Rattle.cj_spans.specs.Meaning.Parts.{text_of, are_same_texts}
-use Rattle.cj_spans.specs.View.{tree}
-use Rattle.cj_stream.specs.Ids.{compare_keys, key_at, piece}
+use Rattle.cj_stream.proofs.Common.{Some, ap, are_same_texts, chars, compare_keys, is_eq, key_at, piece, text_of, tree, ◌∙◌, ◌≡◌}
 use Rattle.cj_stream.proofs.IdLemmas.{same_beside}
 use Rattle.cj_stream.proofs.query.ids.is_of.Goals as goal
 

@@ -1,5 +1,4 @@
-use Rattle.std.proofs.Common.{◌++◌, ◌∷◌, [], length, vec_items, sym, ap, ◌∙◌, subst, refl}
-use Rattle.cj_stream.specs.Ids.{AreIndexed}
+use Rattle.cj_stream.proofs.Common.{AreIndexed, [], ap, length, refl, subst, sym, vec_items, ◌++◌, ◌∙◌, ◌∷◌}
 use Rattle.cj_stream.proofs.IdLemmas.{indexed_whole}
 use Rattle.cj_stream.proofs.query.ids.join_all.Goals as goal
 

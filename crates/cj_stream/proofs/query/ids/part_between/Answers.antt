@@ -1,8 +1,7 @@
-use Rattle.std.proofs.Common.{arith}
-use Rattle.std.proofs.lemmas.Bool.Decides.{nat_tests}
+use Rattle.cj_stream.proofs.Common.{arith, nat_tests}
 use Rattle.cj_stream.proofs.IdLemmas.{part_has}
-use Rattle.cj_stream.proofs.query.ids.part_between.Goals as goal
 use Rattle.cj_stream.proofs.query.ids.part_between.Goals.{then-start-gt0, else-start-gt0, else-end-run-via-then-end-run+else-run-end, else-end-run-via-else-end-run}
+use Rattle.cj_stream.proofs.query.ids.part_between.Goals as goal
 
 pub returns : goal.returns
 returns c =

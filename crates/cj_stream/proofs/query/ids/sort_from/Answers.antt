@@ -1,8 +1,5 @@
-use Rattle.std.proofs.Common.{◌-◌, length, sym, subst, rules}
-use Rattle.std.specs.Ordering.{is_lt}
-use Rattle.std.proofs.lemmas.Fn.{always_returns_same}
+use Rattle.cj_stream.proofs.Common.{Ascend, always_returns_same, compare_keys, is_lt, key_at, keys_at, length, rules, subst, sym, ◌-◌}
 use Rattle.std.proofs.lemmas.List.Sorted.{IsPermutation-put_mid, ranks_by}
-use Rattle.cj_stream.specs.Ids.{Ascend, compare_keys, key_at, keys_at}
 use Rattle.cj_stream.proofs.IdLemmas.{keys_total, keys_ascend, drop_put}
 use Rattle.cj_stream.proofs.query.ids.sort_from.Goals as goal
 

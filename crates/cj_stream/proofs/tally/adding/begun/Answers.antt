@@ -1,5 +1,4 @@
-use Rattle.std.proofs.Common.{rules, ◌≡◌, ◌∷◌, [], Some, to_z, of_z, w64}
-use Rattle.cj_stream.specs.TallySink.{Widens}
+use Rattle.cj_stream.proofs.Common.{Some, Widens, [], of_z, rules, to_z, w64, ◌∷◌, ◌≡◌}
 use Rattle.cj_stream.proofs.tally.adding.begun.Goals as goal
 
 pub returns-in-Some : goal.returns-in-Some

@@ -1,6 +1,4 @@
-use Rattle.std.proofs.Common.{◌∷◌, sym, ap, ◌∙◌}
-use Rattle.cj_feature.specs.Walks.{geometries_left}
-use Rattle.cj_stream.specs.Tallied.{class_of, own_classes}
+use Rattle.cj_stream.proofs.Common.{ap, class_of, geometries_left, own_classes, sym, ◌∙◌, ◌∷◌}
 use Rattle.cj_stream.proofs.Counted.{Counting-start, Counting-step, Counting-end}
 use Rattle.cj_stream.proofs.tally.adding.count_alone.Goals as goal
 

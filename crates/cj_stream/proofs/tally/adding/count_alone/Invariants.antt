@@ -1,9 +1,4 @@
-use Rattle.std.specs.List.{flat_map}
-use Rattle.cj_feature.specs.View.{feature_tree}
-use Rattle.cj_feature.specs.Walks.{geometries_left}
-use Rattle.cj_feature.specs.Meaning.CityObject.{object_geometries}
-use Rattle.cj_stream.specs.Meaning.Criteria.{objects_of}
-use Rattle.cj_stream.specs.Tallied.{own_classes}
+use Rattle.cj_stream.proofs.Common.{feature_tree, flat_map, geometries_left, object_geometries, objects_of, own_classes}
 use Rattle.cj_stream.proofs.Counted.{Counting}
 use Rattle.cj_stream.proofs.tally.adding.count_alone.Given as goal
 

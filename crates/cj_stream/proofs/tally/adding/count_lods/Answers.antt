@@ -1,5 +1,4 @@
-use Rattle.cj_feature.specs.Meaning.Feature.{templates_of}
-use Rattle.cj_feature.specs.View.{feature_header}
+use Rattle.cj_stream.proofs.Common.{feature_header, templates_of}
 use Rattle.cj_stream.proofs.Counted.{RisesBy-own}
 use Rattle.cj_stream.proofs.tally.adding.count_lods.Goals as goal
 

@@ -1,6 +1,4 @@
-use Rattle.std.proofs.Common.{◌∷◌, sym, ap, ◌∙◌}
-use Rattle.cj_spans.specs.View.{items_left}
-use Rattle.cj_stream.specs.Tallied.{class_of, own_classes}
+use Rattle.cj_stream.proofs.Common.{ap, class_of, items_left, own_classes, sym, ◌∙◌, ◌∷◌}
 use Rattle.cj_stream.proofs.Counted.{Counting-step}
 use Rattle.cj_stream.proofs.tally.adding.count_own.Goals as goal
 

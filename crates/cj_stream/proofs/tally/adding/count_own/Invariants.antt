@@ -1,8 +1,4 @@
-use Rattle.std.proofs.Common.{codes}
-use Rattle.std.specs.Str.{chars}
-use Rattle.cj_spans.specs.Meaning.Parts.{member_of, items_if}
-use Rattle.cj_spans.specs.View.{tree, items_left}
-use Rattle.cj_stream.specs.Tallied.{own_classes}
+use Rattle.cj_stream.proofs.Common.{chars, codes, items_if, items_left, member_of, own_classes, tree}
 use Rattle.cj_stream.proofs.Counted.{Counting}
 use Rattle.cj_stream.proofs.tally.adding.count_own.Given as goal
 

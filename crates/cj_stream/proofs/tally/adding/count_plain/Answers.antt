@@ -1,8 +1,5 @@
-use Rattle.std.proofs.Common.{◌∷◌, sym, ap, ◌∙◌, map, arith}
-use Rattle.cj_spans.specs.Meaning.Tree.{Tree}
-use Rattle.cj_feature.specs.Meaning.CityObject.{type_row}
-use Rattle.cj_feature.specs.Walks.{objects_left, object_trees}
-use Rattle.cj_stream.specs.Tallied.{row_number}
+use Rattle.cj_stream.proofs.Common.{Tree, ap, arith, map, objects_left, row_number, sym, type_row, ◌∙◌, ◌∷◌}
+use Rattle.cj_feature.specs.Walks.{object_trees}
 use Rattle.cj_stream.proofs.Counted.{Counting-start, Counting-step, Counting-some, own-first}
 use Rattle.cj_stream.proofs.tally.adding.count_plain.Goals as goal
 

@@ -1,10 +1,4 @@
-use Rattle.std.proofs.Common.{map}
-use Rattle.std.specs.List.{flat_map}
-use Rattle.cj_feature.specs.Meaning.CityObject.{type_row, object_geometries}
-use Rattle.cj_feature.specs.View.{feature_tree}
-use Rattle.cj_feature.specs.Walks.{objects_left}
-use Rattle.cj_stream.specs.Meaning.Criteria.{objects_of}
-use Rattle.cj_stream.specs.Tallied.{own_classes, row_number, type_numbers}
+use Rattle.cj_stream.proofs.Common.{feature_tree, flat_map, map, object_geometries, objects_left, objects_of, own_classes, row_number, type_numbers, type_row}
 use Rattle.cj_stream.proofs.Counted.{Counting}
 use Rattle.cj_stream.proofs.tally.adding.count_plain.Given as goal
 

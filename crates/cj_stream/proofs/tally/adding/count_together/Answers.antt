@@ -1,11 +1,4 @@
-use Rattle.std.proofs.Common.{◌∷◌, sym, ap, ◌∙◌, map}
-use Rattle.cj_spans.specs.Meaning.Tree.{Tree}
-use Rattle.cj_spans.specs.View.{tree}
-use Rattle.cj_geometry.specs.Meaning.Lod.{lod}
-use Rattle.cj_feature.specs.Meaning.Feature.{templates_of}
-use Rattle.cj_feature.specs.View.{feature_header}
-use Rattle.cj_feature.specs.Walks.{geometries_left}
-use Rattle.cj_stream.specs.Tallied.{class_of}
+use Rattle.cj_stream.proofs.Common.{Tree, ap, class_of, feature_header, geometries_left, lod, map, sym, templates_of, tree, ◌∙◌, ◌∷◌}
 use Rattle.cj_stream.proofs.Counted.{Counting-start, Counting-step, Counting-end}
 use Rattle.cj_stream.proofs.tally.adding.count_together.Goals as goal
 

@@ -1,10 +1,4 @@
-use Rattle.std.proofs.Common.{◌≡◌, map}
-use Rattle.cj_geometry.specs.Meaning.Lod.{lod}
-use Rattle.cj_geometry.specs.Lods.{given_to}
-use Rattle.cj_feature.specs.Meaning.Feature.{templates_of}
-use Rattle.cj_feature.specs.View.{feature_tree, feature_header}
-use Rattle.cj_feature.specs.Walks.{geometries_left}
-use Rattle.cj_stream.specs.Tallied.{class_of, lod_classes}
+use Rattle.cj_stream.proofs.Common.{class_of, feature_header, feature_tree, geometries_left, given_to, lod, lod_classes, map, templates_of, ◌≡◌}
 use Rattle.cj_stream.proofs.Counted.{Counting}
 use Rattle.cj_stream.proofs.tally.adding.count_together.Given as goal
 

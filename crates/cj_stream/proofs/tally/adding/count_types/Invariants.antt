@@ -1,8 +1,4 @@
-use Rattle.std.proofs.Common.{map}
-use Rattle.cj_feature.specs.Meaning.CityObject.{type_row}
-use Rattle.cj_feature.specs.View.{feature_tree}
-use Rattle.cj_feature.specs.Walks.{objects_left}
-use Rattle.cj_stream.specs.Tallied.{row_number, type_numbers}
+use Rattle.cj_stream.proofs.Common.{feature_tree, map, objects_left, row_number, type_numbers, type_row}
 use Rattle.cj_stream.proofs.Counted.{Counting}
 use Rattle.cj_stream.proofs.tally.adding.count_types.Given as goal
 

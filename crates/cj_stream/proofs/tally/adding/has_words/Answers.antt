@@ -1,9 +1,4 @@
-use Rattle.std.proofs.Common.{rules, ◌≡◌, ◌∙◌, ◌≤ℤ◌, ℕ, sym, ap, pos, to_z, of_z, w64, Option, None, Some, arith}
-use Rattle.std.specs.Prelude.{ℤ}
-use Rattle.std.proofs.lemmas.Int.{ints}
-use Rattle.cj_decimal.specs.Word.{IsWordOf}
-use Rattle.cj_stream.specs.Parts.{wider}
-use Rattle.cj_stream.specs.TallySink.{AreWordsOf}
+use Rattle.cj_stream.proofs.Common.{AreWordsOf, IsWordOf, None, Option, Some, ap, arith, ints, of_z, pos, rules, sym, to_z, w64, wider, ℕ, ℤ, ◌∙◌, ◌≡◌, ◌≤ℤ◌}
 use Rattle.cj_stream.proofs.Ranges.{words-some, words-top, wider-none, wider-within}
 use Rattle.cj_stream.proofs.tally.adding.has_words.Goals as goal
 

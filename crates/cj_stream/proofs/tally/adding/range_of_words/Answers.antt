@@ -1,6 +1,4 @@
-use Rattle.std.proofs.Common.{◌≡◌, ◌∙◌, sym, ap, pos, to_z, w64, Some, arith}
-use Rattle.std.specs.Prelude.{ℤ}
-use Rattle.std.proofs.lemmas.Int.{ints}
+use Rattle.cj_stream.proofs.Common.{Some, ap, arith, ints, pos, sym, to_z, w64, ℤ, ◌∙◌, ◌≡◌}
 use Rattle.cj_stream.proofs.Ranges.{words-none, words-some}
 use Rattle.cj_stream.proofs.tally.adding.range_of_words.Goals as goal
 

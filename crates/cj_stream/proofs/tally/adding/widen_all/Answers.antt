@@ -1,10 +1,4 @@
-use Rattle.std.proofs.Common.{◌≡◌, List, None, get_or, sym, ap, map, subst}
-use Rattle.std.specs.Prelude.{ℤ}
-use Rattle.cj_feature.specs.Axes.{number_on}
-use Rattle.cj_feature.specs.View.{feature_tree}
-use Rattle.cj_feature.specs.Walks.{vertices_left}
-use Rattle.cj_stream.specs.Tallied.{numbers_on}
-use Rattle.cj_stream.specs.TallySink.{Widens}
+use Rattle.cj_stream.proofs.Common.{List, None, Widens, ap, feature_tree, get_or, map, number_on, numbers_on, subst, sym, vertices_left, ℤ, ◌≡◌}
 use Rattle.cj_stream.proofs.Ranges.{front-widened, Widens-no}
 use Rattle.cj_stream.proofs.tally.adding.widen_all.Goals as goal
 

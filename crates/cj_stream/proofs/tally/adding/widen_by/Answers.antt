@@ -1,7 +1,4 @@
-use Rattle.std.proofs.Common.{rules, to_z, of_z, w64, pos, ◌≡◌, ℕ, ◌<◌, ◌∷◌, [], List, map, get_or, Some, ℤ, ap, suc, zero, arith}
-use Rattle.cj_feature.specs.Axes.{number_on}
-use Rattle.cj_feature.specs.Walks.{vertices_left}
-use Rattle.cj_stream.specs.TallySink.{Widens}
+use Rattle.cj_stream.proofs.Common.{List, Some, Widens, [], ap, arith, get_or, map, number_on, of_z, pos, rules, suc, to_z, vertices_left, w64, zero, ℕ, ℤ, ◌<◌, ◌∷◌, ◌≡◌}
 use Rattle.cj_stream.proofs.Ranges.{Widening-start, Widening-step, Widening-end, numbers-first}
 use Rattle.cj_stream.proofs.tally.adding.widen_by.Goals as goal
 

@@ -1,6 +1,4 @@
-use Rattle.std.proofs.Common.{Some, map}
-use Rattle.cj_feature.specs.Axes.{number_on}
-use Rattle.cj_feature.specs.Walks.{vertices_left}
+use Rattle.cj_stream.proofs.Common.{Some, map, number_on, vertices_left}
 use Rattle.cj_stream.proofs.Ranges.{Widening}
 use Rattle.cj_stream.proofs.tally.adding.widen_by.Given as goal
 

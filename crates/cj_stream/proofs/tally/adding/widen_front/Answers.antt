@@ -1,9 +1,5 @@
-use Rattle.std.proofs.Common.{◌≡◌, ◌∷◌, ℕ, ◌<◌, Bool, List, Option, None, ap, map, get_or, inl, inr, subst, suc, zero, arith}
-use Rattle.std.specs.Prelude.{ℤ, IsTrue, ◌⊎◌}
-use Rattle.cj_feature.specs.Axes.{number_on}
-use Rattle.cj_feature.specs.Walks.{vertices_left}
-use Rattle.cj_stream.specs.Parts.{WidensFront}
-use Rattle.cj_stream.specs.TallySink.{TakesNumber, TakesSome}
+use Rattle.cj_stream.proofs.Common.{Bool, IsTrue, List, None, Option, TakesNumber, WidensFront, ap, arith, get_or, inl, inr, map, number_on, subst, suc, vertices_left, zero, ℕ, ℤ, ◌<◌, ◌∷◌, ◌≡◌, ◌⊎◌}
+use Rattle.cj_stream.specs.TallySink.{TakesSome}
 use Rattle.cj_stream.proofs.Ranges.{OnWay, axis-next, way-joined, way-shorter, way-step}
 use Rattle.cj_stream.proofs.tally.adding.widen_front.Goals as goal
 

@@ -1,6 +1,4 @@
-use Rattle.std.proofs.Common.{◌+◌, cond, length, map}
-use Rattle.cj_feature.specs.Axes.{number_on}
-use Rattle.cj_feature.specs.Walks.{vertices_left}
+use Rattle.cj_stream.proofs.Common.{cond, length, map, number_on, vertices_left, ◌+◌}
 use Rattle.cj_stream.proofs.Ranges.{OnWay}
 use Rattle.cj_stream.proofs.tally.adding.widen_front.Given as goal
 

@@ -1,8 +1,5 @@
-use Rattle.std.proofs.Common.{◌≡◌, ◌∷◌, ◌∙◌, List, Option, inr, ap, drop, map, refl, subst, sym}
-use Rattle.std.specs.Prelude.{ℤ}
-use Rattle.cj_feature.specs.Axes.{number_on}
-use Rattle.cj_feature.specs.Walks.{vertices_left}
-use Rattle.cj_stream.specs.TallySink.{TakesNumber, TakesSome}
+use Rattle.cj_stream.proofs.Common.{List, Option, TakesNumber, ap, drop, inr, map, number_on, refl, subst, sym, vertices_left, ℤ, ◌∙◌, ◌∷◌, ◌≡◌}
+use Rattle.cj_stream.specs.TallySink.{TakesSome}
 use Rattle.cj_stream.proofs.Ranges.{words-kept, words-tried}
 use Rattle.cj_stream.proofs.tally.adding.widen_next.Goals.{else-widen_on-via-then-widen_on+then-widen_on-2+else-widen_on-3, else-widen_on-via-then-widen_on+else-widen_on-2, else-widen_on-via-else-widen_on}
 use Rattle.cj_stream.proofs.tally.adding.widen_next.Goals as goal

@@ -1,6 +1,4 @@
-use Rattle.std.proofs.Common.{sym, subst}
-use Rattle.std.specs.Prelude.{ℤ}
-use Rattle.cj_stream.specs.TallySink.{TakesNumber}
+use Rattle.cj_stream.proofs.Common.{TakesNumber, subst, sym, ℤ}
 use Rattle.cj_stream.proofs.tally.adding.widen_on.Goals as goal
 
 pub returns-in-Some-clause-taken : goal.returns-in-Some-clause-taken

@@ -1,7 +1,4 @@
-use Rattle.std.proofs.Common.{rules, to_z, of_z, w64, pos, ◌≡◌, ℕ, ◌<◌, ◌∷◌, [], List, map, get_or, None, Some, Option, ℤ, ap, suc, zero, arith, subst, sym}
-use Rattle.cj_feature.specs.Axes.{number_on}
-use Rattle.cj_feature.specs.Walks.{vertices_left}
-use Rattle.cj_stream.specs.TallySink.{Widens}
+use Rattle.cj_stream.proofs.Common.{List, None, Option, Some, Widens, [], ap, arith, get_or, map, number_on, of_z, pos, rules, subst, suc, sym, to_z, vertices_left, w64, zero, ℕ, ℤ, ◌<◌, ◌∷◌, ◌≡◌}
 use Rattle.cj_stream.proofs.Ranges.{Widens-no, Widens-two, numbers-first}
 use Rattle.cj_stream.proofs.tally.adding.widen_rest.Goals as goal
 

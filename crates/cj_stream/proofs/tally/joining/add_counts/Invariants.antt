@@ -1,5 +1,4 @@
-use Rattle.std.proofs.Common.{◌≡◌, ℕ, ◌+◌, ◌<◌, ◌≤◌, get_or}
-use Rattle.cj_stream.specs.Tallied.{capped}
+use Rattle.cj_stream.proofs.Common.{capped, get_or, ℕ, ◌+◌, ◌<◌, ◌≡◌, ◌≤◌}
 use Rattle.cj_stream.proofs.tally.joining.add_counts.Given as goal
 
 abbrev pub invariant-loop-i : goal.invariant-loop-i

@@ -1,8 +1,7 @@
-use Rattle.std.proofs.Common.{◌≡◌, ◌-◌, length, take, drop, ap, arith, length-drop}
-use Rattle.std.proofs.lemmas.List.{take_all}
+use Rattle.std.proofs.Common.{◌≡◌, ◌-◌, length, take, drop, ap, arith, length-drop, take_all}
 use Rattle.cityseq_c.proofs.CursorLemmas.{passes-begun, passes-ended}
-use Rattle.cityseq_c.proofs.features.cursor.Cursor.next_line.Goals as goal
 use Rattle.cityseq_c.proofs.features.cursor.Cursor.next_line.Goals.{in-Some, in-None}
+use Rattle.cityseq_c.proofs.features.cursor.Cursor.next_line.Goals as goal
 
 pub returns-clause-passes : goal.returns-clause-passes
 returns-clause-passes c =

@@ -1,5 +1,4 @@
-use Rattle.std.proofs.Common.{◌≡◌, ◌-◌, length}
-use Rattle.cityseq_c.specs.Features.{place_of, seek}
+use Rattle.cityseq_c.proofs.Common.{length, place_of, seek, ◌-◌, ◌≡◌}
 use Rattle.cityseq_c.proofs.features.cursor.Cursor.seek.Given as goal
 
 abbrev pub invariant-loop-self : goal.invariant-loop-self

@@ -1,5 +1,4 @@
-use Rattle.std.proofs.Common.{refl}
-use Rattle.cj_stream.specs.Item.{feature_item}
+use Rattle.cityseq_c.proofs.Common.{feature_item, refl}
 use Rattle.cityseq_c.proofs.ListLemmas.{left-record, listed-there, stored-record}
 use Rattle.cityseq_c.proofs.features.listed.ListedLineSink.put.Goals as goal
 

@@ -1,6 +1,4 @@
-use Rattle.std.proofs.Common.{[], ap, get_or, length, None, refl, ◌∙◌}
-use Rattle.cj_spans.specs.Places.{spelling_of}
-use Rattle.cj_spans.specs.View.{tree}
+use Rattle.cityseq_c.proofs.Common.{None, [], ap, get_or, length, refl, spelling_of, tree, ◌∙◌}
 use Rattle.cityseq_c.proofs.RangeLemmas.{nothing-ranged, ranges-told}
 use Rattle.cityseq_c.proofs.features.record_of.FeatureRecord.of.Goals as goal
 

@@ -1,8 +1,5 @@
-use Rattle.std.proofs.Common.{◌≡◌, ◌++◌, length, IfSome}
-use Rattle.std.specs.List.{flat_map}
-use Rattle.cj_spans.specs.View.{items_line, members_left, members_line}
+use Rattle.cj_feature.proofs.Common.{IfSome, flat_map, items_line, length, members_left, members_line, object_geometries, ◌++◌, ◌≡◌}
 use Rattle.cj_geometry.specs.ListSteps.{left_of}
-use Rattle.cj_feature.specs.Meaning.CityObject.{object_geometries}
 use Rattle.cj_feature.specs.Walks.{geometries_left, geometries_line}
 use Rattle.cj_feature.proofs.feature.geometries.GeometriesIterator.next.Given as goal
 

@@ -1,9 +1,5 @@
-use Rattle.std.proofs.Common.{◌≡◌, ◌∙◌, subst}
-use Rattle.cj_spans.specs.Meaning.Finding.{least}
-use Rattle.cj_spans.specs.Meaning.Parts.{members_of}
-use Rattle.cj_spans.specs.View.{tree, tree_in}
+use Rattle.cj_feature.proofs.Common.{children, least, members_of, subst, tree, tree_in, ◌∙◌, ◌≡◌}
 use Rattle.cj_spans.proofs.Findings.{least_on}
-use Rattle.cj_feature.specs.Meaning.Links.{children}
 use Rattle.cj_feature.proofs.feature.search.many_links.check_all_children.Goals as goal
 
 pub loop-name-preserved : goal.loop-name-preserved

@@ -1,10 +1,5 @@
-use Rattle.std.proofs.Common.{◌≡◌, ◌∙◌, sym, ap, subst, true, arith}
-use Rattle.std.proofs.lemmas.Bool.Decides.{nat_tests}
-use Rattle.cj_spans.specs.Meaning.Finding.{least}
-use Rattle.cj_spans.specs.Meaning.Parts.{members_of}
-use Rattle.cj_spans.specs.View.{tree, trees, tree_in}
+use Rattle.cj_feature.proofs.Common.{ap, arith, least, members_of, nat_tests, parents, part, subst, sym, tree, tree_in, trees, true, ◌∙◌, ◌≡◌}
 use Rattle.cj_spans.proofs.Findings.{least_on, least-two}
-use Rattle.cj_feature.specs.Meaning.Links.{parents, part}
 use Rattle.cj_feature.proofs.Passes.{parents_and_part, known_part}
 use Rattle.cj_feature.proofs.feature.search.many_links.check_all_parents.Goals as goal
 

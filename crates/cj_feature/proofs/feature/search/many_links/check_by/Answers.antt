@@ -1,8 +1,4 @@
-use Rattle.std.proofs.Common.{rules, ◌∙◌, ap}
-use Rattle.std.specs.List.{flat_map}
-use Rattle.cj_spans.specs.Meaning.Finding.{least}
-use Rattle.cj_spans.specs.Meaning.Parts.{members_of}
-use Rattle.cj_spans.specs.View.{tree}
+use Rattle.cj_feature.proofs.Common.{ap, flat_map, least, members_of, rules, tree, ◌∙◌}
 use Rattle.cj_feature.proofs.Passes.{parents_and_part, walks}
 use Rattle.cj_feature.proofs.feature.search.many_links.check_by.Goals as goal
 

@@ -1,7 +1,4 @@
-use Rattle.cj_spans.specs.Meaning.Parts.{members_of}
-use Rattle.cj_spans.specs.View.{tree}
-use Rattle.cj_feature.specs.inner.Kin.{back_of}
-use Rattle.cj_feature.specs.inner.Questions.{noted_in}
+use Rattle.cj_feature.proofs.Common.{back_of, members_of, noted_in, tree}
 use Rattle.cj_feature.proofs.Passes.{told_linked, listed_linked, lists_known}
 use Rattle.cj_feature.proofs.feature.search.many_links.check_item.Goals as goal
 

@@ -1,11 +1,4 @@
-use Rattle.std.proofs.Common.{◌≡◌, [], length, true}
-use Rattle.std.specs.List.{flat_map, list_any}
-use Rattle.cj_spans.specs.Meaning.Finding.{least}
-use Rattle.cj_spans.specs.Meaning.Parts.{members_of}
-use Rattle.cj_spans.specs.View.{tree, items_left}
-use Rattle.cj_feature.specs.inner.Kin.{back_of, linked}
-use Rattle.cj_feature.specs.Meaning.Links.{is_known}
-use Rattle.cj_feature.specs.inner.Questions.{noted_in, AreAnswered}
+use Rattle.cj_feature.proofs.Common.{AreAnswered, [], back_of, flat_map, is_known, items_left, least, length, linked, list_any, members_of, noted_in, tree, true, ◌≡◌}
 use Rattle.cj_feature.proofs.feature.search.many_links.check_items.Given as goal
 
 abbrev pub invariant-loop-item : goal.invariant-loop-item

@@ -1,11 +1,4 @@
-use Rattle.std.proofs.Common.{◌≡◌, [], length}
-use Rattle.std.specs.Prelude.{codes}
-use Rattle.std.specs.List.{list_any}
-use Rattle.std.specs.Str.{chars}
-use Rattle.cj_spans.specs.Meaning.Parts.{items_of, members_of}
-use Rattle.cj_spans.specs.View.{tree, items_left}
-use Rattle.cj_feature.specs.Meaning.Links.{is_known}
-use Rattle.cj_feature.specs.inner.Questions.{AreAnswered}
+use Rattle.cj_feature.proofs.Common.{AreAnswered, [], chars, codes, is_known, items_left, items_of, length, list_any, members_of, tree, ◌≡◌}
 use Rattle.cj_feature.proofs.feature.search.many_links.has_known_item.Given as goal
 
 abbrev pub invariant-loop-item : goal.invariant-loop-item

@@ -1,8 +1,4 @@
-use Rattle.std.proofs.Common.{sym}
-use Rattle.cj_spans.specs.Meaning.Parts.{members_of}
-use Rattle.cj_spans.specs.View.{tree}
-use Rattle.cj_feature.specs.inner.Kin.{back_of}
-use Rattle.cj_feature.specs.inner.Questions.{noted_in}
+use Rattle.cj_feature.proofs.Common.{back_of, members_of, noted_in, sym, tree}
 use Rattle.cj_feature.proofs.Passes.{lists_known}
 use Rattle.cj_feature.proofs.feature.search.many_links.is_known_parent.Goals as goal
 

@@ -1,6 +1,4 @@
-use Rattle.std.proofs.Common.{sym, ap}
-use Rattle.cj_spans.specs.Meaning.Parts.{text_of}
-use Rattle.cj_spans.specs.View.{source_of, tree_in}
+use Rattle.cj_feature.proofs.Common.{ap, source_of, sym, text_of, tree_in}
 use Rattle.cj_feature.proofs.Questions.{one_text}
 use Rattle.cj_feature.proofs.feature.search.noted.compare_numbered.Goals as goal
 

@@ -1,5 +1,4 @@
-use Rattle.std.proofs.Common.{◌≡◌, ℕ, ◌<◌, false}
-use Rattle.std.specs.Prelude.{slice_index_or}
+use Rattle.std.proofs.Common.{◌≡◌, ℕ, ◌<◌, false, slice_index_or}
 use Rattle.cj_feature.proofs.feature.search.questions.clear.Given as goal
 
 abbrev pub invariant-loop-one : goal.invariant-loop-one

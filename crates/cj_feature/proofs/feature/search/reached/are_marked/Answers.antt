@@ -1,7 +1,4 @@
-use Rattle.std.proofs.Common.{◌≡◌, ◌∙◌}
-use Rattle.cj_spans.specs.Meaning.Tree.{Tree}
-use Rattle.cj_spans.specs.View.{tree, line_of, source_of, members_left}
-use Rattle.cj_feature.specs.inner.Marking.{IsMarkedBy}
+use Rattle.cj_feature.proofs.Common.{IsMarkedBy, Tree, line_of, members_left, source_of, tree, ◌∙◌, ◌≡◌}
 use Rattle.cj_feature.proofs.Walking.{later-among, each-more, marked-beside}
 use Rattle.cj_feature.proofs.feature.search.reached.are_marked.Goals as goal
 

@@ -1,13 +1,5 @@
-use Rattle.std.proofs.Common.{◌≡◌, [], cond, true, false, sym, ap, ◌∙◌, subst}
-use Rattle.cj_spans.specs.declared.reason.Reason.TheVariants.{NotReached}
-use Rattle.cj_spans.specs.Meaning.Finding.{least}
-use Rattle.cj_spans.specs.Places.{AreValuesInOrder}
-use Rattle.cj_spans.specs.Meaning.Parts.{members_of}
-use Rattle.cj_spans.specs.View.{tree, line_of, source_of}
+use Rattle.cj_feature.proofs.Common.{AreValuesInOrder, NotReached, [], ap, cond, false, is_reached, least, line_of, members_of, one, source_of, subst, sym, tree, true, unreached, ◌∙◌, ◌≡◌}
 use Rattle.cj_spans.proofs.Findings.{least_on}
-use Rattle.cj_geometry.specs.Meaning.Rule.{one}
-use Rattle.cj_feature.specs.Meaning.Feature.{unreached}
-use Rattle.cj_feature.specs.Meaning.Reached.{is_reached}
 use Rattle.cj_feature.proofs.Fitting.{marked-reached, unmarked-unreached}
 use Rattle.cj_feature.proofs.Walking.{first-among, later-among, marked-beside}
 use Rattle.cj_feature.proofs.feature.search.reached.check_marks.Goals as goal

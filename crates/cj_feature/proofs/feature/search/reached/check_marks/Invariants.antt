@@ -1,9 +1,4 @@
-use Rattle.std.proofs.Common.{◌≡◌}
-use Rattle.std.specs.List.{flat_map}
-use Rattle.cj_spans.specs.Meaning.Finding.{least}
-use Rattle.cj_spans.specs.Meaning.Parts.{members_of}
-use Rattle.cj_spans.specs.View.{tree, members_left}
-use Rattle.cj_feature.specs.Meaning.Feature.{unreached}
+use Rattle.cj_feature.proofs.Common.{flat_map, least, members_left, members_of, tree, unreached, ◌≡◌}
 use Rattle.cj_feature.proofs.Walking.{Among}
 use Rattle.cj_feature.proofs.feature.search.reached.check_marks.Given as goal
 

@@ -1,9 +1,4 @@
-use Rattle.std.proofs.Common.{◌≡◌, Some, sym, ap, ◌∙◌, subst, option_map, IfSome}
-use Rattle.std.specs.Prelude.{codes}
-use Rattle.std.specs.Str.{chars}
-use Rattle.cj_spans.specs.Meaning.Parts.{member_of}
-use Rattle.cj_spans.specs.View.{tree}
-use Rattle.cj_feature.specs.inner.Marking.{IsBeside}
+use Rattle.cj_feature.proofs.Common.{IfSome, IsBeside, Some, ap, chars, codes, member_of, option_map, subst, sym, tree, ◌∙◌, ◌≡◌}
 use Rattle.cj_feature.proofs.Fitting.{fit}
 use Rattle.cj_feature.proofs.feature.search.reached.check_reached.Goals as goal
 

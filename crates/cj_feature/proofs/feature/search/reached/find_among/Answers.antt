@@ -1,11 +1,4 @@
-use Rattle.std.proofs.Common.{◌≡◌, sym, ◌∙◌}
-use Rattle.std.specs.Prelude.{codes}
-use Rattle.std.specs.Str.{chars}
-use Rattle.cj_spans.specs.Meaning.Tree.{Tree}
-use Rattle.cj_spans.specs.View.{tree, line_of, source_of, members_left}
-use Rattle.cj_feature.specs.Meaning.Links.{listed_in}
-use Rattle.cj_feature.specs.inner.Marking.{IsMarkedBy}
-use Rattle.cj_feature.specs.inner.Unmarked.{SoughtHaveMarks}
+use Rattle.cj_feature.proofs.Common.{IsMarkedBy, SoughtHaveMarks, Tree, chars, codes, line_of, listed_in, members_left, source_of, sym, tree, ◌∙◌, ◌≡◌}
 use Rattle.cj_feature.proofs.Walking.{first-among, later-among, each-more, marked-beside}
 use Rattle.cj_feature.proofs.feature.search.reached.find_among.Goals as goal
 

@@ -1,12 +1,4 @@
-use Rattle.std.proofs.Common.{◌≡◌, ◌⊎◌, length, true}
-use Rattle.std.specs.List.{Contains}
-use Rattle.std.specs.Prelude.{codes}
-use Rattle.std.specs.Str.{chars}
-use Rattle.cj_spans.specs.Meaning.Tree.{Tree}
-use Rattle.cj_spans.specs.Meaning.Parts.{members_of}
-use Rattle.cj_spans.specs.View.{tree, line_of, source_of, members_left, members_line, members_source}
-use Rattle.cj_feature.specs.Meaning.Links.{same_text, listed_in}
-use Rattle.cj_feature.specs.inner.Marking.{IsMarkedBy}
+use Rattle.cj_feature.proofs.Common.{Contains, IsMarkedBy, Tree, chars, codes, length, line_of, listed_in, members_left, members_line, members_of, members_source, same_text, source_of, tree, true, ◌≡◌, ◌⊎◌}
 use Rattle.cj_feature.proofs.feature.search.reached.find_by_names.Given as goal
 
 -- what is listed by one with a mark, is one of the later city objects or has a mark

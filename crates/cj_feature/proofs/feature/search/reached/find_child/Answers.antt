@@ -1,11 +1,4 @@
-use Rattle.std.proofs.Common.{◌≡◌, true, sym, subst}
-use Rattle.std.specs.List.{Contains}
-use Rattle.cj_spans.specs.Meaning.Tree.{Tree}
-use Rattle.cj_spans.specs.Meaning.Parts.{members_of}
-use Rattle.cj_spans.specs.View.{tree, items_left}
-use Rattle.cj_feature.specs.Meaning.Links.{same_text}
-use Rattle.cj_feature.specs.inner.Marking.{IsMarkedBy}
-use Rattle.cj_feature.specs.inner.Unmarked.{IsSought}
+use Rattle.cj_feature.proofs.Common.{Contains, IsMarkedBy, IsSought, Tree, items_left, members_of, same_text, subst, sym, tree, true, ◌≡◌}
 use Rattle.cj_feature.proofs.LinkFaults.{here, there}
 use Rattle.cj_feature.proofs.NameLemmas.{sought-same}
 use Rattle.cj_feature.proofs.Walking.{each-more}

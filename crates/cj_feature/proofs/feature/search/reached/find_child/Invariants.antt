@@ -1,10 +1,4 @@
-use Rattle.std.specs.List.{Contains}
-use Rattle.std.specs.Str.{chars}
-use Rattle.std.specs.Prelude.{codes}
-use Rattle.cj_spans.specs.Meaning.Tree.{Tree}
-use Rattle.cj_spans.specs.View.{tree, items_left}
-use Rattle.cj_feature.specs.Meaning.Links.{listed_in}
-use Rattle.cj_feature.specs.inner.Unmarked.{SoughtHaveMarks}
+use Rattle.cj_feature.proofs.Common.{Contains, SoughtHaveMarks, Tree, chars, codes, items_left, listed_in, tree}
 use Rattle.cj_feature.proofs.feature.search.reached.find_child.Given as goal
 
 abbrev pub invariant-loop-item : goal.invariant-loop-item

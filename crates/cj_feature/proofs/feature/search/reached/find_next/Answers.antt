@@ -1,14 +1,5 @@
-use Rattle.std.proofs.Common.{◌≡◌, ℕ, List, Some, ◌∙◌, sym, ap, subst, option_map}
-use Rattle.std.specs.Prelude.{codes}
-use Rattle.std.specs.Str.{chars}
-use Rattle.std.proofs.lemmas.Option.{IfSome_then}
+use Rattle.cj_feature.proofs.Common.{IfSome_then, IsMarked, IsReachedObject, IsToMark, List, Some, Tree, ap, chars, codes, member_of, option_map, subst, sym, tokens_in, tree, ℕ, ◌∙◌, ◌≡◌}
 use Rattle.cj_spans.specs.declared.node.Source.{Source}
-use Rattle.cj_spans.specs.Marks.{IsMarked}
-use Rattle.cj_spans.specs.Meaning.Tree.{Tree}
-use Rattle.cj_spans.specs.Meaning.Parts.{member_of}
-use Rattle.cj_spans.specs.View.{tree, tokens_in}
-use Rattle.cj_feature.specs.inner.Marking.{IsToMark}
-use Rattle.cj_feature.specs.Meaning.Reachable.{IsReachedObject}
 use Rattle.cj_feature.proofs.Fitting.{first-to-mark, next-to-mark, all-are-marked}
 use Rattle.cj_feature.proofs.Walking.{if-none}
 use Rattle.cj_feature.proofs.feature.search.reached.find_next.Goals as goal

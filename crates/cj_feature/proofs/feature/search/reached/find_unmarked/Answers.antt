@@ -1,11 +1,7 @@
-use Rattle.std.proofs.Common.{◌≡◌, ◌<◌, length, true, sym, ◌∙◌, subst}
-use Rattle.cj_spans.specs.Meaning.Tree.{Tree}
-use Rattle.cj_spans.specs.View.{tree, line_of, source_of, tokens_in, members_left}
-use Rattle.cj_feature.specs.Meaning.Links.{same_text}
-use Rattle.cj_feature.specs.inner.Marking.{IsMarkedBy}
+use Rattle.cj_feature.proofs.Common.{IsMarkedBy, Tree, length, line_of, members_left, same_text, source_of, subst, sym, tokens_in, tree, true, ◌<◌, ◌∙◌, ◌≡◌}
 use Rattle.cj_feature.proofs.Walking.{first-among, later-among, each-more, marked-beside, shown-beside}
-use Rattle.cj_feature.proofs.feature.search.reached.find_unmarked.Goals as goal
 use Rattle.cj_feature.proofs.feature.search.reached.find_unmarked.Goals.{else-not-marked-via-then-not-marked+else-same_text, else-not-marked-via-else-not-marked}
+use Rattle.cj_feature.proofs.feature.search.reached.find_unmarked.Goals as goal
 
 pub returns-then-same_text-clause-found : goal.returns-then-same_text-clause-found
 returns-then-same_text-clause-found c =

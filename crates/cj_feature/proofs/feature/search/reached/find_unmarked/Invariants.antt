@@ -1,6 +1,4 @@
-use Rattle.cj_spans.specs.Meaning.Parts.{members_of}
-use Rattle.cj_spans.specs.View.{tree, members_left}
-use Rattle.cj_feature.specs.inner.Marking.{HaveMarks}
+use Rattle.cj_feature.proofs.Common.{HaveMarks, members_left, members_of, tree}
 use Rattle.cj_feature.proofs.Walking.{Among}
 use Rattle.cj_feature.proofs.feature.search.reached.find_unmarked.Given as goal
 

@@ -1,12 +1,6 @@
-use Rattle.std.proofs.Common.{◌≡◌, false, inl, inr, refl, sym, ap, subst, ◌∙◌}
-use Rattle.cj_budget.specs.Bounded.{BoundedList}
-use Rattle.cj_spans.specs.declared.token.Token.{Token}
-use Rattle.cj_spans.specs.Marks.{is_marked_at, IsMarked}
+use Rattle.cj_feature.proofs.Common.{BoundedList, IsMarked, IsReachedObject, IsToMark, Token, ap, document, document_source, false, inl, inr, is_marked_at, refl, subst, sym, tokens_in, ◌∙◌, ◌≡◌}
 use Rattle.cj_spans.specs.Sound.{AreOf}
-use Rattle.cj_spans.specs.View.{document, document_source, tokens_in}
 use Rattle.cj_spans.proofs.Marking.{spans_kept, length_kept, of_kept}
-use Rattle.cj_feature.specs.inner.Marking.{IsToMark}
-use Rattle.cj_feature.specs.Meaning.Reachable.{IsReachedObject}
 use Rattle.cj_feature.proofs.LinkFaults.{not-so}
 use Rattle.cj_feature.proofs.MarkLemmas.{count-less, marked-more}
 use Rattle.cj_feature.proofs.feature.search.reached.mark_reached.Goals as goal

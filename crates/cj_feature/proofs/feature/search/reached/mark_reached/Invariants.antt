@@ -1,10 +1,6 @@
-use Rattle.std.proofs.Common.{◌≡◌}
-use Rattle.cj_spans.specs.Meaning.Tree.{Tree}
-use Rattle.cj_spans.specs.Meaning.Json.{Json}
-use Rattle.cj_spans.specs.Marks.{IsMarked, bare}
-use Rattle.cj_feature.specs.Meaning.Reachable.{IsReachedObject}
-use Rattle.cj_feature.proofs.feature.search.reached.mark_reached.Given as goal
+use Rattle.cj_feature.proofs.Common.{IsMarked, IsReachedObject, Json, Tree, bare, ◌≡◌}
 use Rattle.cj_feature.proofs.MarkLemmas.{unmarked_count}
+use Rattle.cj_feature.proofs.feature.search.reached.mark_reached.Given as goal
 
 abbrev pub invariant-loop-number : goal.invariant-loop-number
 invariant-loop-number l = record {

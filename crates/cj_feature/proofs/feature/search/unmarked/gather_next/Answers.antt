@@ -1,6 +1,4 @@
-use Rattle.std.proofs.Common.{◌≡◌, ◌++◌, length, take, drop, inl, inr, sym, subst, rules}
-use Rattle.std.proofs.lemmas.List.{take_at}
-use Rattle.cj_feature.specs.inner.Unmarked.{IsNoted}
+use Rattle.cj_feature.proofs.Common.{IsNoted, drop, inl, inr, length, rules, subst, sym, take, take_at, ◌++◌, ◌≡◌}
 use Rattle.cj_feature.proofs.NameLemmas.{noted-moved}
 use Rattle.cj_feature.proofs.feature.search.unmarked.gather_next.Goals as goal
 

@@ -1,8 +1,4 @@
-use Rattle.std.proofs.Common.{◌≡◌, sym, ap, ◌∙◌, rules}
-use Rattle.std.proofs.lemmas.Fn.{always_returns_same}
-use Rattle.cj_spans.specs.Meaning.Parts.{text_of}
-use Rattle.cj_spans.specs.View.{tree}
-use Rattle.cj_feature.specs.inner.Questions.{compare_sides, side_in, side_of, text_side}
+use Rattle.cj_feature.proofs.Common.{always_returns_same, ap, compare_sides, rules, side_in, side_of, sym, text_of, text_side, tree, ◌∙◌, ◌≡◌}
 use Rattle.cj_feature.proofs.NameLemmas.{not-found}
 use Rattle.cj_feature.proofs.feature.search.unmarked.has.Goals as goal
 

@@ -1,14 +1,4 @@
-use Rattle.std.proofs.Common.{◌≡◌, ◌+◌, ◌<◌, length, take, inl, inr, arith, sym, ap, ◌∙◌, subst}
-use Rattle.std.specs.Prelude.{slice_set}
-use Rattle.std.specs.List.{Contains}
-use Rattle.std.proofs.lemmas.List.{length-set}
-use Rattle.cj_spans.specs.Meaning.Tree.{Tree}
-use Rattle.cj_spans.specs.Meaning.Parts.{text_of}
-use Rattle.cj_spans.specs.View.{tree, tree_in, source_of, members_left}
-use Rattle.cj_feature.specs.declared.feature.search.noted.Noted.{Noted}
-use Rattle.cj_feature.specs.inner.Questions.{side_in, side_of}
-use Rattle.cj_feature.specs.inner.Tag.{tag_of}
-use Rattle.cj_feature.specs.inner.Unmarked.{IsNoted}
+use Rattle.cj_feature.proofs.Common.{Contains, IsNoted, Noted, Tree, ap, arith, inl, inr, length, length-set, members_left, side_in, side_of, slice_set, source_of, subst, sym, tag_of, take, text_of, tree, tree_in, ◌+◌, ◌<◌, ◌∙◌, ◌≡◌}
 use Rattle.cj_feature.proofs.NameLemmas.{kept-first, last-first}
 use Rattle.cj_feature.proofs.Walking.{next-or}
 use Rattle.cj_feature.proofs.feature.search.unmarked.note_next.Goals as goal

@@ -1,6 +1,4 @@
-use Rattle.std.proofs.Common.{◌≡◌, ◌≤◌, ◌+◌, length, take}
-use Rattle.cj_spans.specs.View.{line_of, source_of, members_left, members_line, members_source}
-use Rattle.cj_feature.specs.inner.Unmarked.{ArePassed}
+use Rattle.cj_feature.proofs.Common.{ArePassed, length, line_of, members_left, members_line, members_source, source_of, take, ◌+◌, ◌≡◌, ◌≤◌}
 use Rattle.cj_feature.proofs.feature.search.unmarked.note_next.Given as goal
 
 abbrev pub invariant-loop-count : goal.invariant-loop-count

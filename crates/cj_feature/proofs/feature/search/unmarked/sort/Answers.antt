@@ -1,8 +1,4 @@
-use Rattle.std.proofs.Common.{rules}
-use Rattle.std.specs.Ordering.{is_lt}
-use Rattle.std.proofs.lemmas.Fn.{always_returns_same}
-use Rattle.std.proofs.lemmas.List.Sorted.{ranks_by}
-use Rattle.cj_feature.specs.inner.Questions.{compare_sides, side_in}
+use Rattle.cj_feature.proofs.Common.{always_returns_same, compare_sides, is_lt, ranks_by, rules, side_in}
 use Rattle.cj_feature.proofs.Questions.{sides_total}
 use Rattle.cj_feature.proofs.feature.search.unmarked.sort.Goals as goal
 

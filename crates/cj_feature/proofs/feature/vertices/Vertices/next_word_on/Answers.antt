@@ -1,8 +1,4 @@
-use Rattle.std.proofs.Common.{◌≡◌, ◌∷◌, ℕ, pos, ap, map, List, Option, Some, None}
-use Rattle.std.specs.Prelude.{ℤ, IfSome}
-use Rattle.cj_decimal.specs.Word.{IsWordOf}
-use Rattle.cj_feature.specs.Meaning.CityObject.{vertex_of}
-use Rattle.cj_feature.specs.Axes.{number_on}
+use Rattle.cj_feature.proofs.Common.{IfSome, IsWordOf, List, None, Option, Some, ap, map, number_on, pos, vertex_of, ℕ, ℤ, ◌∷◌, ◌≡◌}
 use Rattle.cj_feature.specs.Walks.{vertices_left}
 use Rattle.cj_feature.proofs.feature.vertices.Vertices.next_word_on.Goals as goal
 

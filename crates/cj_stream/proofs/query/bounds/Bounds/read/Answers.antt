@@ -1,5 +1,4 @@
-use Rattle.std.proofs.Common.{◌≡◌, ◌∙◌, true, false, refl, sym}
-use Rattle.std.specs.Prelude.{int_lt}
+use Rattle.std.proofs.Common.{◌≡◌, ◌∙◌, true, false, refl, sym, int_lt}
 use Rattle.cj_stream.proofs.BoxTextLemmas.{by_edges, read-edges}
 use Rattle.cj_stream.proofs.query.bounds.Bounds.read.Goals.{in_default-2-via-in-Some+in-Some+in-Some+in_default, in_default-2-via-in-Some+in-Some+in_default, in_default-2-via-in-Some+in_default, in_default-2-via-in_default, then-is_below-via-then-is_below, then-is_below-via-else-is_below+then-is_below-2}
 use Rattle.cj_stream.proofs.query.bounds.Bounds.read.Goals as goal

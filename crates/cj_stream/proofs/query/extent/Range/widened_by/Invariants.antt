@@ -1,6 +1,4 @@
-use Rattle.std.proofs.Common.{◌≡◌}
-use Rattle.cj_feature.specs.Walks.{coordinates_left}
-use Rattle.cj_stream.specs.Extent.{widened}
+use Rattle.cj_stream.proofs.Common.{coordinates_left, widened, ◌≡◌}
 use Rattle.cj_stream.proofs.query.extent.Range.widened_by.Given as goal
 
 abbrev pub invariant-loop-number : goal.invariant-loop-number

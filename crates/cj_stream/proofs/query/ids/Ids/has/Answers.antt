@@ -1,11 +1,5 @@
-use Rattle.std.proofs.Common.{◌≡◌, ℕ, List, ◌∙◌, sym, ap, Bool, string_bytes}
-use Rattle.std.specs.List.{list_any}
-use Rattle.std.specs.Ordering.{is_eq}
+use Rattle.cj_stream.proofs.Common.{Bool, Key, List, ap, compare_keys, is_eq, is_one_of, key_of, keys_at, keys_of, list_any, pieces, string_bytes, sym, text_of, tree, ℕ, ◌∙◌, ◌≡◌}
 use Rattle.std.proofs.lemmas.List.Sorted.{list_any-IsPermutation}
-use Rattle.cj_spans.specs.Meaning.Parts.{text_of}
-use Rattle.cj_spans.specs.View.{tree}
-use Rattle.cj_stream.specs.Ids.{Key, key_of, compare_keys, pieces, keys_at, keys_of}
-use Rattle.cj_stream.specs.Meaning.Criteria.{is_one_of}
 use Rattle.cj_stream.proofs.IdLemmas.{has_key}
 use Rattle.cj_stream.proofs.query.ids.Ids.has.Goals as goal
 

@@ -1,13 +1,5 @@
-use Rattle.std.proofs.Common.{rules, ◌≡◌, Some, sym, ap, subst, ◌∙◌, option_map}
-use Rattle.std.specs.Prelude.{codes}
-use Rattle.std.specs.Str.{chars}
-use Rattle.cj_spans.specs.Meaning.Json.{Json}
-use Rattle.cj_spans.specs.Meaning.Parts.{member_of, members_of}
-use Rattle.cj_spans.specs.Preorder.{spans_of}
-use Rattle.cj_spans.specs.Meaning.Tree.{Tree}
-use Rattle.cj_spans.specs.View.{tree, source_of, document, document_line, document_source, tokens_in}
+use Rattle.cj_feature.proofs.Common.{AreNamed, Json, Some, Tree, ap, chars, codes, document, document_line, document_source, member_of, members_of, option_map, rules, source_of, spans_of, subst, sym, tokens_in, tree, ◌∙◌, ◌≡◌}
 use Rattle.cj_spans.proofs.Marking.{the-document, the-json}
-use Rattle.cj_feature.specs.inner.Marking.{AreNamed}
 use Rattle.cj_feature.proofs.Fitting.{one-some}
 use Rattle.cj_feature.proofs.NearLemmas.{id-reached, named-kept, known-there, known-here, waits-here, waits-there}
 use Rattle.cj_feature.proofs.feature.search.near.Near.begin.Goals as goal

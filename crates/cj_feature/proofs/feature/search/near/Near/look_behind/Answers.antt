@@ -1,9 +1,4 @@
-use Rattle.std.proofs.Common.{rules, ◌≡◌, Some, sym, ap, subst, ◌∙◌, option_map}
-use Rattle.std.specs.Prelude.{codes}
-use Rattle.std.specs.Str.{chars}
-use Rattle.cj_spans.specs.Marks.{IsMarked}
-use Rattle.cj_spans.specs.Meaning.Parts.{member_of}
-use Rattle.cj_spans.specs.View.{tree, source_of, document, document_line, document_source, tokens_in}
+use Rattle.cj_feature.proofs.Common.{IsMarked, Some, ap, chars, codes, document, document_line, document_source, member_of, option_map, rules, source_of, subst, sym, tokens_in, tree, ◌∙◌, ◌≡◌}
 use Rattle.cj_spans.proofs.Marking.{the-document, the-json, line-of-document}
 use Rattle.cj_feature.proofs.NearLemmas.{guide-on, known-here, waits-here, waits-there}
 use Rattle.cj_feature.proofs.feature.search.near.Near.look_behind.Goals as goal

@@ -1,5 +1,4 @@
-use Rattle.std.proofs.Common.{rules, refl, ◌∙◌}
-use Rattle.cj_feature.specs.inner.Marking.{IsGuide}
+use Rattle.cj_feature.proofs.Common.{IsGuide, refl, rules, ◌∙◌}
 use Rattle.cj_feature.proofs.NearLemmas.{guide-marked, guide-at}
 use Rattle.cj_feature.proofs.feature.search.near.Near.mark.Goals as goal
 

@@ -1,5 +1,4 @@
-use Rattle.std.proofs.Common.{rules}
-use Rattle.cj_spans.specs.Preorder.{spans_of}
+use Rattle.cj_feature.proofs.Common.{rules, spans_of}
 use Rattle.cj_feature.proofs.feature.search.near.Near.mark_all.Goals as goal
 
 pub mark_from_id-requires : goal.mark_from_id-requires

@@ -1,4 +1,4 @@
-use Rattle.cj_feature.specs.inner.Marking.{OnlyMarks, IsGuide}
+use Rattle.cj_feature.proofs.Common.{IsGuide, OnlyMarks}
 use Rattle.cj_feature.proofs.feature.search.near.Near.mark_block.Given as goal
 
 abbrev pub invariant-loop-number : goal.invariant-loop-number

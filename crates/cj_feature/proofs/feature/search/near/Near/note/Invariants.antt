@@ -1,6 +1,4 @@
-use Rattle.cj_spans.specs.Meaning.Tree.{Tree}
-use Rattle.cj_spans.specs.View.{tree, line_of}
-use Rattle.cj_feature.specs.inner.Marking.{Knows, ReachesName, WaitsFor, AddsNone, spans_by}
+use Rattle.cj_feature.proofs.Common.{AddsNone, Knows, ReachesName, Tree, WaitsFor, line_of, spans_by, tree}
 use Rattle.cj_feature.proofs.feature.search.near.Near.note.Given as goal
 
 abbrev pub invariant-loop-place : goal.invariant-loop-place

@@ -1,6 +1,4 @@
-use Rattle.std.proofs.Common.{sym, subst}
-use Rattle.std.specs.List.{Contains}
-use Rattle.cj_spans.specs.View.{tree}
+use Rattle.cj_feature.proofs.Common.{Contains, subst, sym, tree}
 use Rattle.cj_feature.proofs.LinkFaults.{here, there}
 use Rattle.cj_feature.proofs.NearLemmas.{more-hand, known-kept, lists-reached}
 use Rattle.cj_feature.proofs.feature.search.near.Near.note_children.Goals as goal

@@ -1,13 +1,4 @@
-use Rattle.std.proofs.Common.{◌≡◌, Some}
-use Rattle.std.specs.Prelude.{codes}
-use Rattle.std.specs.List.{Contains}
-use Rattle.std.specs.Str.{chars}
-use Rattle.cj_spans.specs.Meaning.Parts.{member_of}
-use Rattle.cj_spans.specs.Meaning.Tree.{Tree}
-use Rattle.cj_spans.specs.View.{tree, line_of, items_left}
-use Rattle.cj_feature.specs.Meaning.Links.{listed_in}
-use Rattle.cj_feature.specs.Meaning.Reachable.{IsReachedObject}
-use Rattle.cj_feature.specs.inner.Marking.{Knows, WaitsFor, AddsNone, spans_by}
+use Rattle.cj_feature.proofs.Common.{AddsNone, Contains, IsReachedObject, Knows, Some, Tree, WaitsFor, chars, codes, items_left, line_of, listed_in, member_of, spans_by, tree, ◌≡◌}
 use Rattle.cj_feature.proofs.feature.search.near.Near.note_children.Given as goal
 
 abbrev pub invariant-loop-item : goal.invariant-loop-item

@@ -1,10 +1,6 @@
-use Rattle.std.proofs.Common.{◌≡◌, ◌-◌, true, sym, subst, ◌∙◌, arith}
-use Rattle.cj_spans.specs.View.{tree, line_of, source_of, tokens_in, tree_at}
+use Rattle.cj_feature.proofs.Common.{IsReady, SlotHolds, arith, line_of, same_text, source_of, spans_by, subst, sym, tokens_in, tree, tree_at, true, ◌-◌, ◌∙◌, ◌≡◌}
 use Rattle.cj_spans.proofs.Marking.{found_at-number}
 use Rattle.cj_spans.proofs.Scanned.{length-spans_of}
-use Rattle.cj_feature.specs.Meaning.Links.{same_text}
-use Rattle.cj_feature.specs.inner.Marking.{spans_by}
-use Rattle.cj_feature.specs.inner.Slots.{SlotHolds, IsReady}
 use Rattle.cj_feature.proofs.feature.search.near.Near.note_one.Goals as goal
 
 pub returns-then-not-marked-clause-pending : goal.returns-then-not-marked-clause-pending

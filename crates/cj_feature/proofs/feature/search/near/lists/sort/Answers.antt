@@ -1,5 +1,4 @@
-use Rattle.std.proofs.Common.{◌-◌}
-use Rattle.std.proofs.lemmas.List.Sorted.{IsPermutation-put_mid}
+use Rattle.cj_feature.proofs.Common.{IsPermutation-put_mid, ◌-◌}
 use Rattle.cj_feature.proofs.feature.search.near.lists.sort.Goals as goal
 
 pub returns : goal.returns

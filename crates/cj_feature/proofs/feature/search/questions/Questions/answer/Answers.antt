@@ -1,6 +1,4 @@
-use Rattle.std.proofs.Common.{◌∙◌}
-use Rattle.cj_spans.specs.Meaning.Parts.{members_of}
-use Rattle.cj_spans.specs.View.{tree}
+use Rattle.cj_feature.proofs.Common.{members_of, tree, ◌∙◌}
 use Rattle.cj_feature.proofs.Questions.{unknown}
 use Rattle.cj_feature.proofs.feature.search.questions.Questions.answer.Goals as goal
 

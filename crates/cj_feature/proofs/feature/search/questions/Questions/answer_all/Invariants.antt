@@ -1,10 +1,4 @@
-use Rattle.std.proofs.Common.{◌≡◌, length, true}
-use Rattle.std.specs.Str.{chars}
-use Rattle.cj_spans.specs.Meaning.Tree.{Tree}
-use Rattle.cj_spans.specs.Meaning.Parts.{members_of}
-use Rattle.cj_spans.specs.View.{tree, members_left}
-use Rattle.cj_feature.specs.Meaning.Links.{lists}
-use Rattle.cj_feature.specs.inner.Questions.{AreAnswered}
+use Rattle.cj_feature.proofs.Common.{AreAnswered, Tree, chars, length, lists, members_left, members_of, tree, true, ◌≡◌}
 use Rattle.cj_feature.proofs.feature.search.questions.Questions.answer_all.Given as goal
 
 -- what the city objects that are left list, all list

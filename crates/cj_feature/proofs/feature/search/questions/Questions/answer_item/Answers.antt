@@ -1,7 +1,4 @@
-use Rattle.std.proofs.Common.{sym, subst}
-use Rattle.std.specs.Str.{chars}
-use Rattle.cj_spans.specs.View.{tree}
-use Rattle.cj_feature.specs.inner.Questions.{AreListed, noted}
+use Rattle.cj_feature.proofs.Common.{AreListed, chars, noted, subst, sym, tree}
 use Rattle.cj_feature.proofs.Questions.{listed_on}
 use Rattle.cj_feature.proofs.feature.search.questions.Questions.answer_item.Goals as goal
 

@@ -1,6 +1,4 @@
-use Rattle.std.proofs.Common.{◌≡◌, true, refl, rules}
-use Rattle.cj_spans.specs.View.{tree, items_left}
-use Rattle.cj_feature.specs.Meaning.Links.{has_item, same_text}
+use Rattle.cj_feature.proofs.Common.{has_item, items_left, refl, rules, same_text, tree, true, ◌≡◌}
 use Rattle.cj_feature.proofs.feature.search.questions.Questions.answer_items.Goals as goal
 
 pub answer_item-requires : goal.answer_item-requires

@@ -1,9 +1,4 @@
-use Rattle.std.proofs.Common.{◌≡◌, true}
-use Rattle.std.specs.Str.{chars}
-use Rattle.cj_spans.specs.Meaning.Tree.{Tree}
-use Rattle.cj_spans.specs.View.{tree, items_left, members_left}
-use Rattle.cj_feature.specs.Meaning.Links.{has_item, listed_in}
-use Rattle.cj_feature.specs.inner.Questions.{AreAnswered}
+use Rattle.cj_feature.proofs.Common.{AreAnswered, Tree, chars, has_item, items_left, listed_in, members_left, tree, true, ◌≡◌}
 use Rattle.cj_feature.proofs.feature.search.questions.Questions.answer_items.Given as goal
 
 -- what the items that are left have, the list has

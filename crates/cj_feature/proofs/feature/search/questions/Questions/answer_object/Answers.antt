@@ -1,9 +1,4 @@
-use Rattle.std.proofs.Common.{◌≡◌, ◌<◌, true, length, arith, rules, sym, subst, ◌∙◌}
-use Rattle.std.proofs.lemmas.Grind.{common_steps}
-use Rattle.std.proofs.lemmas.Option.{slice_get_within}
-use Rattle.cj_spans.specs.View.{trees, members_left}
-use Rattle.cj_feature.specs.Meaning.Links.{same_text}
-use Rattle.cj_feature.specs.inner.Questions.{AreLeft, IsFirstOn, noted}
+use Rattle.cj_feature.proofs.Common.{AreLeft, IsFirstOn, arith, common_steps, length, members_left, noted, rules, same_text, slice_get_within, subst, sym, trees, true, ◌<◌, ◌∙◌, ◌≡◌}
 use Rattle.cj_feature.proofs.Questions.{left_unasked, left_flagged}
 use Rattle.cj_feature.proofs.feature.search.questions.Questions.answer_object.Goals as goal
 

@@ -1,8 +1,4 @@
-use Rattle.std.proofs.Common.{arith, rules, refl, sym, subst}
-use Rattle.std.specs.Str.{chars}
-use Rattle.std.proofs.lemmas.Grind.{common_steps}
-use Rattle.std.proofs.lemmas.List.{take-append-le}
-use Rattle.cj_feature.specs.inner.Questions.{AreQuestionsInOrder}
+use Rattle.cj_feature.proofs.Common.{AreQuestionsInOrder, arith, chars, common_steps, refl, rules, subst, sym, take-append-le}
 use Rattle.cj_feature.proofs.Questions.{none_listed}
 use Rattle.cj_feature.proofs.feature.search.questions.Questions.ask.Goals as goal
 

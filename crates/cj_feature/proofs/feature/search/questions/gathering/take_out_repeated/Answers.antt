@@ -1,11 +1,7 @@
-use Rattle.std.proofs.Common.{◌+◌, ◌<◌, ◌≤◌, ◌++◌, List, length, take, drop, arith, rules, sym, ap, ◌∙◌, subst}
-use Rattle.std.proofs.lemmas.List.{append-nil, drop_all}
-use Rattle.std.proofs.lemmas.List.Sorted.{ranks_by}
-use Rattle.cj_feature.specs.declared.feature.search.questions.order.Question.{Question}
-use Rattle.cj_feature.specs.inner.Questions.{AreQuestionsInOrder, key_in}
+use Rattle.cj_feature.proofs.Common.{AreQuestionsInOrder, List, Question, ap, append-nil, arith, drop, drop_all, key_in, length, ranks_by, rules, subst, sym, take, ◌++◌, ◌+◌, ◌<◌, ◌∙◌, ◌≤◌}
 use Rattle.cj_feature.proofs.Questions.{keys_total, next_one, one_less, one_more}
-use Rattle.cj_feature.proofs.feature.search.questions.gathering.take_out_repeated.Goals as goal
 use Rattle.cj_feature.proofs.feature.search.questions.gathering.take_out_repeated.Goals.{then-kept-eq0, else-kept-eq0+else-not-are_same}
+use Rattle.cj_feature.proofs.feature.search.questions.gathering.take_out_repeated.Goals as goal
 
 pub loop-i-preserved : goal.loop-i-preserved
 loop-i-preserved c =

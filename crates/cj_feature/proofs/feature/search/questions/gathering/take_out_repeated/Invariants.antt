@@ -1,5 +1,4 @@
-use Rattle.std.proofs.Common.{◌≡◌, ◌≤◌, ◌++◌, length, take, drop}
-use Rattle.cj_feature.specs.inner.Questions.{AreQuestionsInOrder}
+use Rattle.cj_feature.proofs.Common.{AreQuestionsInOrder, drop, length, take, ◌++◌, ◌≡◌, ◌≤◌}
 use Rattle.cj_feature.proofs.feature.search.questions.gathering.take_out_repeated.Given as goal
 
 -- those that are kept and those to come stand in order

@@ -1,9 +1,4 @@
-use Rattle.std.proofs.Common.{◌≡◌, false, Some, sym, ap, ◌∙◌, subst}
-use Rattle.cj_spans.specs.Meaning.Parts.{text_of}
-use Rattle.cj_spans.specs.View.{tree}
-use Rattle.cj_feature.specs.Meaning.Links.{same_text}
-use Rattle.cj_feature.specs.inner.Tag.{tag_of}
-use Rattle.cj_feature.specs.inner.Questions.{from_in}
+use Rattle.cj_feature.proofs.Common.{Some, ap, false, from_in, same_text, subst, sym, tag_of, text_of, tree, ◌∙◌, ◌≡◌}
 use Rattle.cj_feature.proofs.Questions.{only_here, none_here, place_by_texts}
 use Rattle.cj_feature.proofs.feature.search.questions.order.first_on.Goals as goal
 

@@ -1,7 +1,4 @@
-use Rattle.std.proofs.Common.{rules}
-use Rattle.std.specs.Ordering.{is_lt}
-use Rattle.std.proofs.lemmas.List.Sorted.{IsPartitionPoint-from_clause}
-use Rattle.cj_feature.specs.inner.Questions.{compare_keys, key_in, pair_key}
+use Rattle.cj_feature.proofs.Common.{IsPartitionPoint-from_clause, compare_keys, is_lt, key_in, pair_key, rules}
 use Rattle.cj_feature.proofs.Questions.{parted}
 use Rattle.cj_feature.proofs.feature.search.questions.order.place_of.Goals as goal
 

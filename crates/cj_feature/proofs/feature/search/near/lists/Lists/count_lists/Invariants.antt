@@ -1,4 +1,4 @@
-use Rattle.cj_feature.specs.inner.Marking.{AddsNone}
+use Rattle.cj_feature.proofs.Common.{AddsNone}
 use Rattle.cj_feature.proofs.feature.search.near.lists.Lists.count_lists.Given as goal
 
 abbrev pub invariant-loop-name : goal.invariant-loop-name

@@ -1,4 +1,4 @@
-use Rattle.cj_feature.specs.inner.Marking.{Knows}
+use Rattle.cj_feature.proofs.Common.{Knows}
 use Rattle.cj_feature.proofs.Walking.{Among}
 use Rattle.cj_feature.proofs.feature.search.near.lists.Lists.fill_lists.Given as goal
 

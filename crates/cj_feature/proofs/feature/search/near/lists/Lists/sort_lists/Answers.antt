@@ -1,8 +1,7 @@
-use Rattle.std.proofs.Common.{sym, subst}
-use Rattle.cj_feature.specs.inner.Marking.{AddsNone}
+use Rattle.cj_feature.proofs.Common.{AddsNone, subst, sym}
 use Rattle.cj_feature.proofs.NearLemmas.{among-moved, more-hand}
-use Rattle.cj_feature.proofs.feature.search.near.lists.Lists.sort_lists.Goals as goal
 use Rattle.cj_feature.proofs.feature.search.near.lists.Lists.sort_lists.Goals.{then-end-start-gt-LONG, else-end-start-gt-LONG}
+use Rattle.cj_feature.proofs.feature.search.near.lists.Lists.sort_lists.Goals as goal
 
 pub loop-list-preserved : goal.loop-list-preserved
 loop-list-preserved g c =

@@ -1,9 +1,5 @@
-use Rattle.std.proofs.Common.{◌≡◌, ℕ, ◌-◌, ◌<◌, ◌∙◌, inl, inr, length, sym, subst, ap, arith}
-use Rattle.std.specs.List.{Contains}
-use Rattle.cj_spans.specs.Meaning.Parts.{members_of}
-use Rattle.cj_spans.specs.View.{tree, line_of, source_of, tokens_in, tree_at}
+use Rattle.cj_feature.proofs.Common.{Contains, ap, arith, inl, inr, length, line_of, members_of, source_of, spans_by, subst, sym, tokens_in, tree, tree_at, ℕ, ◌-◌, ◌<◌, ◌∙◌, ◌≡◌}
 use Rattle.cj_spans.proofs.Scanned.{length-spans_of}
-use Rattle.cj_feature.specs.inner.Marking.{spans_by}
 use Rattle.cj_feature.proofs.NearLemmas.{each-set}
 use Rattle.cj_feature.proofs.Walking.{shown-beside}
 use Rattle.cj_feature.proofs.feature.search.near.lists.Lists.take.Goals as goal

@@ -1,6 +1,4 @@
-use Rattle.std.proofs.Common.{ℕ, ◌<◌, length}
-use Rattle.cj_spans.specs.View.{tree_at}
-use Rattle.cj_feature.specs.Meaning.Reachable.{IsReachedObject}
+use Rattle.cj_feature.proofs.Common.{IsReachedObject, length, tree_at, ℕ, ◌<◌}
 use Rattle.cj_feature.proofs.NearLemmas.{each-added}
 use Rattle.cj_feature.proofs.feature.search.near.pending.Pending.add.Goals as goal
 
