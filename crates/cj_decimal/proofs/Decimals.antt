@@ -136,7 +136,7 @@ value_is {n} h =
 
 -- ---- the range
 
-in_range_test : {n : Number} → IsInRange n → is_in_range n ≡ true
+pub in_range_test : {n : Number} → IsInRange n → is_in_range n ≡ true
 in_range_test {n} r =
     let near : unsigned_abs n.power ≤ 1000000 = omega (arith, ints, r.power_low, r.power_high) in
     let short : nat_lt (unsigned_abs n.coefficient) (10 ^ 36) ≡ true = grind (arith, nat_tests) in
