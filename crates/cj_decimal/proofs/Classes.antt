@@ -1,77 +1,65 @@
 -- Each spelling has one of the four classes.
-use Rattle.cj_decimal.proofs.Common.{◌≡◌, ℕ, ◌^◌, ◌<◌, List, Bool, true, false, ltb, ℤ, pos, negsuc, ◌*ℤ◌, refl, sym, ◌∙◌, arith, unsigned_abs, ints, ltb-true, nat_tests, Number, IsInRange, IsWhole, IsValue, is_number, written_of, Class, no_number, out_of_range, not_whole, whole}
+use Rattle.cj_decimal.proofs.Common.{◌≡◌, ℕ, ◌^◌, ◌<◌, ◌≤◌, ◌*ℤ◌, List, Bool, true, false, Option, Some, None, ℤ, pos, negsuc, refl, sym, ap, ◌∙◌, arith, ints, nat_tests, unsigned_abs, Number, is_in_range, whole_by, as_whole, IsNormal, IsInRange, IsWhole, IsValue, is_number, written_of, Class, no_number, out_of_range, not_whole, whole, false_from_ne_true}
+use Rattle.cj_decimal.specs.Meaning.Number.{small_whole}
 use Rattle.cj_decimal.proofs.Grammar.{spells_test, test_spells}
 use Rattle.cj_decimal.proofs.Law.{has_one_value}
 use Rattle.cj_decimal.proofs.Scales.{units_below, units_are, units_same}
 
+-- ---- the range
+
+pub in_range_test : {n : Number} → IsInRange n → is_in_range n ≡ true
+in_range_test {n} r =
+    let short : unsigned_abs n.coefficient < 10 ^ 36 = r.digits in
+    let near : unsigned_abs n.power ≤ 1000000 = omega (arith, ints, r.power_low, r.power_high) in
+    grind (arith, nat_tests)
+
+pub test_in_range : (n : Number) → is_in_range n ≡ true → IsInRange n
+test_in_range n e =
+    let near : unsigned_abs n.power ≤ 1000000 = grind (arith, nat_tests) in
+    record { digits = grind (arith, nat_tests); power_low = omega (arith, ints); power_high = omega (arith, ints) }
+
+-- ---- as a whole number
+
+small_is : (w : ℤ) → unsigned_abs w < 10 ^ 18 → small_whole w ≡ Some w
+small_is w h = grind (arith, nat_tests)
+
+is_small : (x w : ℤ) → small_whole x ≡ Some w → (w ≡ x) × (unsigned_abs w < 10 ^ 18)
+is_small x w h = (grind (arith, nat_tests), grind (arith, nat_tests))
+
+module _ (v : Number) (normal : IsNormal v) where
+  whole_at : (p : ℤ) → v.power ≡ p → {w : ℤ} → IsWhole v w → whole_by v.coefficient p ≡ Some w
+  whole_at (pos k) e {w} is =
+      ap small_whole (sym (units_are v w (pos 0) k (omega (arith, ints, e)) is.same)) ∙ small_is w is.small
+  whole_at (negsuc k) e {w} is =
+      absurd (units_below v w (pos 0) normal is.same (omega (arith, ints, e)) (omega (arith, ints)))
+
+  at_whole : (p : ℤ) → v.power ≡ p → (w : ℤ) → whole_by v.coefficient p ≡ Some w → IsWhole v w
+  at_whole (pos k) e w h =
+      let small = is_small (v.coefficient *ℤ pos (10 ^ k)) w h in
+      record { same = units_same v w (pos 0) k (omega (arith, ints, e)) small.0; small = small.1 }
+  at_whole (negsuc k) e w h = absurd (cc h)
+
+  pub whole_is : {w : ℤ} → IsWhole v w → as_whole v ≡ Some w
+  whole_is is = whole_at v.power refl is
+
+  pub is_whole : (w : ℤ) → as_whole v ≡ Some w → IsWhole v w
+  is_whole w h = at_whole v.power refl w h
+
+-- ---- the class
+
 module _ {s : List ℕ} {v : Number} (value : IsValue s v) where
-  -- a number in range, by its size as a whole number
-  by_size : IsInRange v → (k : ℕ) → v.power ≡ pos k → (small : Bool)
-      → ltb (unsigned_abs (v.coefficient *ℤ pos (10 ^ k))) (10 ^ 18) ≡ small → Class s
-  by_size range k e true t = whole v (v.coefficient *ℤ pos (10 ^ k)) value range (record {
-    same = units_same v (v.coefficient *ℤ pos (10 ^ k)) (pos 0) k (omega (arith, ints, e)) refl;
-    small = ltb-true _ _ t;
-  })
-  by_size range k e false t = not_whole v value range large
-    where
-      large : (w : ℤ) → ¬ IsWhole v w
-      large w is =
-          let same : w ≡ v.coefficient *ℤ pos (10 ^ k) = units_are v w (pos 0) k (omega (arith, ints, e)) is.same in
-          let below : unsigned_abs (v.coefficient *ℤ pos (10 ^ k)) < 10 ^ 18 = rw (← same) is.small in
-          let yes : ltb (unsigned_abs (v.coefficient *ℤ pos (10 ^ k))) (10 ^ 18) ≡ true = grind (arith, nat_tests) in
-          clash (sym yes ∙ t)
-        where
-          clash : ◌≡◌ {A = Bool} true false → ⊥
-          clash x = cc
+  by_whole : IsInRange v → (o : Option ℤ) → as_whole v ≡ o → Class s
+  by_whole range (Some w) e = whole v w value range (is_whole v value.normal w e)
+  by_whole range None e = not_whole v value range (λ w is. absurd (cc (whole_is v value.normal is, e)))
 
-  -- a number in range, by its power
-  by_power : IsInRange v → (p : ℤ) → v.power ≡ p → Class s
-  by_power range (pos k) e = by_size range k e (ltb (unsigned_abs (v.coefficient *ℤ pos (10 ^ k))) (10 ^ 18)) refl
-  by_power range (negsuc k) e =
-      not_whole v value range (λ w is. units_below v w (pos 0) value.normal is.same (omega (arith, ints, e))
-      (omega (arith, ints)))
-
-  -- a number, by the three bounds of its range
-  by_range : (short near : Bool) → ltb (unsigned_abs v.coefficient) (10 ^ 36) ≡ short
-      → ltb (unsigned_abs v.power) 1000001 ≡ near → Class s
-  by_range true true e f =
-      by_power (record {
-        digits = ltb-true _ _ e;
-        power_low = omega (arith, ints, ltb-true _ _ f);
-        power_high = omega (arith, ints, ltb-true _ _ f);
-      }) v.power refl
-  by_range true false e f = out_of_range (v, value, λ r. absurd (far r))
-    where
-      far : IsInRange v → ⊥
-      far r =
-          let near : unsigned_abs v.power < 1000001 = omega (arith, ints, r.power_low, r.power_high) in
-          let yes : ltb (unsigned_abs v.power) 1000001 ≡ true = grind (arith, nat_tests) in
-          clash (sym yes ∙ f)
-        where
-          clash : ◌≡◌ {A = Bool} true false → ⊥
-          clash x = cc
-  by_range false near e f = out_of_range (v, value, λ r. absurd (long r))
-    where
-      long : IsInRange v → ⊥
-      long r =
-          let few = r.digits in
-          let yes : ltb (unsigned_abs v.coefficient) (10 ^ 36) ≡ true = grind (arith, nat_tests) in
-          clash (sym yes ∙ e)
-        where
-          clash : ◌≡◌ {A = Bool} true false → ⊥
-          clash x = cc
-
-  by_value : Class s
-  by_value = by_range (ltb (unsigned_abs v.coefficient) (10 ^ 36)) (ltb (unsigned_abs v.power) 1000001) refl refl
+  by_range : (b : Bool) → is_in_range v ≡ b → Class s
+  by_range true e = by_whole (test_in_range v e) (as_whole v) refl
+  by_range false e = out_of_range (v, value, λ r. absurd (cc (in_range_test r, e)))
 
 by_test : (s : List ℕ) (test : Bool) → is_number s ≡ test → Class s
 by_test s true e =
-    let has = (has_one_value s).has (written_of s, test_spells s e) in
-    by_value has.1
-by_test s false e = no_number (λ n. clash (sym (spells_test s n.0 n.1).0 ∙ e))
-  where
-    clash : ◌≡◌ {A = Bool} true false → ⊥
-    clash x = cc
+    let has = (has_one_value s).has (written_of s, test_spells s e) in by_range has.1 (is_in_range has.0) refl
+by_test s false e = no_number (λ n. absurd (cc ((spells_test s n.0 n.1).0, e)))
 
 -- the class of a spelling
 pub class : (s : List ℕ) → Class s

@@ -1,25 +1,20 @@
 -- The number of a spelling agrees with each class that the spelling has.
-use Rattle.cj_decimal.proofs.Common.{◌≡◌, ℕ, zero, suc, ◌+◌, ◌*◌, ◌^◌, ◌%◌, ◌<◌, ◌≤◌, ◌≢◌, List, [], ◌∷◌, ◌++◌, length, Bool, true, false, cond, Option, Some, None, Ok, Err, ℤ, pos, negsuc, ◌+ℤ◌, ◌-ℤ◌, ◌*ℤ◌, refl, sym, ap, ◌∙◌, subst, arith, inl, inr, ints, nat_tests, NotANumber, NumberRange, Number, scaled, signed, is_in_range, whole_by, as_whole, SameValue, IsNormal, IsInRange, IsWhole, Written, value_after, digits_value, is_number, written_of, AllDigits, IsDigits, IsFrac, Spells, IsValue, SpellsNumber, IsNumberOutOfRange, Class, no_number, out_of_range, not_whole, whole, whole_answer, value_answer, whole_answer_by}
-use Rattle.std.specs.Prelude.{nat_eq, nat_lt, nat_le, ◌-◌, unsigned_abs}
+use Rattle.cj_decimal.proofs.Common.{◌≡◌, ℕ, zero, suc, ◌+◌, ◌*◌, ◌^◌, ◌%◌, ◌<◌, ◌≤◌, ◌≢◌, List, [], ◌∷◌, ◌++◌, length, Bool, true, false, cond, Option, Some, None, Ok, Err, ℤ, pos, negsuc, ◌+ℤ◌, ◌-ℤ◌, ◌*ℤ◌, refl, sym, ap, ◌∙◌, subst, arith, inl, inr, ints, nat_tests, NotANumber, NumberRange, cond-true, cond-false, false_from_ne_true, length-append, length-replicate, Number, scaled, signed, is_in_range, whole_by, as_whole, SameValue, IsNormal, IsInRange, IsWhole, Written, value_after, digits_value, is_number, written_of, AllDigits, IsDigits, IsFrac, Spells, IsValue, SpellsNumber, IsNumberOutOfRange, Class, no_number, out_of_range, not_whole, whole, whole_answer, value_answer, whole_answer_by}
+use Rattle.std.specs.Prelude.{nat_eq, ◌-◌, replicate}
 use Rattle.cj_decimal.specs.Meaning.Decimal.{put_before, without_zeros, number_after, normal_of, ranged, decimal_of}
 use Rattle.cj_decimal.proofs.TenPowers.{ten_pow_suc}
-use Rattle.cj_decimal.proofs.Grammar.{both, both_left, both_right, int_digits, spells_test, test_spells}
+use Rattle.cj_decimal.proofs.Grammar.{all_of, int_digits, spells_test, test_spells}
 use Rattle.cj_decimal.proofs.Parts.{value_append}
 use Rattle.cj_decimal.proofs.Normal.{zero_same, zero_normal, trimmed_same, trimmed_normal}
 use Rattle.cj_decimal.proofs.Law.{has_one_value}
-use Rattle.cj_decimal.proofs.Scales.{units_below, units_are, units_same}
+use Rattle.cj_decimal.proofs.Classes.{class, test_in_range, in_range_test, whole_is}
+pub use Rattle.cj_decimal.proofs.Classes.{is_whole}
 
 -- ---- digits without the zeros at their end
 
 -- so many zeros
-zeros : ℕ → List ℕ
-zeros zero = []
-zeros (suc k) = 48 ∷ zeros k
-
-zeros_length : (k : ℕ) → length (zeros k) ≡ k
-unfolding zeros
-zeros_length zero = refl
-zeros_length (suc k) = ap suc (zeros_length k)
+abbrev zeros : ℕ → List ℕ
+zeros k = replicate k 48
 
 -- the last digit, if there is one, is not 0
 abbrev EndsWell : List ℕ → Type 0
@@ -34,7 +29,6 @@ record IsCut (s kept : List ℕ) : Type 0 where
   ends : EndsWell kept
 
 cut_before : (b : ℕ) {s : List ℕ} (kept : List ℕ) → IsCut s kept → IsCut (b ∷ s) (put_before b kept)
-unfolding zeros
 cut_before b {s} [] h =
     elim (nat_eq b 48) as (λ t. nat_eq b 48 ≡ t → IsCut (b ∷ s) (cond t [] (b ∷ []))) [
       | true ↦ λ e.
@@ -47,12 +41,10 @@ cut_before b {s} [] h =
 cut_before b (d ∷ r) h = record { many = h.many; joined = ap (λ r. b ∷ r) h.joined; ends = h.ends }
 
 cut : (s : List ℕ) → IsCut s (without_zeros s)
-unfolding zeros
 cut [] = record { many = 0; joined = refl; ends = tt }
 cut (b ∷ s) = cut_before b (without_zeros s) (cut s)
 
 zeros_after : (n k : ℕ) → value_after n (zeros k) ≡ n * 10 ^ k
-unfolding zeros
 zeros_after n zero = omega arith
 zeros_after n (suc k) =
     let more : 10 ^ suc k ≡ 10 * 10 ^ k = ap (λ j. 10 ^ j) (plus k) ∙ ten_pow_suc k in
@@ -87,13 +79,9 @@ cut_value : {s kept : List ℕ} → (h : IsCut s kept) → digits_value s ≡ di
 cut_value {kept} h =
     ap digits_value h.joined ∙ value_append 0 kept (zeros h.many) ∙ zeros_after (digits_value kept) h.many
 
-length_both : (xs ys : List ℕ) → length (xs ++ ys) ≡ length xs + length ys
-length_both [] ys = omega arith
-length_both (x ∷ xs) ys = let more = length_both xs ys in omega arith
-
 cut_length : {s kept : List ℕ} → (h : IsCut s kept) → length s ≡ length kept + h.many
 cut_length {kept} h =
-    ap length h.joined ∙ length_both kept (zeros h.many) ∙ ap (λ k. length kept + k) (zeros_length h.many)
+    ap length h.joined ∙ length-append kept (zeros h.many) ∙ ap (λ k. length kept + k) (length-replicate h.many 48)
 
 -- ---- the number in normal form
 
@@ -113,13 +101,9 @@ module _ (negative : Bool) {s : List ℕ} (p e : ℤ) (digits : AllDigits s) (pl
         trimmed_normal negative (digits_value (b ∷ r)) (e -ℤ pos (length (b ∷ r))) (ends_above 0 b r all h.ends),
       )
 
-all_digits : (s : List ℕ) → IsDigits s → AllDigits s
-all_digits [] d = absurd d
-all_digits (b ∷ s) d = d
-
 frac_digits_all : (digits s : List ℕ) → IsFrac digits s → AllDigits digits
 frac_digits_all digits s (inl none) = subst AllDigits (sym none.0) tt
-frac_digits_all digits s (inr some) = all_digits digits some.0
+frac_digits_all digits s (inr some) = all_of digits some.0
 
 written_digits : {s : List ℕ} {n : Written} → Spells s n → AllDigits (n.int ++ n.frac)
 written_digits {n} h =
@@ -129,65 +113,31 @@ written_digits {n} h =
 value_is : {s : List ℕ} {n : Written} → Spells s n → IsValue s (normal_of n)
 value_is {n} h =
     let digits = n.int ++ n.frac in
-    let l = length_both n.int n.frac in
+    let l = length-append n.int n.frac in
     let both = is_normal n.negative (n.exponent -ℤ pos (length n.frac)) (n.exponent +ℤ pos (length n.int))
     (written_digits h) (omega (arith, ints, l)) (without_zeros digits) (cut digits) in
     record { written = n; spells = h; same = both.0; normal = both.1 }
 
--- ---- the range
-
-pub in_range_test : {n : Number} → IsInRange n → is_in_range n ≡ true
-in_range_test {n} r =
-    let near : unsigned_abs n.power ≤ 1000000 = omega (arith, ints, r.power_low, r.power_high) in
-    let short : nat_lt (unsigned_abs n.coefficient) (10 ^ 36) ≡ true = grind (arith, nat_tests) in
-    let close : nat_le (unsigned_abs n.power) 1000000 ≡ true = grind (arith, nat_tests) in
-    both _ _ short close
-
-pub test_in_range : (n : Number) → is_in_range n ≡ true → IsInRange n
-test_in_range n e =
-    let short : nat_lt (unsigned_abs n.coefficient) (10 ^ 36) ≡ true = both_left _ _ e in
-    let close : nat_le (unsigned_abs n.power) 1000000 ≡ true = both_right _ _ e in
-    let few : unsigned_abs n.coefficient < 10 ^ 36 = grind (arith, nat_tests) in
-    let near : unsigned_abs n.power ≤ 1000000 = grind (arith, nat_tests) in
-    record { digits = few; power_low = omega (arith, ints, near); power_high = omega (arith, ints, near) }
-
-out_of_range_test : (n : Number) → ¬ IsInRange n → is_in_range n ≡ false
-out_of_range_test n o = go (is_in_range n) refl
-  where
-    go : (b : Bool) → is_in_range n ≡ b → b ≡ false
-    go true e = absurd (o (test_in_range n e))
-    go false e = refl
-
 -- ---- the number of a spelling
 
--- that of a value in range
-pub decimal_is : (s : List ℕ) (v : Number) → IsValue s v → IsInRange v → decimal_of s ≡ Ok v
+-- that of a value, if it is in range
+decimal_ranged : (s : List ℕ) (v : Number) → IsValue s v → decimal_of s ≡ ranged v
 unfolding decimal_of
-decimal_is s v is range =
+decimal_ranged s v is =
     let test = (spells_test s is.written is.spells).0 in
-    let same : normal_of (written_of s) ≡ v =
-    (has_one_value s).one (normal_of (written_of s)) v (value_is (test_spells s test)) is in
-    ap (λ b. cond b (ranged (normal_of (written_of s))) (Err NotANumber)) test ∙ ap ranged same
-    ∙ ap (λ b. cond b (Ok v) (Err NumberRange)) (in_range_test range)
+    ap (λ b. cond b (ranged (normal_of (written_of s))) (Err NotANumber)) test
+    ∙ ap ranged ((has_one_value s).one (normal_of (written_of s)) v (value_is (test_spells s test)) is)
+
+pub decimal_is : (s : List ℕ) (v : Number) → IsValue s v → IsInRange v → decimal_of s ≡ Ok v
+decimal_is s v is range = decimal_ranged s v is ∙ cond-true _ _ _ (in_range_test range)
 
 decimal_out : (s : List ℕ) → IsNumberOutOfRange s → decimal_of s ≡ Err NumberRange
-unfolding decimal_of
-decimal_out s o =
-    let v = o.0 in
-    let is = o.1 in
-    let test = (spells_test s is.written is.spells).0 in
-    let same : normal_of (written_of s) ≡ v =
-    (has_one_value s).one (normal_of (written_of s)) v (value_is (test_spells s test)) is in
-    ap (λ b. cond b (ranged (normal_of (written_of s))) (Err NotANumber)) test ∙ ap ranged same
-    ∙ ap (λ b. cond b (Ok v) (Err NumberRange)) (out_of_range_test v o.2)
+decimal_out s o = decimal_ranged s o.0 o.1
+    ∙ cond-false _ _ _ (false_from_ne_true (is_in_range o.0) (λ e. o.2 (test_in_range o.0 e)))
 
 decimal_none : (s : List ℕ) → ¬ SpellsNumber s → decimal_of s ≡ Err NotANumber
 unfolding decimal_of
-decimal_none s n = go (is_number s) refl
-  where
-    go : (b : Bool) → is_number s ≡ b → cond b (ranged (normal_of (written_of s))) (Err NotANumber) ≡ Err NotANumber
-    go true e = absurd (n (written_of s, test_spells s e))
-    go false e = refl
+decimal_none s n = cond-false _ _ _ (false_from_ne_true (is_number s) (λ e. n (written_of s, test_spells s e)))
 
 pub decimal_class : {s : List ℕ} (c : Class s) → decimal_of s ≡ value_answer c
 decimal_class {s} (no_number n) = decimal_none s n
@@ -195,69 +145,30 @@ decimal_class {s} (out_of_range n) = decimal_out s n
 decimal_class {s} (not_whole v value range n) = decimal_is s v value range
 decimal_class {s} (whole v w value range is) = decimal_is s v value range
 
--- ---- as a whole number
-
-module _ (v : Number) (normal : IsNormal v) where
-  whole_at : (p : ℤ) → v.power ≡ p → {w : ℤ} → IsWhole v w → whole_by v.coefficient p ≡ Some w
-  whole_at (pos k) e {w} is =
-      let same : w ≡ v.coefficient *ℤ pos (10 ^ k) = units_are v w (pos 0) k (omega (arith, ints, e)) is.same in
-      let below : unsigned_abs (v.coefficient *ℤ pos (10 ^ k)) < 10 ^ 18 = rw (← same) is.small in
-      let yes : nat_lt (unsigned_abs (v.coefficient *ℤ pos (10 ^ k))) (10 ^ 18) ≡ true = grind (arith, nat_tests) in
-      ap (λ b. cond b (Some (v.coefficient *ℤ pos (10 ^ k))) None) yes ∙ ap Some (sym same)
-  whole_at (negsuc k) e {w} is =
-      absurd (units_below v w (pos 0) normal is.same (omega (arith, ints, e)) (omega (arith, ints)))
-
-  at_whole : (p : ℤ) → v.power ≡ p → (w : ℤ) → whole_by v.coefficient p ≡ Some w → IsWhole v w
-  at_whole (pos k) e w h = go (nat_lt (unsigned_abs (v.coefficient *ℤ pos (10 ^ k))) (10 ^ 18)) refl h
-    where
-      go : (b : Bool) → nat_lt (unsigned_abs (v.coefficient *ℤ pos (10 ^ k))) (10 ^ 18) ≡ b
-          → cond b (Some (v.coefficient *ℤ pos (10 ^ k))) None ≡ Some w → IsWhole v w
-      go true t h =
-          let same : v.coefficient *ℤ pos (10 ^ k) ≡ w = cc h in
-          let below : unsigned_abs (v.coefficient *ℤ pos (10 ^ k)) < 10 ^ 18 = grind (arith, nat_tests) in
-          subst (IsWhole v) same (record {
-            same = units_same v (v.coefficient *ℤ pos (10 ^ k)) (pos 0) k (omega (arith, ints, e)) refl;
-            small = below;
-          })
-      go false t h = absurd (cc h)
-  at_whole (negsuc k) e w h = absurd (cc h)
-
-  pub whole_is : {w : ℤ} → IsWhole v w → as_whole v ≡ Some w
-  whole_is is = whole_at v.power refl is
-
-  pub is_whole : (w : ℤ) → as_whole v ≡ Some w → IsWhole v w
-  is_whole w h = at_whole v.power refl w h
-
-  pub part_is : ((w : ℤ) → ¬ IsWhole v w) → as_whole v ≡ None
-  part_is part = go (as_whole v) refl
-    where
-      go : (o : Option ℤ) → as_whole v ≡ o → o ≡ None
-      go None e = refl
-      go (Some w) e = absurd (part w (is_whole w e))
-
 -- what reading a whole number answers
 pub whole_class : (s : List ℕ) (c : Class s) → whole_answer_by (decimal_of s) ≡ whole_answer c
-whole_class s (no_number n) = ap whole_answer_by (decimal_none s n)
-whole_class s (out_of_range n) = ap whole_answer_by (decimal_out s n)
-whole_class s (not_whole v value range n) =
-    ap whole_answer_by (decimal_is s v value range) ∙ ap Ok (part_is v value.normal n)
-whole_class s (whole v w value range is) =
-    ap whole_answer_by (decimal_is s v value range) ∙ ap Ok (whole_is v value.normal is)
+whole_class s c = ap whole_answer_by (decimal_class c) ∙ by_class c
+  where
+    part : (v : Number) → IsNormal v → ((w : ℤ) → ¬ IsWhole v w) → (o : Option ℤ) → as_whole v ≡ o → o ≡ None
+    part v normal none None e = refl
+    part v normal none (Some w) e = absurd (none w (is_whole v normal w e))
+
+    by_class : (c : Class s) → whole_answer_by (value_answer c) ≡ whole_answer c
+    by_class (not_whole v value range n) = ap Ok (part v value.normal n (as_whole v) refl)
+    by_class (whole v w value range is) = ap Ok (whole_is v value.normal is)
+    by_class _ = refl
+
+-- it is one, whatever class a spelling is shown to have
+pub one_answer : (s : List ℕ) (c d : Class s) → whole_answer c ≡ whole_answer d
+one_answer s c d = sym (whole_class s c) ∙ whole_class s d
 
 -- a number of a spelling is its value, and in range
 pub decimal_has : (s : List ℕ) (v : Number) → decimal_of s ≡ Ok v → IsValue s v × IsInRange v
-unfolding decimal_of
-decimal_has s v h = by_test (is_number s) refl h
+decimal_has s v h = by_class (class s) (sym (decimal_class (class s)) ∙ h)
   where
-    by_range : (n : Number) (b : Bool) → is_in_range n ≡ b → IsValue s n → cond b (Ok n) (Err NumberRange) ≡ Ok v
-        → IsValue s v × IsInRange v
-    by_range n true e is h = let same : n ≡ v = cc h in
-        subst (λ n. IsValue s n × IsInRange n) same (is, test_in_range n e)
-    by_range n false e is h = absurd (cc h)
-
-    by_test : (b : Bool) → is_number s ≡ b → cond b (ranged (normal_of (written_of s))) (Err NotANumber) ≡ Ok v
-        → IsValue s v × IsInRange v
-    by_test true e h =
-        by_range (normal_of (written_of s)) (is_in_range (normal_of (written_of s))) refl
-        (value_is (test_spells s e)) h
-    by_test false e h = absurd (cc h)
+    by_class : (c : Class s) → value_answer c ≡ Ok v → IsValue s v × IsInRange v
+    by_class (not_whole u value range n) e = let same : u ≡ v = cc e in
+        subst (λ n. IsValue s n × IsInRange n) same (value, range)
+    by_class (whole u w value range is) e = let same : u ≡ v = cc e in
+        subst (λ n. IsValue s n × IsInRange n) same (value, range)
+    by_class _ e = absurd (cc e)

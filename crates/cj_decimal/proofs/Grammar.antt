@@ -267,7 +267,7 @@ point_no_digit : (s : List ℕ) → begins_digit (46 ∷ s) ≡ false
 unfolding begins_digit
 point_no_digit s = refl
 
-all_of : (s : List ℕ) → IsDigits s → AllDigits s
+pub all_of : (s : List ℕ) → IsDigits s → AllDigits s
 all_of [] d = absurd d
 all_of (b ∷ s) d = d
 

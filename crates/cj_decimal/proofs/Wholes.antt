@@ -1,67 +1,35 @@
 -- What reading a whole number answers.
-use Rattle.cj_decimal.proofs.Common.{◌≡◌, ℕ, ◌*◌, ◌^◌, ◌<◌, ◌≤◌, ◌++◌, List, [], length, drop, get_or, Bool, true, false, Option, Some, None, Result, Ok, Err, ℤ, pos, negsuc, inl, inr, ⊎_elim, refl, sym, ap, ◌∙◌, subst, arith, rules, IfOk, IfSome, IsSome, unsigned_abs, is_ascii_digit, le-mul_of_pos_right, ints, Number, signed, IsNormal, IsInRange, IsWhole, SpellsNumber, IsValue, IsNumberOutOfRange, IsInt, IsFewDigits, IsFewSigned, digits_value, digits_front, digits_rest, is_int, begins, begins_digit, body, Class, no_number, out_of_range, not_whole, whole, whole_answer, Passes, IsShort, NotANumber, NumberRange}
+use Rattle.cj_decimal.proofs.Common.{◌≡◌, ℕ, ◌*◌, ◌^◌, ◌<◌, ◌≤◌, ◌++◌, List, [], length, drop, get_or, Bool, true, false, false≢true, Option, Some, None, Result, Ok, Err, ℤ, pos, negsuc, inl, inr, ⊎_elim, refl, sym, ap, ◌∙◌, subst, arith, rules, IfOk, IfSome, IsSome, unsigned_abs, is_ascii_digit, le-mul_of_pos_right, ints, Number, signed, IsNormal, IsInRange, IsWhole, SpellsNumber, IsValue, IsNumberOutOfRange, IsInt, IsFewDigits, IsFewSigned, digits_value, digits_front, digits_rest, is_int, begins, begins_digit, body, Class, no_number, out_of_range, not_whole, whole, whole_answer, Passes, IsShort, NotANumber, NumberRange}
 use Rattle.cj_decimal.specs.declared.decimal.DecimalFault.{DecimalFault}
 use Rattle.cj_decimal.proofs.TenPowers.{ten_pow_pos}
-use Rattle.cj_decimal.proofs.Values.{same_sym, same_trans}
+use Rattle.cj_decimal.proofs.Values.{same_sym}
 use Rattle.cj_decimal.proofs.Normal.{normal_form}
 use Rattle.cj_decimal.proofs.Scales.{units_below, far_units, size_of_units}
 use Rattle.cj_decimal.proofs.Grammar.{front_all, front_rest, front_append, rest_append, append_nil, int_digits, int_test, int_from_test, int_is_digits, digit_begins, begins_is, begins_own}
 use Rattle.cj_decimal.proofs.Ways.{stops_at_other, drop_at}
 use Rattle.cj_decimal.proofs.Parts.{no_minus, minus_there, integer_read}
 use Rattle.cj_decimal.proofs.Classes.{class}
-use Rattle.cj_decimal.proofs.Law.{has_one_value, value_of_read, not_both, value_is_number}
+use Rattle.cj_decimal.proofs.Law.{value_of_read}
+use Rattle.cj_decimal.proofs.Decimals.{one_answer}
 
 -- ---- whichever class a spelling is shown to have
 module _ (s : List ℕ) where
-  answer_none : (c : Class s) → ¬ SpellsNumber s → whole_answer c ≡ Err NotANumber
-  answer_none (no_number n) o = refl
-  answer_none (out_of_range n) o = absurd (o (value_is_number s n.0 n.1))
-  answer_none (not_whole v value range n) o = absurd (o (value_is_number s v value))
-  answer_none (whole v w value range is) o = absurd (o (value_is_number s v value))
-
-  answer_out : (c : Class s) → IsNumberOutOfRange s → whole_answer c ≡ Err NumberRange
-  answer_out (no_number n) o = absurd (n (value_is_number s o.0 o.1))
-  answer_out (out_of_range n) o = refl
-  answer_out (not_whole v value range n) o = absurd (not_both s (v, value, range) o)
-  answer_out (whole v w value range is) o = absurd (not_both s (v, value, range) o)
-
   -- what `read` says of its faults
   pub answer_fault : (f : DecimalFault) (c : Class s) → (f ≡ NotANumber → ¬ SpellsNumber s)
       → (f ≡ NumberRange → IsNumberOutOfRange s) → whole_answer c ≡ Err f
-  answer_fault NotANumber c none out = answer_none c (none refl)
-  answer_fault NumberRange c none out = answer_out c (out refl)
+  answer_fault NotANumber c none out = one_answer s c (no_number (none refl))
+  answer_fault NumberRange c none out = one_answer s c (out_of_range (out refl))
 
   module _ (v : Number) (value : IsValue s v) (range : IsInRange v) where
-    -- what is whole for another value is so for this one, which is the same
-    also : (u : Number) (w : ℤ) → IsValue s u → IsWhole u w → IsWhole v w
-    also u w other is = let P : Number → Type 0 = λ x. IsWhole x w in subst P ((has_one_value s).one u v other value) is
-
-    one_whole : (w x : ℤ) → IsWhole v w → IsWhole v x → x ≡ w
-    one_whole w x a b =
-        let both = same_trans (same_sym b.same) a.same in
-        omega (arith, ints, both.coefficients)
-
     pub answer_whole : (w : ℤ) (c : Class s) → IsWhole v w → whole_answer c ≡ Ok (Some w)
-    answer_whole w (no_number n) is = absurd (n (value_is_number s v value))
-    answer_whole w (out_of_range n) is = absurd (not_both s (v, value, range) n)
-    answer_whole w (not_whole u other near n) is =
-        absurd (n w (let P : Number → Type 0 = λ x. IsWhole x w in subst P ((has_one_value s).one v u value other) is))
-    answer_whole w (whole u x other near was) is = ap (λ z. Ok (Some z)) (one_whole w x is (also u x other was))
-
-    answer_part : (c : Class s) → ((w : ℤ) → ¬ IsWhole v w) → whole_answer c ≡ Ok None
-    answer_part (no_number n) part = absurd (n (value_is_number s v value))
-    answer_part (out_of_range n) part = absurd (not_both s (v, value, range) n)
-    answer_part (not_whole u other near n) part = refl
-    answer_part (whole u w other near is) part = absurd (part w (also u w other is))
+    answer_whole w c is = one_answer s c (whole v w value range is)
 
     -- what `whole` says of the value
     pub answer_of_whole : (o : Option ℤ) (c : Class s) → IfSome o (IsWhole v) → (((w : ℤ) × IsWhole v w) → IsSome o)
         → whole_answer c ≡ Ok o
     answer_of_whole (Some w) c is back = answer_whole w c is
-    answer_of_whole None c is back = answer_part c (λ w h. clash (back (w, h)))
-      where
-        clash : ◌≡◌ {A = Bool} false true → ⊥
-        clash x = cc
+    answer_of_whole None c is back =
+        one_answer s c (not_whole v value range (λ w h. absurd (false≢true (back (w, h)))))
 
 -- a whole number that is answered is below 10^18
 below : {s : List ℕ} (c : Class s) → IfOk (whole_answer c) (λ o. IfSome o (λ w. unsigned_abs w < 10 ^ 18))

@@ -4,7 +4,7 @@ use Rattle.std.specs.Prelude.{nat_eq}
 use Rattle.cj_decimal.specs.Rows.{ReadRows, NoNumberRows, UnitRows, WorkedRows}
 use Rattle.cj_decimal.proofs.Grammar.{spells_test, test_spells}
 use Rattle.cj_decimal.proofs.Normal.{zero_same, zero_normal}
-use Rattle.cj_decimal.proofs.Decimals.{in_range_test, test_in_range}
+use Rattle.cj_decimal.proofs.Classes.{in_range_test, test_in_range}
 
 -- a spelling of a number whose coefficient does not end in 0
 row : {s : List ℕ} (v : Number) → is_number s ≡ true
