@@ -1,10 +1,10 @@
 -- Numbers of at most eight digits, read by one word of eight bytes.
-use Rattle.cj_decimal.proofs.Common.{◌≡◌, ℕ, zero, suc, ◌+◌, ◌-◌, ◌*◌, ◌/◌, ◌%◌, ◌^◌, ◌<◌, ◌≤◌, List, [], ◌∷◌, length, take, drop, map, Bool, true, false, ◌&&◌, ◌||◌, nat_le, nat_eq, refl, sym, ap, subst, arith, ◌∙◌, inl, inr, not, get_or, bit_and, bit_xor, and_block, xor_block, xor_lt, pow-add, shr-shr, shr_le, and_mask, nat_tests, cases_lt, IsShort, after_frac, digits_front, digits_rest, begins, begins_digit, body, is_exp, is_frac, is_int, written_of, digits_value, value_after, AllDigits, IsDigit, IsInt, SpellsNumber, IsFewDigits, IsNumberIfBegun}
+use Rattle.cj_decimal.proofs.Common.{◌≡◌, ℕ, zero, suc, and_parts, ◌+◌, ◌-◌, ◌*◌, ◌/◌, ◌%◌, ◌^◌, ◌<◌, ◌≤◌, List, [], ◌∷◌, length, take, drop, map, Bool, true, false, ◌&&◌, ◌||◌, nat_le, nat_eq, refl, sym, ap, subst, arith, ◌∙◌, inl, inr, not, get_or, bit_and, bit_xor, and_block, xor_block, xor_lt, pow-add, shr-shr, shr_le, and_mask, nat_tests, cases_lt, IsShort, after_frac, digits_front, digits_rest, begins, begins_digit, body, is_exp, is_frac, is_int, written_of, digits_value, value_after, AllDigits, IsDigit, IsInt, SpellsNumber, IsFewDigits, IsNumberIfBegun}
 use Rattle.std.proofs.lemmas.Nat.Bits.{and_high_mask}
 use Rattle.std.specs.Prelude.{slice_range, ◌⊎◌, IsTrue}
 use Rattle.std.proofs.lemmas.List.{drop-take, drop-drop, get_or-take, get_or-drop, length-drop, length-take-le}
-use Rattle.cj_decimal.proofs.Grammar.{append_nil, both_left, digit_begins, front_all, front_append, front_rest, int_digits, int_from_test, int_is_digits, spells_test, test_spells}
-use Rattle.cj_decimal.proofs.Parts.{minus_there, no_minus, not_int}
+use Rattle.cj_decimal.proofs.Grammar.{digit_begins, digit_begins_alone, front_all, front_alone, front_rest, int_digits, int_from_test, int_is_digits, minus_there, no_minus, spells_test, test_spells}
+use Rattle.cj_decimal.proofs.Parts.{not_int}
 use Rattle.cj_decimal.proofs.Wholes.{int_alone_reads}
 use Rattle.cj_decimal.proofs.NumberBytes.{NumberBytes, number_bytes}
 use Rattle.cj_decimal.specs.Word.{little_endian, AllBelow}
@@ -455,10 +455,8 @@ int_filled (b ∷ t) int = omega arith
 
 -- an int alone is a short number
 pub int_short : (s : List ℕ) {n : ℕ} → IsInt s → n ≡ digits_value s → n < 2 ^ 32 → IsShort s n
-unfolding begins_digit
 int_short s int value small =
-    let all = int_digits s int in
-    let front : digits_front s ≡ s = ap digits_front (sym (append_nil s)) ∙ front_append s [] all refl in
+    let front = front_alone s (int_digits s int) in
     let tests = int_alone_reads s int in
     record { int = tests.0; rest = tests.1; value = value ∙ ap digits_value (sym front); small = omega (arith, small) }
 
@@ -538,15 +536,14 @@ all_from_eight line count stop few room all = let P : List ℕ → Type 0 = λ t
 digits_unsigned : (s : List ℕ) → AllDigits s → begins 45 s ≡ false
 unfolding begins
 digits_unsigned [] all = refl
-digits_unsigned (b ∷ t) all = ap (begins 45) (sym (append_nil (b ∷ t))) ∙ digit_begins 45 (b ∷ t) [] all (omega arith)
+digits_unsigned (b ∷ t) all = digit_begins_alone 45 (b ∷ t) all (omega arith)
 
 -- they are an int
 pub number_int : (s : List ℕ) → SpellsNumber s → AllDigits s → IsInt s
-unfolding begins_digit
 number_int s number all = go (is_int (digits_front (body s))) refl
   where
     same : digits_front (body s) ≡ s
-    same = ap digits_front (no_minus s (digits_unsigned s all) ∙ sym (append_nil s)) ∙ front_append s [] all refl
+    same = ap digits_front (no_minus s (digits_unsigned s all)) ∙ front_alone s all
 
     go : (b : Bool) → is_int (digits_front (body s)) ≡ b → IsInt s
     go true e = int_from_test s all (ap is_int (sym same) ∙ e)
@@ -562,7 +559,7 @@ unfolding tests
 body_number s number =
     let test = (spells_test s number.0 number.1).0 in
     let front = digits_front (body s) in
-    let int = int_from_test front (front_all (body s)) (both_left _ _ test) in
+    let int = int_from_test front (front_all (body s)) (and_parts _ _ test).0 in
     let unsigned : begins 45 (body s) ≡ false = ap (begins 45) (front_rest (body s))
     ∙ digit_begins 45 front (digits_rest (body s)) (int_is_digits front int) (omega arith) in
     (written_of (body s), test_spells (body s) (ap tests (no_minus (body s) unsigned) ∙ test))

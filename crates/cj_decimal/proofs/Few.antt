@@ -1,6 +1,6 @@
 -- Few digits, perhaps after a minus, are a whole number.
 use Rattle.cj_decimal.proofs.Common.{◌≡◌, ℕ, ◌+◌, ◌-◌, ◌*◌, ◌^◌, ◌<◌, ◌≤◌, List, [], ◌∷◌, length, ℤ, Some, Ok, refl, sym, ap, subst, arith, ◌∙◌, mul_assoc, mul_comm, mul-le-mul_right, pow-suc, pow-le-pow_right, Class, whole_answer, signed, IsShort, digits_front, begins, begins_digit, body, digits_value, value_after, AllDigits, IsFewDigits, IsFewSigned}
-use Rattle.cj_decimal.proofs.Grammar.{append_nil, front_append, int_digits}
+use Rattle.cj_decimal.proofs.Grammar.{front_alone, int_digits}
 use Rattle.cj_decimal.proofs.Wholes.{int_alone_reads, signed_answer, body_of_signed}
 
 -- digits are worth less than one more of what they go on from
@@ -25,14 +25,12 @@ value_below n (b ∷ s) h =
     turned x p = ap (λ z. z * p) (mul_comm 10 x) ∙ mul_assoc x 10 p ∙ ap (λ z. x * z) (mul_comm 10 p)
 
 pub few_short : (s : List ℕ) → IsFewDigits s → IsShort s (digits_value s)
-unfolding begins_digit
 few_short s few =
     let all = int_digits s few.0 in
-    let front : digits_front s ≡ s = ap digits_front (sym (append_nil s)) ∙ front_append s [] all refl in
     let tests = int_alone_reads s few.0 in
     let below = value_below 0 s all in
     let power : 10 ^ length s ≤ 10 ^ 18 = pow-le-pow_right (omega arith) few.1 in
-    record { int = tests.0; rest = tests.1; value = ap digits_value (sym front); small = omega (arith, below, power) }
+    record { int = tests.0; rest = tests.1; value = ap digits_value (sym (front_alone s all)); small = omega (arith, below, power) }
 
 -- whatever class such a spelling has, it has a whole number
 pub few_whole : (s : List ℕ) → IsFewSigned s → (w : ℤ) × ((c : Class s) → whole_answer c ≡ Ok (Some w))

@@ -1,6 +1,6 @@
 -- The bytes of a number of JSON: digits, and others that are not below 16 without the bits of `0`.
-use Rattle.cj_decimal.proofs.Common.{◌≡◌, ℕ, ◌≤◌, List, [], ◌∷◌, ◌++◌, Bool, true, false, refl, sym, subst, arith, inl, inr, bit_xor, AllDigits, IsDigit, IsDigits, IsExp, IsExpSign, IsFrac, IsInt, IsMinus, SpellsNumber}
-use Rattle.std.specs.Prelude.{◌⊎◌, ℤ}
+use Rattle.cj_decimal.proofs.Common.{◌≡◌, ℕ, ◌≤◌, List, [], ◌∷◌, ◌++◌, Bool, true, false, refl, ap, ◌∙◌, arith, nat_tests, inl, inr, ◌⊎◌, ℤ, nat_le, bit_xor, AllDigits, IsDigit, IsDigits, IsExp, IsExpSign, IsFrac, IsInt, IsMinus, SpellsNumber}
+use Rattle.cj_decimal.proofs.Grammar.{all_of}
 
 abbrev pub NumberBytes : List ℕ → Type 0
 NumberBytes [] = Unit {0}
@@ -14,35 +14,19 @@ of_digits : (s : List ℕ) → AllDigits s → NumberBytes s
 of_digits [] h = tt
 of_digits (b ∷ s) h = (inl h.0, of_digits s h.1)
 
-of_some : (s : List ℕ) → IsDigits s → NumberBytes s
-of_some [] h = absurd h
-of_some (b ∷ s) h = (inl h.0, of_digits s h.1)
-
 -- a byte that is no digit, and others
-behind : (n b : ℕ) (s : List ℕ) {t : List ℕ} → 16 ≤ bit_xor n 48 → b ≡ n → NumberBytes s → t ≡ b ∷ s → NumberBytes t
-behind n b s high is h e =
-    subst NumberBytes (sym e) (inr (subst (λ k. 16 ≤ bit_xor k 48) (sym is) high), h)
+behind : (b : ℕ) (s : List ℕ) {t : List ℕ} → nat_le 16 (bit_xor b 48) ≡ true → NumberBytes s → t ≡ b ∷ s
+    → NumberBytes t
+behind b s test h e = rw e (inr (high (bit_xor b 48) test), h)
+  where
+    high : (x : ℕ) → nat_le 16 x ≡ true → 16 ≤ x
+    high x test = grind (arith, nat_tests)
 
 none : {s : List ℕ} → s ≡ [] → NumberBytes s
-none e = subst NumberBytes (sym e) tt
-
-minus : 16 ≤ bit_xor 45 48
-minus = let v : bit_xor 45 48 ≡ 29 = refl in omega (arith, v)
-
-plus : 16 ≤ bit_xor 43 48
-plus = let v : bit_xor 43 48 ≡ 27 = refl in omega (arith, v)
-
-point : 16 ≤ bit_xor 46 48
-point = let v : bit_xor 46 48 ≡ 30 = refl in omega (arith, v)
-
-small : 16 ≤ bit_xor 101 48
-small = let v : bit_xor 101 48 ≡ 85 = refl in omega (arith, v)
-
-capital : 16 ≤ bit_xor 69 48
-capital = let v : bit_xor 69 48 ≡ 117 = refl in omega (arith, v)
+none e = rw e tt
 
 of_minus : (b : Bool) (s : List ℕ) → IsMinus b s → NumberBytes s
-of_minus true s e = behind 45 45 [] minus refl tt e
+of_minus true s e = behind 45 [] refl tt e
 of_minus false s e = none e
 
 of_int : (s : List ℕ) → IsInt s → NumberBytes s
@@ -52,27 +36,27 @@ of_int (b ∷ s) (inr h) = (inl (omega (arith, h.0), h.1), of_digits s h.2)
 
 of_frac : (digits s : List ℕ) → IsFrac digits s → NumberBytes s
 of_frac digits s (inl nothing) = none nothing.1
-of_frac digits s (inr h) = behind 46 46 digits point refl (of_some digits h.0) h.1
+of_frac digits s (inr h) = behind 46 digits refl (of_digits digits (all_of digits h.0)) h.1
 
 of_sign : (b : Bool) (s : List ℕ) → IsExpSign b s → NumberBytes s
-of_sign true s e = behind 45 45 [] minus refl tt e
+of_sign true s e = behind 45 [] refl tt e
 of_sign false s (inl e) = none e
-of_sign false s (inr e) = behind 43 43 [] plus refl tt e
+of_sign false s (inr e) = behind 43 [] refl tt e
 
 of_mark : (m : ℕ) (s : List ℕ) {t : List ℕ} → (m ≡ 101) ⊎ (m ≡ 69) → NumberBytes s → t ≡ m ∷ s → NumberBytes t
-of_mark m s (inl e) h is = behind 101 m s small e h is
-of_mark m s (inr e) h is = behind 69 m s capital e h is
+of_mark m s (inl e) h is = behind 101 s refl h (is ∙ ap (λ k. k ∷ s) e)
+of_mark m s (inr e) h is = behind 69 s refl h (is ∙ ap (λ k. k ∷ s) e)
 
 of_exp : (e : ℤ) (s : List ℕ) → IsExp e s → NumberBytes s
 of_exp e s (inl nothing) = none nothing.1
 of_exp e s (inr p) =
-    of_mark p.mark (p.sign ++ p.digits) p.mark_is
-    (both p.sign p.digits (of_sign p.negative p.sign p.sign_is) (of_some p.digits p.digits_are)) p.joined
+    of_mark p.mark (p.sign ++ p.digits) p.mark_is (both p.sign p.digits (of_sign p.negative p.sign p.sign_is)
+    (of_digits p.digits (all_of p.digits p.digits_are))) p.joined
 
 pub number_bytes : (s : List ℕ) → SpellsNumber s → NumberBytes s
 number_bytes s number =
     let n = number.0 in let p = number.1 in
-    subst NumberBytes (sym p.joined)
+    rw p.joined
     (both p.minus _ (of_minus n.negative p.minus p.minus_is)
     (both n.int _ (of_int n.int p.int_is)
     (both p.fraction p.exp (of_frac n.frac p.fraction p.frac_is) (of_exp n.exponent p.exp p.exp_is))))

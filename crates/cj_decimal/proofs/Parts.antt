@@ -1,140 +1,92 @@
 -- The parts of a spelling at their places.
-use Rattle.cj_decimal.proofs.Common.{subst, ◌≡◌, ℕ, ◌+◌, ◌-◌, ◌*◌, ◌^◌, ◌<◌, ◌≤◌, List, [], ◌∷◌, ◌++◌, length, drop, get_or, Bool, true, false, cond, refl, sym, ap, ◌∙◌, arith, ℤ, pos, length-drop, ints, le-mul_of_pos_right, signed, is_ascii_digit, StandsFor, value_after, digits_value, body, written_of, digits_front, digits_rest, begins, is_empty, begins_digit, is_int, is_frac, frac_digits, after_frac, exp_digits, is_whole_digits, is_exp, exp_value, SpellsNumber, Spells, IsReadOf, Passes, Stops, Saturates, SaturatesSize}
-use Rattle.std.specs.Prelude.{nat_eq, ◌&&◌, ◌||◌, not}
-use Rattle.std.specs.Prelude.{neg_ℤ, Option, None, Some, IsSome}
+use Rattle.cj_decimal.proofs.Common.{◌≡◌, ℕ, ◌+◌, ◌-◌, ◌*◌, ◌^◌, ◌<◌, ◌≤◌, List, [], ◌∷◌, ◌++◌, append-nil, drop_all, drop_more, length, drop, get_or, nil_from_length, Bool, true, false, and_from, and_parts, cases_Bool, cases_lt, cond-false, cond-true, nat_eq, ◌&&◌, ◌||◌, not, inl, inr, refl, sym, ap, ◌∙◌, arith, Option, None, Some, IsSome, ℤ, pos, neg_ℤ, ints, le-mul_of_pos_right, signed, is_ascii_digit, StandsFor, value_after, digits_value, body, written_of, digits_front, digits_rest, begins, is_empty, begins_digit, is_int, is_frac, frac_digits, after_frac, exp_digits, is_whole_digits, is_exp, exp_value, SpellsNumber, Spells, IsReadOf, Passes, Stops, Saturates, SaturatesSize}
+use Rattle.std.proofs.lemmas.Bool.{and_left, and_right, false_from_ne_true, or_cases, or_right, true_from_ne_false}
 use Rattle.cj_decimal.proofs.TenPowers.{ten_pow_pos}
 use Rattle.cj_decimal.proofs.Pushes.{stands_short, short_stands}
-use Rattle.cj_decimal.proofs.Grammar.{append_nil, front_rest, both, both_left, both_right, spells_test, test_spells}
-use Rattle.cj_decimal.proofs.Ways.{stops_at_end, front_digit, front_other, front_end, drop_at, drop_all}
+use Rattle.cj_decimal.proofs.Grammar.{frac_bare, front_is_all, spells_test, test_spells}
+use Rattle.cj_decimal.proofs.Ways.{stops_at_end, front_digit, front_other, front_end}
 
 pub begins_at : (c : ℕ) (s : List ℕ) (at : ℕ) → at < length s → begins c (drop at s) ≡ nat_eq (get_or s at 0) c
 unfolding begins
-begins_at c s at h = rw (drop_at s at h) refl
+begins_at c s at h = ap (begins c) (drop_more s at 0 h)
 
 pub begins_past : (c : ℕ) (s : List ℕ) (at : ℕ) → length s ≤ at → begins c (drop at s) ≡ false
 unfolding begins
-begins_past c s at h = rw (drop_all s at h) refl
+begins_past c s at h = ap (begins c) (drop_all at s h)
 
 -- a byte that stands there is within
 pub begins_within : (c : ℕ) (s : List ℕ) (at : ℕ) → begins c (drop at s) ≡ true → at < length s
 unfolding begins
-begins_within c s at h = filled (drop at s) h (length-drop at s)
-  where
-    filled : (t : List ℕ) → begins c t ≡ true → length t ≡ length s - at → at < length s
-    filled [] e l = absurd (cc e)
-    filled (b ∷ t) e l = omega arith
+begins_within c s at h = elim (cases_lt at (length s)) [
+  | inl within ↦ within
+  | inr past ↦ absurd (cc (h, begins_past c s at past))
+]
 
 pub int_none : (t : List ℕ) → length (digits_front t) ≡ 0 → is_int (digits_front t) ≡ false
 unfolding is_int
-int_none t e = at (digits_front t) e
-  where
-    at : (f : List ℕ) → length f ≡ 0 → is_int f ≡ false
-    at [] e = refl
-    at (b ∷ f) e = absurd (omega (arith, e))
+int_none t e = ap is_int (nil_from_length _ e)
 
 front_head : (b : ℕ) (t : List ℕ) → 0 < length (digits_front (b ∷ t)) → digits_front (b ∷ t) ≡ b ∷ digits_front t
-front_head b t h =
-    elim (is_ascii_digit b) as
-    (λ d. is_ascii_digit b ≡ d → digits_front (b ∷ t) ≡ b ∷ digits_front t) [
-      | true ↦
-          λ e. front_digit b t e
-      | false ↦ λ e. absurd (omega (arith, h, ap length (front_other b t e)))
-    ] refl
+front_head b t h = elim (cases_Bool (is_ascii_digit b)) [
+  | inl e ↦ front_digit b t e
+  | inr e ↦ absurd (omega (arith, h, ap length (front_other b t e)))
+]
 
 not_empty : (f : List ℕ) → 0 < length f → is_empty f ≡ false
 unfolding is_empty
 not_empty [] h = absurd (omega arith)
 not_empty (b ∷ f) h = refl
 
-empty_test : {f : List ℕ} → f ≡ [] → is_empty f ≡ true
-unfolding is_empty
-empty_test e = rw e refl
-
-pub int_led_by_zero : (t : List ℕ) → begins 48 t ≡ true → 1 < length (digits_front t) → is_int (digits_front t) ≡ false
-unfolding is_int is_empty begins
-int_led_by_zero [] z h = absurd (cc z)
-int_led_by_zero (b ∷ t) z h =
+-- the rule on a first 0, for two digits or more
+pub int_longer : (t : List ℕ) → 1 < length (digits_front t) → is_int (digits_front t) ≡ not (begins 48 t)
+unfolding is_int begins
+int_longer [] h = absurd (omega (arith, h, ap length front_end))
+int_longer (b ∷ t) h =
     let head = front_head b t (omega arith) in
     let longer : 0 < length (digits_front t) = omega (arith, h, ap length head) in
-    ap is_int head ∙ ap (λ x. not x || is_empty (digits_front t)) z ∙ not_empty (digits_front t) longer
-
-pub int_led_by_other : (t : List ℕ) → begins 48 t ≡ false → 0 < length (digits_front t) → is_int (digits_front t) ≡ true
-unfolding is_int begins
-int_led_by_other [] z h = absurd (omega (arith, h, ap length front_end))
-int_led_by_other (b ∷ t) z h = ap is_int (front_head b t h) ∙ ap (λ x. not x || is_empty (digits_front t)) z
+    ap is_int head ∙ ap (λ e. not (nat_eq b 48) || e) (not_empty (digits_front t) longer) ∙ or_false _
+  where
+    or_false : (x : Bool) → (x || false) ≡ x
+    or_false true = refl
+    or_false false = refl
 
 pub int_alone : (t : List ℕ) → length (digits_front t) ≡ 1 → is_int (digits_front t) ≡ true
 unfolding is_int is_empty
 int_alone t h = at (digits_front t) h
   where
     at : (f : List ℕ) → length f ≡ 1 → is_int f ≡ true
-    at [] h = absurd (omega (arith, h))
-    at (b ∷ []) h = elim (nat_eq b 48) as (λ x. not x || true ≡ true) [ true ↦ refl | false ↦ refl ]
-    at (b ∷ c ∷ f) h = absurd (omega (arith, h))
+    at (b ∷ []) h = or_right _ _ refl
+    at _ h = absurd (omega (arith, h))
 
 pub drop_one : (s : List ℕ) (at : ℕ) → at < length s → drop 1 (drop at s) ≡ drop (at + 1) s
-drop_one s at h = ap (λ t. drop 1 t) (drop_at s at h)
+drop_one s at h = ap (drop 1) (drop_more s at 0 h)
 
 -- ---- the fraction
-pub frac_bare : (r : List ℕ) → begins 46 r ≡ false → (is_frac r ≡ true) × (frac_digits r ≡ []) × (after_frac r ≡ r)
-unfolding is_frac frac_digits after_frac
-frac_bare r point = (
-  ap (λ t. not t || begins_digit (drop 1 r)) point,
-  ap (λ t. cond t (digits_front (drop 1 r)) []) point,
-  ap (λ t. cond t (digits_rest (drop 1 r)) r) point,
-)
-
-pub frac_pointed : (r : List ℕ) → begins 46 r ≡ true → (is_frac r ≡ begins_digit (drop 1 r))
-    × (frac_digits r ≡ digits_front (drop 1 r)) × (after_frac r ≡ digits_rest (drop 1 r))
-unfolding is_frac frac_digits after_frac
-frac_pointed r point = (
-  ap (λ t. not t || begins_digit (drop 1 r)) point,
-  ap (λ t. cond t (digits_front (drop 1 r)) []) point,
-  ap (λ t. cond t (digits_rest (drop 1 r)) r) point,
-)
-
 pub no_first_digit : (t : List ℕ) → length (digits_front t) ≡ 0 → begins_digit t ≡ false
 unfolding begins_digit
 no_first_digit [] h = refl
 no_first_digit (b ∷ t) h =
-    elim (is_ascii_digit b) as
-    (λ d. is_ascii_digit b ≡ d → d ≡ false) [
-      | true ↦
-          λ e. absurd (omega (arith, h, ap length (front_digit b t e)))
-      | false ↦ λ e. refl
-    ] refl
+    false_from_ne_true (is_ascii_digit b) (λ e. omega (arith, h, ap length (front_digit b t e)))
 
 pub first_digit_there : (t : List ℕ) → 0 < length (digits_front t) → begins_digit t ≡ true
 unfolding begins_digit
 first_digit_there [] h = absurd (omega (arith, h, ap length front_end))
 first_digit_there (b ∷ t) h =
-    elim (is_ascii_digit b) as
-    (λ d. is_ascii_digit b ≡ d → d ≡ true) [
-      | true ↦ λ e. refl
-      | false ↦
-          λ e. absurd (omega (arith, h, ap length (front_other b t e)))
-    ] refl
+    true_from_ne_false (is_ascii_digit b) (λ e. omega (arith, h, ap length (front_other b t e)))
 
 -- ---- the exponent
 pub no_whole_digits : (t : List ℕ) → length (digits_front t) ≡ 0 → is_whole_digits t ≡ false
 unfolding is_whole_digits
-no_whole_digits t h = ap (λ d. d && is_empty (digits_rest t)) (no_first_digit t h)
+no_whole_digits t h = and_left _ _ (no_first_digit t h)
 
 pub digits_then_more : (t : List ℕ) → 0 < length (digits_rest t) → is_whole_digits t ≡ false
 unfolding is_whole_digits
-digits_then_more t h = ap (λ e. begins_digit t && e) (not_empty (digits_rest t) h) ∙ never (begins_digit t)
-  where
-    never : (b : Bool) → (b && false) ≡ false
-    never true = refl
-    never false = refl
+digits_then_more t h = and_right _ _ (not_empty (digits_rest t) h)
 
 pub whole_digits : (t : List ℕ) → 0 < length (digits_front t) → digits_rest t ≡ [] → (is_whole_digits t ≡ true)
     × (digits_front t ≡ t)
-unfolding is_whole_digits
-whole_digits t h none = (
-  ap (λ d. d && is_empty (digits_rest t)) (first_digit_there t h) ∙ empty_test none,
-  sym (append_nil (digits_front t)) ∙ ap (λ r. digits_front t ++ r) (sym none) ∙ sym (front_rest t),
-)
+unfolding is_whole_digits is_empty
+whole_digits t h none = (and_from _ _ (first_digit_there t h) (ap is_empty none), front_is_all t none)
 
 pub saturates_size : (lead extra : ℕ) {lost : Bool} (n : ℕ) → (0 < extra → 10 ^ 35 ≤ lead)
     → (lost ≡ true → 10 ^ 35 ≤ lead) → StandsFor lead extra lost n → SaturatesSize n lead
@@ -170,7 +122,7 @@ exp_none e = rw e (refl, record { same = λ h. refl; high = λ h. h; low = λ h.
 pub exp_unmarked : (r : List ℕ) → 0 < length r → (begins 101 r || begins 69 r) ≡ false → is_exp r ≡ false
 unfolding is_exp begins
 exp_unmarked [] h e = absurd (omega arith)
-exp_unmarked (b ∷ t) h e = ap (λ m. m && is_whole_digits (exp_digits t)) e
+exp_unmarked (b ∷ t) h e = and_left _ _ e
 
 pub exp_marked : (r : List ℕ) → (begins 101 r || begins 69 r) ≡ true
     → (is_exp r ≡ is_whole_digits (exp_digits (drop 1 r)))
@@ -181,22 +133,19 @@ exp_marked (b ∷ t) e = (ap (λ m. m && is_whole_digits (exp_digits t)) e, refl
 
 pub sign_there : (t : List ℕ) → (begins 45 t || begins 43 t) ≡ true → exp_digits t ≡ drop 1 t
 unfolding exp_digits
-sign_there t e = ap (λ b. cond b (drop 1 t) t) e
+sign_there t e = cond-true _ _ _ e
 
 pub no_sign : (t : List ℕ) → (begins 45 t || begins 43 t) ≡ false → exp_digits t ≡ t
 unfolding exp_digits
-no_sign t e = ap (λ b. cond b (drop 1 t) t) e
+no_sign t e = cond-false _ _ _ e
 
 -- a byte of two that stands there is within
 pub one_of_within : (a b : ℕ) (s : List ℕ) (at : ℕ) → (begins a (drop at s) || begins b (drop at s)) ≡ true
     → at < length s
-one_of_within a b s at h =
-    elim (begins a (drop at s)) as
-    (λ t. begins a (drop at s) ≡ t → (t || begins b (drop at s)) ≡ true → at < length s) [
-      | true ↦
-          λ e f. begins_within a s at e
-      | false ↦ λ e f. begins_within b s at f
-    ] refl h
+one_of_within a b s at h = elim (or_cases _ _ h) [
+  | inl e ↦ begins_within a s at e
+  | inr e ↦ begins_within b s at e
+]
 
 -- an exponent's mark at a place, and its digits at another
 pub marked_at : (s : List ℕ) (from first : ℕ) → (begins 101 (drop from s) || begins 69 (drop from s)) ≡ true
@@ -218,36 +167,29 @@ pub saturates_read : {negative sign : Bool} {n size : ℕ} {e : ℤ} (r : ℤ) �
 saturates_read {negative} r a b c s = rw (a, b, c) (saturates_signed negative s)
 
 -- ---- the whole spelling
-pub minus_there : (s : List ℕ) → begins 45 s ≡ true → body s ≡ drop 1 s
-unfolding body
-minus_there s e = ap (λ b. cond b (drop 1 s) s) e
-
-pub no_minus : (s : List ℕ) → begins 45 s ≡ false → body s ≡ s
-unfolding body
-no_minus s e = ap (λ b. cond b (drop 1 s) s) e
-
 pub value_append : (n : ℕ) (xs ys : List ℕ) → value_after n (xs ++ ys) ≡ value_after (value_after n xs) ys
 value_append n [] ys = refl
 value_append n (b ∷ xs) ys = value_append (10 * n + (b - 48)) xs ys
 
 -- what fails a part of the test is no number
+passes_parts : (s : List ℕ) → SpellsNumber s → (is_int (digits_front (body s)) ≡ true)
+    × (is_frac (digits_rest (body s)) ≡ true) × (is_exp (after_frac (digits_rest (body s))) ≡ true)
+passes_parts s n =
+    let int = and_parts _ _ (spells_test s n.0 n.1).0 in let more = and_parts _ _ int.1 in (int.0, more.0, more.1)
+
 pub not_int : (s : List ℕ) → is_int (digits_front (body s)) ≡ false → ¬ SpellsNumber s
-not_int s h n = let int : is_int (digits_front (body s)) ≡ true = both_left _ _ (spells_test s n.0 n.1).0 in
-    absurd (cc (h, int))
+not_int s h n = absurd (cc (h, (passes_parts s n).0))
 
 pub not_frac : (s : List ℕ) → is_frac (digits_rest (body s)) ≡ false → ¬ SpellsNumber s
-not_frac s h n = let frac : is_frac (digits_rest (body s)) ≡ true =
-    both_left _ _ (both_right (is_int (digits_front (body s))) _ (spells_test s n.0 n.1).0) in absurd (cc (h, frac))
+not_frac s h n = absurd (cc (h, (passes_parts s n).1))
 
 pub not_exp : (s : List ℕ) → is_exp (after_frac (digits_rest (body s))) ≡ false → ¬ SpellsNumber s
-not_exp s h n = let exp : is_exp (after_frac (digits_rest (body s))) ≡ true =
-    both_right (is_frac (digits_rest (body s))) _
-    (both_right (is_int (digits_front (body s))) _ (spells_test s n.0 n.1).0) in absurd (cc (h, exp))
+not_exp s h n = absurd (cc (h, (passes_parts s n).2))
 
 -- what passes the whole test is one
 pub passed : (s : List ℕ) → is_int (digits_front (body s)) ≡ true → is_frac (digits_rest (body s)) ≡ true
     → is_exp (after_frac (digits_rest (body s))) ≡ true → Spells s (written_of s)
-passed s a b c = test_spells s (both _ _ a (both _ _ b c))
+passed s a b c = test_spells s (and_from _ _ a (and_from _ _ b c))
 
 -- a byte that stands first is within
 pub first_within : (c : ℕ) (s : List ℕ) → begins c s ≡ true → 1 ≤ length s
@@ -268,7 +210,7 @@ saturates_at s a b = rw (← a, ← b) s
 
 -- ---- a spelling that ends with its first digits
 pub nothing_follows : (s : List ℕ) → drop (length s) s ≡ []
-nothing_follows s = drop_all s (length s) (omega arith)
+nothing_follows s = drop_all (length s) s (omega arith)
 
 -- after them there is no fraction and no exponent
 pub no_frac : {r : List ℕ} → r ≡ [] → (is_frac r ≡ true) × (frac_digits r ≡ []) × (after_frac r ≡ [])
@@ -292,19 +234,10 @@ integer_read s {short} sign int none value =
       written = written_of s;
       spells = integer_spells s int none;
       sign = sym sign;
-      digits = rw (frac.1, append_nil (digits_front (body s)), ← value) (short_stands short);
+      digits = rw (frac.1, append-nil (digits_front (body s)), ← value) (short_stands short);
       after_point_is = ap length frac.1;
       exponent_is = (exp_none frac.2).1;
     }
 
--- the rule on a first 0, for two digits or more
-pub int_longer : (t : List ℕ) → 1 < length (digits_front t) → is_int (digits_front t) ≡ not (begins 48 t)
-int_longer t h =
-    elim (begins 48 t) as (λ b. begins 48 t ≡ b → is_int (digits_front t) ≡ not b) [
-      | true ↦
-          λ e. int_led_by_zero t e h
-      | false ↦ λ e. int_led_by_other t e (omega arith)
-    ] refl
-
 pub stops_whole : (s : List ℕ) (from at : ℕ) → Passes s from at → at ≡ length s → Stops s from (length s)
-stops_whole s from at p e = let P : ℕ → Type 0 = Stops s from in subst P e (stops_at_end s from at p (omega arith))
+stops_whole s from at p e = rw e at (stops_at_end s from at p (omega arith))

@@ -1,13 +1,13 @@
 -- The way through the digits of a spelling.
-use Rattle.cj_decimal.proofs.Common.{◌≡◌, ℕ, suc, ◌+◌, ◌-◌, ◌*◌, ◌<◌, ◌≤◌, List, [], ◌∷◌, length, drop, get_or, true, false, cond, refl, sym, ap, ◌∙◌, arith, drop-cons, length-drop, inl, inr, cases_lt, nat_tests, is_ascii_digit, begins_digit, digits_front, digits_rest, value_after, Passes, Carries, Stops}
+use Rattle.cj_decimal.proofs.Common.{◌≡◌, ℕ, suc, ◌+◌, ◌-◌, ◌*◌, ◌<◌, ◌≤◌, List, [], ◌∷◌, length, drop, drop_all, drop_more, get_or, true, false, cond-true, cond-false, refl, sym, ap, ◌∙◌, arith, inl, inr, cases_lt, nat_tests, is_ascii_digit, begins_digit, digits_front, digits_rest, value_after, Passes, Carries, Stops}
 
 pub front_digit : (b : ℕ) (s : List ℕ) → is_ascii_digit b ≡ true → digits_front (b ∷ s) ≡ b ∷ digits_front s
 unfolding digits_front
-front_digit b s h = ap (λ t. cond t (b ∷ digits_front s) []) h
+front_digit b s h = cond-true _ _ _ h
 
 pub front_other : (b : ℕ) (s : List ℕ) → is_ascii_digit b ≡ false → digits_front (b ∷ s) ≡ []
 unfolding digits_front
-front_other b s h = ap (λ t. cond t (b ∷ digits_front s) []) h
+front_other b s h = cond-false _ _ _ h
 
 pub front_end : digits_front [] ≡ []
 unfolding digits_front
@@ -15,11 +15,11 @@ front_end = refl
 
 pub rest_digit : (b : ℕ) (s : List ℕ) → is_ascii_digit b ≡ true → digits_rest (b ∷ s) ≡ digits_rest s
 unfolding digits_rest
-rest_digit b s h = ap (λ t. cond t (digits_rest s) (b ∷ s)) h
+rest_digit b s h = cond-true _ _ _ h
 
 pub rest_other : (b : ℕ) (s : List ℕ) → is_ascii_digit b ≡ false → digits_rest (b ∷ s) ≡ b ∷ s
 unfolding digits_rest
-rest_other b s h = ap (λ t. cond t (digits_rest s) (b ∷ s)) h
+rest_other b s h = cond-false _ _ _ h
 
 pub rest_end : digits_rest [] ≡ []
 unfolding digits_rest
@@ -28,15 +28,9 @@ rest_end = refl
 pub digit_bounds : (b : ℕ) → is_ascii_digit b ≡ true → (48 ≤ b) × (b ≤ 57)
 digit_bounds b h = (grind (arith, nat_tests), grind (arith, nat_tests))
 
--- what is left at a place is the byte there, and what is left after it
-pub drop_at : (s : List ℕ) (at : ℕ) → at < length s → drop at s ≡ get_or s at 0 ∷ drop (at + 1) s
-drop_at s at h =
-    let next : suc at ≡ at + 1 = omega arith in
-    drop-cons s at 0 h ∙ ap (λ k. get_or s at 0 ∷ drop k s) next
-
 front_step : (s : List ℕ) (at : ℕ) → at < length s → is_ascii_digit (get_or s at 0) ≡ true
     → digits_front (drop at s) ≡ get_or s at 0 ∷ digits_front (drop (at + 1) s)
-front_step s at h d = ap digits_front (drop_at s at h) ∙ front_digit (get_or s at 0) (drop (at + 1) s) d
+front_step s at h d = ap digits_front (drop_more s at 0 h) ∙ front_digit (get_or s at 0) (drop (at + 1) s) d
 
 pub passes_refl : (s : List ℕ) (from : ℕ) → from ≤ length s → Passes s from from
 passes_refl s from h = record { order = omega arith; within = h; rest = refl; count = refl }
@@ -46,7 +40,7 @@ pub passes_step : (s : List ℕ) (from at : ℕ) → Passes s from at → at < l
 passes_step s from at c h d = record {
   order = omega (arith, c.order);
   within = omega arith;
-  rest = sym (ap digits_rest (drop_at s at h) ∙ rest_digit (get_or s at 0) (drop (at + 1) s) d) ∙ c.rest;
+  rest = sym (ap digits_rest (drop_more s at 0 h) ∙ rest_digit (get_or s at 0) (drop (at + 1) s) d) ∙ c.rest;
   count = omega (arith, c.count, ap length (front_step s at h d));
 }
 
@@ -55,67 +49,16 @@ carries_refl s from n = record { value = refl }
 
 pub carries_step : (s : List ℕ) (from n at m : ℕ) → Carries s from n at m → at < length s
     → is_ascii_digit (get_or s at 0) ≡ true → Carries s from n (at + 1) (10 * m + (get_or s at 0 - 48))
-carries_step s from n at m c h d = record { value = sym (ap (λ ds. value_after m ds) (front_step s at h d)) ∙ c.value }
-
-no_front : (s : List ℕ) (at : ℕ) → at < length s → is_ascii_digit (get_or s at 0) ≡ false
-    → digits_front (drop at s) ≡ []
-no_front s at h d = ap digits_front (drop_at s at h) ∙ front_other _ _ d
-
-pub drop_all : (s : List ℕ) (at : ℕ) → length s ≤ at → drop at s ≡ []
-drop_all s at h = length-zero (drop at s) (omega (arith, length-drop at s))
-  where
-    length-zero : (t : List ℕ) → length t ≡ 0 → t ≡ []
-    length-zero [] e = refl
-    length-zero (x ∷ t) e = absurd (omega (arith, e))
-
-no_front_past : (s : List ℕ) (at : ℕ) → length s ≤ at → digits_front (drop at s) ≡ []
-no_front_past s at h = ap digits_front (drop_all s at h) ∙ front_end
-
--- where no digit follows, the digits stop
-stops_when : (s : List ℕ) (from at : ℕ) → Passes s from at → digits_front (drop at s) ≡ []
-    → digits_rest (drop at s) ≡ drop at s → Stops s from at
-stops_when s from at c none rest = record {
-  order = c.order;
-  within = c.within;
-  rest = sym rest ∙ c.rest;
-  count = omega (arith, c.count, ap length none);
-}
-
-pub stops_at_other : (s : List ℕ) (from at : ℕ) → Passes s from at → at < length s
-    → is_ascii_digit (get_or s at 0) ≡ false → Stops s from at
-stops_at_other s from at c h d =
-    stops_when s from at c (no_front s at h d)
-    (ap digits_rest (drop_at s at h) ∙ rest_other _ _ d ∙ sym (drop_at s at h))
-
-pub stops_at_end : (s : List ℕ) (from at : ℕ) → Passes s from at → length s ≤ at → Stops s from at
-stops_at_end s from at c h =
-    stops_when s from at c (no_front_past s at h) (ap digits_rest (drop_all s at h) ∙ rest_end ∙ sym (drop_all s at h))
-
--- and the number that was carried is the number of all of them
-carried : (s : List ℕ) (from n at m : ℕ) → Carries s from n at m → digits_front (drop at s) ≡ []
-    → m ≡ value_after n (digits_front (drop from s))
-carried s from n at m c none = sym (ap (λ ds. value_after m ds) none) ∙ c.value
-
-pub carried_at_end : (s : List ℕ) (from n at m : ℕ) → Carries s from n at m → length s ≤ at
-    → m ≡ value_after n (digits_front (drop from s))
-carried_at_end s from n at m c h = carried s from n at m c (no_front_past s at h)
-
-pub stops_after : (s : List ℕ) (from at stop : ℕ) → Passes s from at → Stops s at stop → Stops s from stop
-stops_after s from at stop c r = record {
-  order = omega (arith, c.order, r.order);
-  within = r.within;
-  rest = r.rest ∙ c.rest;
-  count = r.count ∙ c.count;
-}
+carries_step s from n at m c h d = record { value = sym (ap (value_after m) (front_step s at h d)) ∙ c.value }
 
 -- the first byte there, if there is one, is a digit
 pub digit_at : (s : List ℕ) (at : ℕ) → at < length s → begins_digit (drop at s) ≡ is_ascii_digit (get_or s at 0)
 unfolding begins_digit
-digit_at s at h = rw (drop_at s at h) refl
+digit_at s at h = ap begins_digit (drop_more s at 0 h)
 
 pub no_digit_past : (s : List ℕ) (at : ℕ) → length s ≤ at → begins_digit (drop at s) ≡ false
 unfolding begins_digit
-no_digit_past s at h = rw (drop_all s at h) refl
+no_digit_past s at h = ap begins_digit (drop_all at s h)
 
 -- a digit there is a byte of the list
 pub is_digit_at : (s : List ℕ) (at : ℕ) → begins_digit (drop at s) ≡ true → (at < length s)
@@ -125,14 +68,40 @@ is_digit_at s at h = elim (cases_lt at (length s)) [
   | inr past ↦ absurd (cc (no_digit_past s at past))
 ]
 
+-- where no digit follows, the digits stop
 pub front_of_stop : (t : List ℕ) → begins_digit t ≡ false → (digits_front t ≡ []) × (digits_rest t ≡ t)
 unfolding begins_digit
 front_of_stop [] h = (front_end, rest_end)
 front_of_stop (b ∷ t) h = (front_other b t h, rest_other b t h)
 
 pub stops_here : (s : List ℕ) (from at : ℕ) → Passes s from at → begins_digit (drop at s) ≡ false → Stops s from at
-stops_here s from at c h = let stop = front_of_stop (drop at s) h in stops_when s from at c stop.0 stop.1
+stops_here s from at c h = let stop = front_of_stop (drop at s) h in record {
+  order = c.order;
+  within = c.within;
+  rest = sym stop.1 ∙ c.rest;
+  count = omega (arith, c.count, ap length stop.0);
+}
 
+pub stops_at_other : (s : List ℕ) (from at : ℕ) → Passes s from at → at < length s
+    → is_ascii_digit (get_or s at 0) ≡ false → Stops s from at
+stops_at_other s from at c h d = stops_here s from at c (digit_at s at h ∙ d)
+
+pub stops_at_end : (s : List ℕ) (from at : ℕ) → Passes s from at → length s ≤ at → Stops s from at
+stops_at_end s from at c h = stops_here s from at c (no_digit_past s at h)
+
+-- and the number that was carried is the number of all of them
 pub carried_here : (s : List ℕ) (from n at m : ℕ) → Carries s from n at m → begins_digit (drop at s) ≡ false
     → m ≡ value_after n (digits_front (drop from s))
-carried_here s from n at m c h = carried s from n at m c (front_of_stop (drop at s) h).0
+carried_here s from n at m c h = sym (ap (value_after m) (front_of_stop (drop at s) h).0) ∙ c.value
+
+pub carried_at_end : (s : List ℕ) (from n at m : ℕ) → Carries s from n at m → length s ≤ at
+    → m ≡ value_after n (digits_front (drop from s))
+carried_at_end s from n at m c h = carried_here s from n at m c (no_digit_past s at h)
+
+pub stops_after : (s : List ℕ) (from at stop : ℕ) → Passes s from at → Stops s at stop → Stops s from stop
+stops_after s from at stop c r = record {
+  order = omega (arith, c.order, r.order);
+  within = r.within;
+  rest = r.rest ∙ c.rest;
+  count = r.count ∙ c.count;
+}

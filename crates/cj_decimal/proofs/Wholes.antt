@@ -1,13 +1,13 @@
 -- What reading a whole number answers.
-use Rattle.cj_decimal.proofs.Common.{◌≡◌, ℕ, ◌*◌, ◌^◌, ◌<◌, ◌≤◌, ◌++◌, List, [], length, drop, get_or, Bool, true, false, false≢true, Option, Some, None, Result, Ok, Err, ℤ, pos, negsuc, inl, inr, ⊎_elim, refl, sym, ap, ◌∙◌, subst, arith, rules, IfOk, IfSome, IsSome, unsigned_abs, is_ascii_digit, le-mul_of_pos_right, ints, Number, signed, IsNormal, IsInRange, IsWhole, SpellsNumber, IsValue, IsNumberOutOfRange, IsInt, IsFewDigits, IsFewSigned, digits_value, digits_front, digits_rest, is_int, begins, begins_digit, body, Class, no_number, out_of_range, not_whole, whole, whole_answer, Passes, IsShort, NotANumber, NumberRange}
+use Rattle.cj_decimal.proofs.Common.{◌≡◌, ℕ, ◌*◌, ◌^◌, ◌<◌, ◌≤◌, ◌++◌, List, [], ◌∷◌, length, drop, drop_more, get_or, Bool, true, false, false≢true, Option, Some, None, Result, Ok, Err, ℤ, pos, negsuc, inl, inr, cases_Bool, refl, sym, ap, ◌∙◌, subst, arith, rules, IfOk, IfSome, IsSome, unsigned_abs, is_ascii_digit, le-mul_of_pos_right, ints, Number, signed, IsNormal, IsInRange, IsWhole, SpellsNumber, IsValue, IsNumberOutOfRange, IsInt, IsFewDigits, IsFewSigned, digits_value, digits_front, digits_rest, is_int, begins, begins_digit, body, Class, no_number, out_of_range, not_whole, whole, whole_answer, Passes, IsShort, NotANumber, NumberRange}
 use Rattle.cj_decimal.specs.declared.decimal.DecimalFault.{DecimalFault}
 use Rattle.cj_decimal.proofs.TenPowers.{ten_pow_pos}
 use Rattle.cj_decimal.proofs.Values.{same_sym}
 use Rattle.cj_decimal.proofs.Normal.{normal_form}
 use Rattle.cj_decimal.proofs.Scales.{units_below, far_units, size_of_units}
-use Rattle.cj_decimal.proofs.Grammar.{front_all, front_rest, front_append, rest_append, append_nil, int_digits, int_test, int_from_test, int_is_digits, digit_begins, begins_is, begins_own}
-use Rattle.cj_decimal.proofs.Ways.{stops_at_other, drop_at}
-use Rattle.cj_decimal.proofs.Parts.{no_minus, minus_there, integer_read}
+use Rattle.cj_decimal.proofs.Grammar.{front_all, front_rest, front_alone, rest_alone, front_is_all, int_digits, int_test, int_from_test, int_is_digits, digit_begins, digit_begins_alone, begins_is, begins_own, minus_there, no_minus}
+use Rattle.cj_decimal.proofs.Ways.{stops_at_other}
+use Rattle.cj_decimal.proofs.Parts.{integer_read}
 use Rattle.cj_decimal.proofs.Classes.{class}
 use Rattle.cj_decimal.proofs.Law.{value_of_read}
 use Rattle.cj_decimal.proofs.Decimals.{one_answer}
@@ -43,24 +43,17 @@ answer_below s answer = rw (answer (class s)) (below (class s))
 -- ---- few digits and nothing else
 -- the tests of an int hold of an int alone
 pub int_alone_reads : (s : List ℕ) → IsInt s → (is_int (digits_front s) ≡ true) × (digits_rest s ≡ [])
-unfolding begins_digit
 int_alone_reads s int =
-    let front = ap digits_front (sym (append_nil s)) ∙ front_append s [] (int_digits s int) refl in
-    let rest = ap digits_rest (sym (append_nil s)) ∙ rest_append s [] (int_digits s int) refl in
-    (ap is_int front ∙ int_test s int, rest)
+    let all = int_digits s int in (ap is_int (front_alone s all) ∙ int_test s int, rest_alone s all)
 
 pub int_alone_read : (s : List ℕ) → is_int (digits_front s) ≡ true → digits_rest s ≡ [] → IsInt s
-int_alone_read s int rest =
-    let all : digits_front s ≡ s = sym (append_nil (digits_front s)) ∙ ap (λ r. digits_front s ++ r) (sym rest)
-    ∙ sym (front_rest s) in
-    let P : List ℕ → Type 0 = λ t. IsInt t in
-    subst P all (int_from_test (digits_front s) (front_all s) int)
+int_alone_read s int rest = rw (front_is_all s rest) at (int_from_test (digits_front s) (front_all s) int)
 
 pub no_int_past_other : (s : List ℕ) (at : ℕ) → Passes s 0 at → at < length s → is_ascii_digit (get_or s at 0) ≡ false
     → ¬ IsInt s
 no_int_past_other s at passes here other int =
     let none = (stops_at_other s 0 at passes here other).rest ∙ (int_alone_reads s int).1 in
-    absurd (cc (sym (drop_at s at here) ∙ none))
+    absurd (cc (sym (drop_more s at 0 here) ∙ none))
 
 -- a whole number below 10^18 is in range
 whole_in_range : {v : Number} {w : ℤ} → IsNormal v → IsWhole v w → IsInRange v
@@ -106,15 +99,12 @@ signed_answer {s} {negative} {n} c sign short =
     record { same = same_sym form.1; small = rw (size negative n) short.small } in
     answer_whole s form.0 value (whole_in_range form.2 is) w c is
 
-same_short : {s t : List ℕ} {n : ℕ} → t ≡ s → IsShort s n → IsShort t n
-same_short {n} e short = let P : List ℕ → Type 0 = λ u. IsShort u n in subst P (sym e) short
-
 pub answer_digits : (s : List ℕ) (n : ℕ) (c : Class s) → IsShort s n → whole_answer c ≡ Ok (Some (pos n))
 answer_digits s n c short =
     let plain : begins 45 s ≡ false = ap (begins 45) (front_rest s)
     ∙ digit_begins 45 (digits_front s) (digits_rest s) (int_is_digits _ (int_from_test _ (front_all s) short.int))
     (omega arith) in
-    signed_answer c (sym plain) (same_short (no_minus s plain) short)
+    signed_answer c (sym plain) (rw (no_minus s plain) short)
 
 -- what is said of a short number holds of an answer that may be there
 pub answer_of_few : (s : List ℕ) (o : Option ℕ) → IfSome o (λ n. IsShort s n)
@@ -124,22 +114,13 @@ answer_of_few s (Some n) short = λ c. answer_digits s n c short
 
 -- few digits after the sign, if there is one
 pub signed_from_body : (s : List ℕ) → IsFewDigits (body s) → IsFewSigned s
-signed_from_body s few = elim (begins 45 s) as (λ b. begins 45 s ≡ b → IsFewSigned s) [
-  | true ↦ λ e. inr (drop 1 s, begins_is 45 s e, few_at (drop 1 s) (minus_there s e))
-  | false ↦ λ e. inl (few_at s (no_minus s e))
-] refl
-  where
-    few_at : (t : List ℕ) → body s ≡ t → IsFewDigits t
-    few_at t e = let P : List ℕ → Type 0 = λ u. IsFewDigits u in subst P e few
+signed_from_body s few = elim (cases_Bool (begins 45 s)) [
+  | inl e ↦ inr (drop 1 s, begins_is 45 s e, rw (minus_there s e) at few)
+  | inr e ↦ inl (rw (no_minus s e) at few)
+]
 
 pub body_of_signed : (s : List ℕ) → IsFewSigned s → IsFewDigits (body s)
-body_of_signed s few =
-    ⊎_elim (λ plain. at_body s (no_minus s (int_begins s plain.0)) plain)
-    (λ minus. at_body minus.0 (minus_there s (ap (begins 45) minus.1 ∙ begins_own 45 minus.0) ∙ ap (drop 1) minus.1)
-    minus.2) few
-  where
-    at_body : (t : List ℕ) → body s ≡ t → IsFewDigits t → IsFewDigits (body s)
-    at_body t e few = let P : List ℕ → Type 0 = λ u. IsFewDigits u in subst P (sym e) few
-
-    int_begins : (t : List ℕ) → IsInt t → begins 45 t ≡ false
-    int_begins t int = ap (begins 45) (sym (append_nil t)) ∙ digit_begins 45 t [] (int_is_digits t int) (omega arith)
+body_of_signed s (inl few) =
+    rw (no_minus s (digit_begins_alone 45 s (int_is_digits s few.0) (omega arith))) few
+body_of_signed s (inr minus) =
+    rw (minus.1, minus_there (45 ∷ minus.0) (begins_own 45 minus.0)) minus.2

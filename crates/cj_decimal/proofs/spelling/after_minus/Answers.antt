@@ -1,5 +1,6 @@
 use Rattle.cj_decimal.proofs.Common.{sym, ◌∙◌}
-use Rattle.cj_decimal.proofs.Parts.{minus_there, no_minus, first_within}
+use Rattle.cj_decimal.proofs.Grammar.{minus_there, no_minus}
+use Rattle.cj_decimal.proofs.Parts.{first_within}
 use Rattle.cj_decimal.proofs.spelling.after_minus.Goals as goal
 
 pub returns-then-negative : goal.returns-then-negative

@@ -1,10 +1,9 @@
-use Rattle.cj_decimal.proofs.Common.{arith, sym, ◌∙◌, length-drop, ints}
-use Rattle.cj_decimal.proofs.Ways.{drop_all}
+use Rattle.cj_decimal.proofs.Common.{drop_all, arith, sym, ◌∙◌, length-drop, ints}
 use Rattle.cj_decimal.proofs.Parts.{exp_none, exp_unmarked, marked_at, saturates_read}
 use Rattle.cj_decimal.proofs.spelling.read_exponent.Goals as goal
 
 pub returns-then-from-spelling-clause-reads : goal.returns-then-from-spelling-clause-reads
-returns-then-from-spelling-clause-reads c = exp_none (drop_all c.args.spelling.now c.args.from (omega arith))
+returns-then-from-spelling-clause-reads c = exp_none (drop_all c.args.from c.args.spelling.now (omega arith))
 
 pub returns-then-not-has_one_of-clause-reads : goal.returns-then-not-has_one_of-clause-reads
 returns-then-not-has_one_of-clause-reads c =

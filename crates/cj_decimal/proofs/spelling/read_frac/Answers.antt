@@ -1,5 +1,6 @@
 use Rattle.cj_decimal.proofs.Common.{arith, sym, ◌∙◌, drop, ap, length, ◌+◌, begins_digit, digits_front, digits_rest}
-use Rattle.cj_decimal.proofs.Parts.{begins_within, drop_one, frac_bare, frac_pointed, no_first_digit, first_digit_there}
+use Rattle.cj_decimal.proofs.Parts.{begins_within, drop_one, no_first_digit, first_digit_there}
+use Rattle.cj_decimal.proofs.Grammar.{frac_bare, frac_pointed}
 use Rattle.cj_decimal.proofs.spelling.read_frac.Goals as goal
 
 pub returns-then-not-has_byte-clause-reads : goal.returns-then-not-has_byte-clause-reads

@@ -1,6 +1,5 @@
-use Rattle.cj_decimal.proofs.Common.{arith, sym, ◌∙◌, drop, ap, length, length-drop}
+use Rattle.cj_decimal.proofs.Common.{drop_all, arith, sym, ◌∙◌, drop, ap, length, length-drop}
 use Rattle.cj_decimal.proofs.Pushes.{short_stands}
-use Rattle.cj_decimal.proofs.Ways.{drop_all}
 use Rattle.cj_decimal.proofs.Parts.{no_whole_digits, digits_then_more, whole_digits, saturates_size}
 use Rattle.cj_decimal.proofs.spelling.read_size.Goals as goal
 
@@ -19,7 +18,7 @@ returns-clause-reads c =
     let stops = c.read_long-run.ensures.stops in
     let s = c.args.spelling.now in
     let run = c.read_long-run.result in
-    let none = sym stops.rest ∙ drop_all s run.stop (omega arith) in
+    let none = sym stops.rest ∙ drop_all run.stop s (omega arith) in
     let whole = whole_digits (drop c.args.from s) (omega (arith, stops.count, stops.order)) none in (
       whole.0,
       saturates_size _ _ _ run.digits.extra_after_full run.digits.lost_after_full

@@ -1,6 +1,6 @@
-use Rattle.cj_decimal.proofs.Common.{ℕ, ◌≡◌, ◌+◌, ◌*◌, ◌^◌, ◌<◌, ◌≤◌, length, get_or, refl, sym, ◌∙◌, arith, false≢true}
+use Rattle.cj_decimal.proofs.Common.{ℕ, ◌≡◌, ◌+◌, ◌*◌, ◌^◌, ◌<◌, ◌≤◌, length, get_or, refl, sym, ◌∙◌, arith, drop_all, false≢true}
 use Rattle.cj_decimal.proofs.TenPowers.{ten_pow_suc, ten_pow_le}
-use Rattle.cj_decimal.proofs.Ways.{passes_step, carries_step, digit_bounds, stops_at_end, carried_at_end, drop_all}
+use Rattle.cj_decimal.proofs.Ways.{passes_step, carries_step, digit_bounds, stops_at_end, carried_at_end}
 use Rattle.cj_decimal.proofs.Parts.{stops_whole}
 use Rattle.cj_decimal.proofs.Wholes.{int_alone_reads, int_alone_read, no_int_past_other}
 use Rattle.cj_decimal.proofs.whole.read_counted.Goals as goal
@@ -60,12 +60,12 @@ returns-then-is_int_part c =
       short =
           record {
             int = sym c.is_int_part.ensures ∙ c.if-is_int_part.true;
-            rest = sym (stops_at_end s 0 c.loop-at.at c.loop-at.invariant.passes end).rest ∙ drop_all s _ end;
+            rest = sym (stops_at_end s 0 c.loop-at.at c.loop-at.invariant.passes end).rest ∙ drop_all _ s end;
             value = carried_at_end _ _ _ _ _ c.loop-at.invariant.carries end;
             small = few _ _ c.loop-at.invariant.short (omega (arith, c.loop-at.invariant.within, c.requires.few));
           };
       int =
-          let rest = sym (stops_at_end s 0 c.loop-at.at c.loop-at.invariant.passes end).rest ∙ drop_all s _ end in
+          let rest = sym (stops_at_end s 0 c.loop-at.at c.loop-at.invariant.passes end).rest ∙ drop_all _ s end in
           (λ _. int_alone_read s (sym c.is_int_part.ensures ∙ c.if-is_int_part.true) rest, λ _. refl);
     }
 
