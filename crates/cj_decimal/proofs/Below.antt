@@ -1,29 +1,20 @@
 -- Words of eight digits, from the first one on, have the order of their numbers.
-use Rattle.cj_decimal.proofs.Common.{◌≡◌, ℕ, zero, suc, ◌+◌, ◌*◌, ◌/◌, ◌%◌, ◌^◌, ◌<◌, ◌≤◌, List, [], ◌∷◌, length, map, get_or, refl, sym, ap, subst, arith, ◌∙◌, inl, inr, w64, le_bytes_8, pow-add, cases_lt, mul-le-mul_left, Class, whole_answer, IsShort, IsInt, digits_value}
+use Rattle.cj_decimal.proofs.Common.{◌≡◌, ℕ, zero, suc, ◌+◌, ◌*◌, ◌/◌, ◌%◌, ◌^◌, ◌<◌, ◌≤◌, List, [], ◌∷◌, length, map, get_or, refl, sym, ap, subst, arith, ◌∙◌, inl, inr, w64, le_bytes_8, pow-suc, cases_lt, mul-le-mul_left, Class, whole_answer, IsShort, IsInt, digits_value}
+use Rattle.std.proofs.Math.Nat.{pow-zero}
 use Rattle.std.specs.Int.{swap_bytes, from_le_bytes, from_be_bytes}
 use Rattle.std.specs.Prelude.{Option, None, Some, IfSome, IsSome, Ok, pos}
 use Rattle.cj_decimal.specs.Word.{little_endian, AllBelow, IsCountWord, IsWordOf, TellsBelow, weighed}
-use Rattle.cj_decimal.proofs.Wholes.{answer_digits}
-use Rattle.cj_decimal.proofs.Eights.{eight, horner, int_short, spelled_value}
+use Rattle.cj_decimal.proofs.Wholes.{answer_digits, int_short}
+use Rattle.cj_decimal.proofs.Eights.{value_weighed}
 
--- a digit more in front
-below_next : (p d x n : ℕ) → suc d ≤ n → x < p → p * d + x < p * n
-below_next p d x n h l = let m = mul-le-mul_left p h in omega (arith, m, l)
-
-weighed_below : (n : ℕ) → 10 ≤ n → n ^ 0 ≡ 1 → n ^ 1 ≡ n → (s : List ℕ) → AllBelow 10 s → weighed n s < n ^ length s
+weighed_below : (n : ℕ) → 10 ≤ n → (s : List ℕ) → AllBelow 10 s → weighed n s < n ^ length s
 unfolding weighed
-weighed_below n h one self [] z = nothing (n ^ 0) one
-  where
-    nothing : (p : ℕ) → p ≡ 1 → 0 < p
-    nothing p e = omega arith
-weighed_below n h one self (d ∷ s) z =
-    let rest = weighed_below n h one self s z.1 in
+weighed_below n h [] z = omega (arith, pow-zero n)
+weighed_below n h (d ∷ s) z =
     let l = z.0 in
-    let more : suc (length s) ≡ length s + 1 = omega arith in
-    let power : n ^ suc (length s) ≡ n ^ length s * n = ap (λ k. n ^ k) more ∙ pow-add n (length s) 1
-    ∙ ap (λ k. n ^ length s * k) self in
-    subst (λ p. n ^ length s * d + weighed n s < p) (sym power)
-    (below_next (n ^ length s) d (weighed n s) n (omega arith) rest)
+    let front : suc d ≤ n = omega arith in
+    let most = mul-le-mul_left (n ^ length s) front in
+    omega (arith, most, weighed_below n h s z.1, pow-suc n (length s))
 
 -- one digit decides, or the rest does
 step : (k : ℕ) → k ≤ 1 → (p q a b x y u v : ℕ) → x < q → y < q → u < p → (x + k ≤ y → u + k ≤ v)
@@ -48,23 +39,13 @@ unfolding weighed
 order k one [] [] e hs ht l = l
 order k one (a ∷ s) (b ∷ t) e hs ht l =
     let n : length t ≡ length s = omega (arith, e) in
-    let small = weighed_below 256 (omega arith) refl refl s hs.1 in
-    let other : weighed 256 t < 256 ^ length s =
-    subst (λ i. weighed 256 t < 256 ^ i) n (weighed_below 256 (omega arith) refl refl t ht.1) in
-    let g : 256 ^ length s * a + weighed 256 s + k ≤ 256 ^ length s * b + weighed 256 t =
-    subst (λ i. 256 ^ length s * a + weighed 256 s + k ≤ 256 ^ i * b + weighed 256 t) n l in
-    subst (λ i. 10 ^ length s * a + weighed 10 s + k ≤ 10 ^ i * b + weighed 10 t) (sym n)
-    (step k one (10 ^ length s) (256 ^ length s) a b (weighed 256 s) (weighed 256 t) (weighed 10 s) (weighed 10 t) small
-    other (weighed_below 10 (omega arith) refl refl s hs.1) (order k one s t (sym n) hs.1 ht.1) g)
+    let wide : 10 ≤ 256 = omega arith in
+    rw n (step k one (10 ^ length s) (256 ^ length s) a b (weighed 256 s) (weighed 256 t) (weighed 10 s) (weighed 10 t)
+    (weighed_below 256 wide s hs.1) (rw n at (weighed_below 256 wide t ht.1)) (weighed_below 10 (omega arith) s hs.1)
+    (order k one s t (sym n) hs.1 ht.1) (rw n at l))
 order k one _ _ e hs ht l = absurd (omega (arith, e))
 
 -- ---- eight digits
-
-value_weighed : (s : List ℕ) → length s ≡ 8 → digits_value (map (λ d. d + 48) s) ≡ weighed 10 s
-unfolding weighed horner
-value_weighed s l =
-    eight (λ s. digits_value (map (λ d. d + 48) s) ≡ weighed 10 s)
-    (λ a b c d e f g h. spelled_value 0 (a ∷ b ∷ c ∷ d ∷ e ∷ f ∷ g ∷ h ∷ []) ∙ omega arith) s l
 
 bytes_of : (s : List ℕ) → AllBelow 10 s → (i : ℕ) → get_or s i 0 < 256
 bytes_of [] h i = omega arith
@@ -73,36 +54,22 @@ bytes_of (b ∷ s) h (suc i) = bytes_of s h.1 i
 
 pub swapped : (s : List ℕ) → length s ≡ 8 → AllBelow 10 s → swap_bytes w64 (little_endian s) ≡ weighed 256 s
 unfolding weighed
-swapped s l = eight (λ s. AllBelow 10 s → swap_bytes w64 (little_endian s) ≡ weighed 256 s) each s l
-  where
-    each : (a b c d e f g h : ℕ) → AllBelow 10 (a ∷ b ∷ c ∷ d ∷ e ∷ f ∷ g ∷ h ∷ [])
-        → swap_bytes w64 (little_endian (a ∷ b ∷ c ∷ d ∷ e ∷ f ∷ g ∷ h ∷ []))
-        ≡ weighed 256 (a ∷ b ∷ c ∷ d ∷ e ∷ f ∷ g ∷ h ∷ [])
-    each a b c d e f g h z =
-        let s = a ∷ b ∷ c ∷ d ∷ e ∷ f ∷ g ∷ h ∷ [] in
-        let same : little_endian s ≡ from_le_bytes w64 s = omega arith in
-        ap (from_be_bytes w64) (le_bytes_8 s (little_endian s) refl (bytes_of s z) same) ∙ omega arith
+swapped (a ∷ b ∷ c ∷ d ∷ e ∷ f ∷ g ∷ h ∷ []) l z =
+    let s = a ∷ b ∷ c ∷ d ∷ e ∷ f ∷ g ∷ h ∷ [] in
+    let same : little_endian s ≡ from_le_bytes w64 s = omega arith in
+    ap (from_be_bytes w64) (le_bytes_8 s (little_endian s) refl (bytes_of s z) same) ∙ omega arith
+swapped _ l z = absurd (omega (arith, l))
 
 unswapped : (s : List ℕ) → length s ≡ 8 → AllBelow 10 s → swap_bytes w64 (weighed 256 s) ≡ little_endian s
 unfolding weighed
-unswapped s l = eight (λ s. AllBelow 10 s → swap_bytes w64 (weighed 256 s) ≡ little_endian s) each s l
-  where
-    each : (a b c d e f g h : ℕ) → AllBelow 10 (a ∷ b ∷ c ∷ d ∷ e ∷ f ∷ g ∷ h ∷ [])
-        → swap_bytes w64 (weighed 256 (a ∷ b ∷ c ∷ d ∷ e ∷ f ∷ g ∷ h ∷ []))
-        ≡ little_endian (a ∷ b ∷ c ∷ d ∷ e ∷ f ∷ g ∷ h ∷ [])
-    each a b c d e f g h z =
-        let s = a ∷ b ∷ c ∷ d ∷ e ∷ f ∷ g ∷ h ∷ [] in
-        let r = h ∷ g ∷ f ∷ e ∷ d ∷ c ∷ b ∷ a ∷ [] in
-        let other : AllBelow 10 r = (
-          z.1.1.1.1.1.1.1.0,
-          (
-            z.1.1.1.1.1.1.0,
-            (z.1.1.1.1.1.0, (z.1.1.1.1.0, (z.1.1.1.0, (z.1.1.0, (z.1.0, (z.0, tt)))))),
-          ),
-        ) in
-        let turned : weighed 256 s ≡ little_endian r = omega arith in
-        let back : weighed 256 r ≡ little_endian s = omega arith in
-        ap (swap_bytes w64) turned ∙ swapped r refl other ∙ back
+unswapped (a ∷ b ∷ c ∷ d ∷ e ∷ f ∷ g ∷ h ∷ []) l z =
+    let s = a ∷ b ∷ c ∷ d ∷ e ∷ f ∷ g ∷ h ∷ [] in
+    let r = h ∷ g ∷ f ∷ e ∷ d ∷ c ∷ b ∷ a ∷ [] in
+    let digits : AllBelow 10 r = omega arith in
+    let turned : weighed 256 s ≡ little_endian r = omega arith in
+    let back : weighed 256 r ≡ little_endian s = omega arith in
+    ap (swap_bytes w64) turned ∙ swapped r refl digits ∙ back
+unswapped _ l z = absurd (omega (arith, l))
 
 -- ---- words and their numbers
 
@@ -113,7 +80,7 @@ words_in_order v w a b x y h =
     let p = x.3 in let q = y.3 in
     let below : weighed 256 s + 0 ≤ weighed 256 t = omega (arith, p, q, h) in
     let o = order 0 (omega arith) s t (x.1 ∙ sym y.1) x.2 y.2 below in
-    let m = x.4 ∙ value_weighed s x.1 in let n = y.4 ∙ value_weighed t y.1 in
+    let m = x.4 ∙ value_weighed s in let n = y.4 ∙ value_weighed t in
     omega (arith, o, m, n)
 
 -- eight digits as a word
@@ -125,62 +92,36 @@ pub eight_of_word : (w n : ℕ) → IsWordOf w n → (s : List ℕ) × (length s
     × (swap_bytes w64 w ≡ little_endian s) × (n ≡ digits_value (map (λ d. d + 48) s))
 eight_of_word w n h = (h.0, h.1, h.2, ap (swap_bytes w64) h.3 ∙ unswapped h.0 h.1 h.2, h.4)
 
-pub eight_room : (s : List ℕ) {m : ℕ} → length s ≡ 8 → AllBelow 10 s → m ≡ little_endian s → m < 2 ^ 60
-eight_room s {m} l =
-    eight (λ s. AllBelow 10 s → m ≡ little_endian s → m < 2 ^ 60) (λ a b c d e f g h z is.
-    omega (
-      arith,
-      is,
-      z.0,
-      z.1.0,
-      z.1.1.0,
-      z.1.1.1.0,
-      z.1.1.1.1.0,
-      z.1.1.1.1.1.0,
-      z.1.1.1.1.1.1.0,
-      z.1.1.1.1.1.1.1.0,
-    )) s l
-
--- the word of a number is not the greatest word
-pub word_room : (w n : ℕ) → IsWordOf w n → w < 2 ^ 60
+-- neither the word of a number nor its bytes in the other order are the greatest word
+room : (s : List ℕ) → length s ≡ 8 → AllBelow 10 s → (little_endian s < 2 ^ 60) × (weighed 256 s < 2 ^ 60)
 unfolding weighed
-word_room w n k =
-    eight (λ s. AllBelow 10 s → w ≡ weighed 256 s → w < 2 ^ 60)
-    (λ a b c d e f g h z is.
-    omega (
-      arith,
-      is,
-      z.0,
-      z.1.0,
-      z.1.1.0,
-      z.1.1.1.0,
-      z.1.1.1.1.0,
-      z.1.1.1.1.1.0,
-      z.1.1.1.1.1.1.0,
-      z.1.1.1.1.1.1.1.0,
-    )) k.0 k.1 k.2 k.3
+room (a ∷ b ∷ c ∷ d ∷ e ∷ f ∷ g ∷ h ∷ []) l z = omega arith
+room _ l z = absurd (omega (arith, l))
+
+pub eight_room : (s : List ℕ) {m : ℕ} → length s ≡ 8 → AllBelow 10 s → m ≡ little_endian s → m < 2 ^ 60
+eight_room s l z is = rw is (room s l z).0
+
+pub word_room : (w n : ℕ) → IsWordOf w n → w < 2 ^ 60
+word_room w n k = rw k.3 (room k.0 k.1 k.2).1
 
 -- 0 is the word of 0
 pub word_zero : IsWordOf 0 0
 unfolding weighed
-word_zero = (0 ∷ 0 ∷ 0 ∷ 0 ∷ 0 ∷ 0 ∷ 0 ∷ 0 ∷ [], refl, low, omega arith, refl)
-  where
-    low : AllBelow 10 (0 ∷ 0 ∷ 0 ∷ 0 ∷ 0 ∷ 0 ∷ 0 ∷ 0 ∷ [])
-    low =
-        let z : 0 < 10 = omega arith in
-        (z, (z, (z, (z, (z, (z, (z, (z, tt))))))))
+word_zero =
+    let digits : AllBelow 10 (0 ∷ 0 ∷ 0 ∷ 0 ∷ 0 ∷ 0 ∷ 0 ∷ 0 ∷ []) = omega arith in
+    (0 ∷ 0 ∷ 0 ∷ 0 ∷ 0 ∷ 0 ∷ 0 ∷ 0 ∷ [], refl, digits, omega arith, refl)
 
 word_small : (w n : ℕ) → IsWordOf w n → n < 2 ^ 32
 word_small w n h =
-    let m = h.4 ∙ value_weighed h.0 h.1 in
-    let b = weighed_below 10 (omega arith) refl refl h.0 h.2 in
+    let m = h.4 ∙ value_weighed h.0 in
+    let b = weighed_below 10 (omega arith) h.0 h.2 in
     let p : 10 ^ length h.0 ≡ 100000000 = ap (λ k. 10 ^ k) h.1 in
     omega (arith, m, b, p)
 
 -- digits that have a word are a short number
 pub word_short : (s : List ℕ) (w : ℕ) {n : ℕ} → IsInt s → IsWordOf w (digits_value s) → n ≡ digits_value s → IsShort s n
 word_short s w int word is =
-    int_short s int is (subst (λ k. k < 2 ^ 32) (sym is) (word_small w (digits_value s) word))
+    int_short s int is (omega (arith, is, word_small w (digits_value s) word))
 
 -- the word of a number's digits has the number that reading it answers
 pub word_answer : (o : Option ℕ) (s : List ℕ) → (IsSome o → IsInt s) → IfSome o (λ w. IsWordOf w (digits_value s))
@@ -200,7 +141,7 @@ told_below w n word limit h less tells =
 
 pub all_below : (n word : ℕ) → 100000000 ≤ n → TellsBelow word n
 unfolding weighed
-all_below n word h = λ s l z w. let v = value_weighed s l in let b = weighed_below 10 (omega arith) refl refl s z in
+all_below n word h = λ s l z w. let v = value_weighed s in let b = weighed_below 10 (omega arith) s z in
     let p : 10 ^ length s ≡ 100000000 = ap (λ k. 10 ^ k) l in omega (arith, v, b, p)
 
 -- a word that has the digits of a number tells of eight digits whether they spell less
@@ -209,7 +150,7 @@ told word n h = λ s l z w.
     let is = h.3 in
     let above : weighed 256 s + 1 ≤ weighed 256 h.0 = omega (arith, is, w) in
     let o = order 1 (omega arith) s h.0 (l ∙ sym h.1) z h.2 above in
-    let m = h.4 ∙ value_weighed h.0 h.1 in let v = value_weighed s l in omega (arith, o, m, v)
+    let m = h.4 ∙ value_weighed h.0 in let v = value_weighed s in omega (arith, o, m, v)
 
 -- the digits of a number, one after another, are its word
 pub spelled : (n a b c d e f g word : ℕ) → n < 100000000 → a ≡ n / 10 → b ≡ a / 10 → c ≡ b / 10 → d ≡ c / 10
@@ -220,24 +161,14 @@ pub spelled : (n a b c d e f g word : ℕ) → n < 100000000 → a ≡ n / 10 �
 unfolding weighed
 spelled n a b c d e f g word small ia ib ic id ie if ig is =
     let t = g ∷ f % 10 ∷ e % 10 ∷ d % 10 ∷ c % 10 ∷ b % 10 ∷ a % 10 ∷ n % 10 ∷ [] in
-    let first : g < 10 = omega arith in
-    let digits : AllBelow 10 t = (
-      first,
-      (
-        omega arith,
-        (
-          omega arith,
-          (omega arith, (omega arith, (omega arith, (omega arith, (omega arith, tt))))),
-        ),
-      ),
-    ) in
+    let digits : AllBelow 10 t = omega arith in
     let as_word : word ≡ weighed 256 t = omega (arith, is) in
     let value : weighed 10 t ≡ n = omega arith in (
       t,
       refl,
       digits,
       as_word,
-      sym value ∙ sym (value_weighed t refl),
+      sym value ∙ sym (value_weighed t),
     )
 
 -- the word of digits that spell less than a count is below that of the count

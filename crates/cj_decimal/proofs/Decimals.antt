@@ -1,8 +1,8 @@
 -- The number of a spelling agrees with each class that the spelling has.
-use Rattle.cj_decimal.proofs.Common.{◌≡◌, ℕ, zero, suc, ◌+◌, ◌*◌, ◌^◌, ◌%◌, ◌<◌, ◌≤◌, ◌≢◌, List, [], ◌∷◌, ◌++◌, length, Bool, true, false, cond, Option, Some, None, Ok, Err, ℤ, pos, negsuc, ◌+ℤ◌, ◌-ℤ◌, ◌*ℤ◌, refl, sym, ap, ◌∙◌, subst, arith, inl, inr, ints, nat_tests, NotANumber, NumberRange, cond-true, cond-false, false_from_ne_true, length-append, length-replicate, Number, scaled, signed, is_in_range, whole_by, as_whole, SameValue, IsNormal, IsInRange, IsWhole, Written, value_after, digits_value, is_number, written_of, AllDigits, IsDigits, IsFrac, Spells, IsValue, SpellsNumber, IsNumberOutOfRange, Class, no_number, out_of_range, not_whole, whole, whole_answer, value_answer, whole_answer_by}
+use Rattle.cj_decimal.proofs.Common.{◌≡◌, ℕ, zero, suc, ◌+◌, ◌*◌, ◌^◌, ◌%◌, ◌<◌, ◌≤◌, ◌≢◌, List, [], ◌∷◌, ◌++◌, length, Bool, true, false, cond, Option, Some, None, Ok, Err, ℤ, pos, negsuc, ◌+ℤ◌, ◌-ℤ◌, ◌*ℤ◌, refl, sym, ap, ◌∙◌, subst, arith, pow-suc, inl, inr, ints, nat_tests, NotANumber, NumberRange, cond-true, cond-false, false_from_ne_true, length-append, length-replicate, Number, scaled, signed, is_in_range, whole_by, as_whole, SameValue, IsNormal, IsInRange, IsWhole, Written, value_after, digits_value, is_number, written_of, AllDigits, IsDigits, IsFrac, Spells, IsValue, SpellsNumber, IsNumberOutOfRange, Class, no_number, out_of_range, not_whole, whole, whole_answer, value_answer, whole_answer_by}
+use Rattle.std.proofs.lemmas.Bool.{cond_both, eqb-false, eqb-true}
 use Rattle.std.specs.Prelude.{nat_eq, ◌-◌, replicate}
 use Rattle.cj_decimal.specs.Meaning.Decimal.{put_before, without_zeros, number_after, normal_of, ranged, decimal_of}
-use Rattle.cj_decimal.proofs.TenPowers.{ten_pow_suc}
 use Rattle.cj_decimal.proofs.Grammar.{all_of, int_digits, spells_test, test_spells}
 use Rattle.cj_decimal.proofs.Parts.{value_append}
 use Rattle.cj_decimal.proofs.Normal.{zero_same, zero_normal, trimmed_same, trimmed_normal}
@@ -29,15 +29,10 @@ record IsCut (s kept : List ℕ) : Type 0 where
   ends : EndsWell kept
 
 cut_before : (b : ℕ) {s : List ℕ} (kept : List ℕ) → IsCut s kept → IsCut (b ∷ s) (put_before b kept)
-cut_before b {s} [] h =
-    elim (nat_eq b 48) as (λ t. nat_eq b 48 ≡ t → IsCut (b ∷ s) (cond t [] (b ∷ []))) [
-      | true ↦ λ e.
-          let same : b ≡ 48 = grind (arith, nat_tests) in
-          record { many = suc h.many; joined = ap (λ x. x ∷ s) same ∙ ap (λ r. 48 ∷ r) h.joined; ends = tt }
-      | false ↦ λ e.
-          let other : b ≢ 48 = grind (arith, nat_tests) in
-          record { many = h.many; joined = ap (λ r. b ∷ r) h.joined; ends = other }
-    ] refl
+cut_before b {s} [] h = cond_both (nat_eq b 48) [] (b ∷ []) (IsCut (b ∷ s))
+    (λ e. let joined : b ∷ s ≡ 48 ∷ zeros h.many = rw (eqb-true b 48 e) (ap (λ r. 48 ∷ r) h.joined) in
+    record { many = suc h.many; joined = joined; ends = tt })
+    (λ e. record { many = h.many; joined = ap (λ r. b ∷ r) h.joined; ends = eqb-false b 48 e })
 cut_before b (d ∷ r) h = record { many = h.many; joined = ap (λ r. b ∷ r) h.joined; ends = h.ends }
 
 cut : (s : List ℕ) → IsCut s (without_zeros s)
@@ -47,13 +42,9 @@ cut (b ∷ s) = cut_before b (without_zeros s) (cut s)
 zeros_after : (n k : ℕ) → value_after n (zeros k) ≡ n * 10 ^ k
 zeros_after n zero = omega arith
 zeros_after n (suc k) =
-    let more : 10 ^ suc k ≡ 10 * 10 ^ k = ap (λ j. 10 ^ j) (plus k) ∙ ten_pow_suc k in
-    zeros_after (10 * n + (48 - 48)) k ∙ regroup n (10 ^ k) ∙ sym (ap (λ p. n * p) more)
+    zeros_after (10 * n + (48 - 48)) k ∙ regroup n (10 ^ k) ∙ sym (ap (λ p. n * p) (pow-suc 10 k))
   where
-    plus : (k : ℕ) → suc k ≡ k + 1
-    plus k = omega arith
-
-    regroup : (n p : ℕ) → (10 * n + (48 - 48)) * p ≡ n * (10 * p)
+    regroup : (n p : ℕ) → (10 * n + (48 - 48)) * p ≡ n * (p * 10)
     regroup n p = omega arith
 
 digits_left : (xs ys : List ℕ) → AllDigits (xs ++ ys) → AllDigits xs

@@ -1,122 +1,60 @@
 -- Numbers of at most eight digits, read by one word of eight bytes.
-use Rattle.cj_decimal.proofs.Common.{◌≡◌, ℕ, zero, suc, and_parts, ◌+◌, ◌-◌, ◌*◌, ◌/◌, ◌%◌, ◌^◌, ◌<◌, ◌≤◌, List, [], ◌∷◌, length, take, drop, map, Bool, true, false, ◌&&◌, ◌||◌, nat_le, nat_eq, refl, sym, ap, subst, arith, ◌∙◌, inl, inr, not, get_or, bit_and, bit_xor, and_block, xor_block, xor_lt, pow-add, shr-shr, shr_le, and_mask, nat_tests, cases_lt, IsShort, after_frac, digits_front, digits_rest, begins, begins_digit, body, is_exp, is_frac, is_int, written_of, digits_value, value_after, AllDigits, IsDigit, IsInt, SpellsNumber, IsFewDigits, IsNumberIfBegun}
+use Rattle.cj_decimal.proofs.Common.{◌≡◌, ℕ, zero, suc, and_parts, ◌+◌, ◌-◌, ◌*◌, ◌/◌, ◌%◌, ◌^◌, ◌<◌, ◌≤◌, List, [], ◌∷◌, length, length-drop, length-map, slice_range, take, drop, map, Bool, true, false, ◌&&◌, ◌||◌, nat_le, nat_eq, refl, sym, ap, subst, arith, ◌∙◌, inl, inr, not, get_or, ◌⊎◌, IsTrue, bit_and, bit_xor, and_block, xor_block, xor_lt, pow-add, pow-suc, shr-shr, and_mask, nat_tests, IsShort, after_frac, digits_front, digits_rest, begins, body, is_exp, is_frac, is_int, written_of, digits_value, value_after, AllDigits, IsDigit, IsInt, SpellsNumber, IsFewDigits, IsNumberIfBegun}
 use Rattle.std.proofs.lemmas.Nat.Bits.{and_high_mask}
-use Rattle.std.specs.Prelude.{slice_range, ◌⊎◌, IsTrue}
-use Rattle.std.proofs.lemmas.List.{drop-take, drop-drop, get_or-take, get_or-drop, length-drop, length-take-le}
+use Rattle.std.specs.Prelude.{replicate}
+use Rattle.std.proofs.lemmas.Bool.{agree_below_at, eq-eqb, ne_eqb, true_from_ne_false}
+use Rattle.std.proofs.lemmas.List.{drop-take, drop-drop, get_or-take, get_or-drop, length-take-le}
 use Rattle.cj_decimal.proofs.Grammar.{digit_begins, digit_begins_alone, front_all, front_alone, front_rest, int_digits, int_from_test, int_is_digits, minus_there, no_minus, spells_test, test_spells}
 use Rattle.cj_decimal.proofs.Parts.{not_int}
-use Rattle.cj_decimal.proofs.Wholes.{int_alone_reads}
 use Rattle.cj_decimal.proofs.NumberBytes.{NumberBytes, number_bytes}
-use Rattle.cj_decimal.specs.Word.{little_endian, AllBelow}
-
-copies : ℕ → ℕ → List ℕ
-copies zero c = []
-copies (suc n) c = c ∷ copies n c
+use Rattle.cj_decimal.specs.Word.{little_endian, AllBelow, weighed}
 
 -- ---- bits, byte by byte
 
-and_same : (c : ℕ) → c < 256 → (s : List ℕ) → AllBelow 256 s
-    → bit_and (little_endian s) (little_endian (copies (length s) c)) ≡ little_endian (map (λ b. bit_and b c) s)
-unfolding copies
-and_same c l [] h = refl
-and_same c l (b ∷ s) h =
-    let w = little_endian s in let v = little_endian (copies (length s) c) in
+-- what goes over blocks of bits goes over bytes
+by_bytes : (op : ℕ → ℕ → ℕ) → op 0 0 ≡ 0 → ((a b r t : ℕ) → r < 2 ^ 8 → t < 2 ^ 8
+    → op (a * 2 ^ 8 + r) (b * 2 ^ 8 + t) ≡ op a b * 2 ^ 8 + op r t) → (c : ℕ) → c < 256 → (s : List ℕ) → AllBelow 256 s
+    → op (little_endian s) (little_endian (replicate (length s) c)) ≡ little_endian (map (λ b. op b c) s)
+by_bytes op none block c l [] h = none
+by_bytes op none block c l (b ∷ s) h =
+    let w = little_endian s in let v = little_endian (replicate (length s) c) in
     let p : b + 256 * w ≡ w * 2 ^ 8 + b = omega arith in
     let q : c + 256 * v ≡ v * 2 ^ 8 + c = omega arith in
-    let block = and_block 8 w v b c h.0 l in
-    let rest = and_same c l s h.1 in
-    ap (λ n. bit_and n (c + 256 * v)) p ∙ ap (bit_and (w * 2 ^ 8 + b)) q ∙ omega (arith, block, rest)
+    let first = block w v b c h.0 l in
+    let rest = by_bytes op none block c l s h.1 in
+    ap (λ n. op n (c + 256 * v)) p ∙ ap (op (w * 2 ^ 8 + b)) q ∙ omega (arith, first, rest)
 
-xor_same : (c : ℕ) → c < 256 → (s : List ℕ) → AllBelow 256 s
-    → bit_xor (little_endian s) (little_endian (copies (length s) c)) ≡ little_endian (map (λ b. bit_xor b c) s)
-unfolding copies
-xor_same c l [] h = refl
-xor_same c l (b ∷ s) h =
-    let w = little_endian s in let v = little_endian (copies (length s) c) in
-    let p : b + 256 * w ≡ w * 2 ^ 8 + b = omega arith in
-    let q : c + 256 * v ≡ v * 2 ^ 8 + c = omega arith in
-    let block = xor_block 8 w v b c h.0 l in
-    let rest = xor_same c l s h.1 in
-    ap (λ n. bit_xor n (c + 256 * v)) p ∙ ap (bit_xor (w * 2 ^ 8 + b)) q ∙ omega (arith, block, rest)
+high_half : (b : ℕ) → b < 256 → bit_and b 240 ≡ b / 16 * 16
+high_half b l = and_high_mask 8 4 (omega arith) b l
 
-high_of : (b : ℕ) → b < 256 → bit_and b 240 ≡ 0 → b < 16
-high_of b l h = let e : bit_and b (2 ^ 8 - 2 ^ 4) ≡ b / 2 ^ 4 * 2 ^ 4 = and_high_mask 8 4 (omega arith) b l in
-    omega (arith, e, h)
+high_halves : (s : List ℕ) → length s ≡ 8 → AllBelow 256 s
+    → bit_and (little_endian s) 0xf0f0f0f0f0f0f0f0 ≡ little_endian (map (λ b. bit_and b 240) s)
+high_halves s e h = ap (λ n. bit_and (little_endian s) (little_endian (replicate n 240))) (sym e)
+    ∙ by_bytes bit_and refl (and_block 8) 240 (omega arith) s h
 
 all_high : (s : List ℕ) → AllBelow 256 s → little_endian (map (λ b. bit_and b 240) s) ≡ 0 → AllBelow 16 s
 all_high [] h z = tt
-all_high (b ∷ s) h z = (high_of b h.0 (omega (arith, z)), all_high s h.1 (omega (arith, z)))
-
--- the high half of each byte is 0
-nibbles : (s : List ℕ) → length s ≡ 8 → AllBelow 256 s → bit_and (little_endian s) 0xf0f0f0f0f0f0f0f0 ≡ 0
-    → AllBelow 16 s
-unfolding copies
-nibbles s e h z =
-    let high : little_endian (copies 8 240) ≡ 0xf0f0f0f0f0f0f0f0 = refl in
-    let same = and_same 240 (omega arith) s h in
-    all_high s h (sym same ∙ ap (λ n. bit_and (little_endian s) (little_endian (copies n 240))) e
-    ∙ ap (bit_and (little_endian s)) high ∙ z)
-
-length_map : (f : ℕ → ℕ) (s : List ℕ) → length (map f s) ≡ length s
-length_map f [] = refl
-length_map f (b ∷ s) = ap suc (length_map f s)
+all_high (b ∷ s) h z = (omega (arith, z, high_half b h.0), all_high s h.1 (omega (arith, z)))
 
 -- ---- one byte
 
-all_to : ℕ → (ℕ → Bool) → Bool
-all_to zero p = true
-all_to (suc n) p = p n && all_to n p
+-- what a byte is without the bits of `0`: below 10 if it is a digit and only then, and below 16 only from `-` to `?`
+abbrev is_right : ℕ → ℕ → Bool
+is_right b x = (not (nat_le x 9) || nat_eq (x + 48) b)
+    && ((not (nat_le x 15) || (nat_le 45 b && nat_le b 63)) && (not (nat_le 48 b && nat_le b 57) || nat_le x 9))
 
-and_left : (a b : Bool) → a && b ≡ true → a ≡ true
-and_left a b h = grind (arith)
+right : (b : ℕ) → b < 256 → is_right b (bit_xor b 48) ≡ true
+right b l = agree_below_at (λ b. is_right b (bit_xor b 48)) (λ b. true) 256 b refl l
 
-and_right : (a b : Bool) → a && b ≡ true → b ≡ true
-and_right a b h = grind (arith)
+module _ (b x : ℕ) (test : is_right b x ≡ true) where
+  back : x < 10 → x + 48 ≡ b
+  back h = grind (arith, nat_tests)
 
-of_all : (n : ℕ) (p : ℕ → Bool) → all_to n p ≡ true → (k : ℕ) → k < n → p k ≡ true
-unfolding all_to
-of_all zero p h k l = absurd (omega arith)
-of_all (suc n) p h k l =
-    elim (cases_lt k n) [
-      | inl below ↦ of_all n p (and_right (p n) (all_to n p) h) k below
-      | inr above ↦
-          let e : n ≡ k = omega arith in subst (λ j. p j ≡ true) e (and_left (p n) (all_to n p) h)
-    ]
+  begun : x < 16 → (45 ≤ b) × (b < 64)
+  begun h = (grind (arith, nat_tests), grind (arith, nat_tests))
 
-is_back : ℕ → Bool
-is_back b = not (nat_le (bit_xor b 48) 9) || nat_eq (bit_xor b 48 + 48) b
-
-all_back : all_to 256 is_back ≡ true
-unfolding all_to is_back
-all_back = refl
-
--- what is below 10 without the bits of `0` is a digit
-back : (b : ℕ) → b < 256 → bit_xor b 48 < 10 → bit_xor b 48 + 48 ≡ b
-unfolding is_back
-back b l h = let t : not (nat_le (bit_xor b 48) 9) || nat_eq (bit_xor b 48 + 48) b ≡ true =
-    of_all 256 is_back all_back b l in from (bit_xor b 48) b h t
-  where
-    from : (x b : ℕ) → x < 10 → not (nat_le x 9) || nat_eq (x + 48) b ≡ true → x + 48 ≡ b
-    from x b h t = grind (arith, nat_tests)
-
-is_begun : ℕ → Bool
-is_begun b = not (nat_le (bit_xor b 48) 15) || (nat_le 45 b && nat_le b 63)
-
-all_begun : all_to 256 is_begun ≡ true
-unfolding all_to is_begun
-all_begun = refl
-
--- what is below 16 without the bits of `0` is from `-` to `?`
-begun : (b : ℕ) → b < 256 → bit_xor b 48 < 16 → (45 ≤ b) × (b < 64)
-unfolding is_begun
-begun b l h = let t : not (nat_le (bit_xor b 48) 15) || (nat_le 45 b && nat_le b 63) ≡ true =
-    of_all 256 is_begun all_begun b l in (low (bit_xor b 48) b h t, high (bit_xor b 48) b h t)
-  where
-    low : (x b : ℕ) → x < 16 → not (nat_le x 15) || (nat_le 45 b && nat_le b 63) ≡ true → 45 ≤ b
-    low x b h t = grind (arith, nat_tests)
-
-    high : (x b : ℕ) → x < 16 → not (nat_le x 15) || (nat_le 45 b && nat_le b 63) ≡ true → b < 64
-    high x b h t = grind (arith, nat_tests)
+  digit_small : 48 ≤ b → b ≤ 57 → x < 10
+  digit_small low high = grind (arith, nat_tests)
 
 -- ---- the bytes before a number are cleared
 
@@ -128,43 +66,34 @@ clear (suc j) (b ∷ s) = 0 ∷ clear j s
 times_shifted : (x p : ℕ) → x * (2 ^ 8 * p) ≡ 256 * (x * p)
 times_shifted x p = grind (arith)
 
-nothing_shifted : (k : ℕ) → 0 / 2 ^ k * 2 ^ k ≡ 0
-nothing_shifted k = let h = shr_le 0 k in let e : 0 / 2 ^ k ≡ 0 = omega arith in ap (λ n. n * 2 ^ k) e ∙ none (2 ^ k)
-  where
-    none : (p : ℕ) → 0 * p ≡ 0
-    none p = grind (arith)
-
-clear_word : (j : ℕ) (s : List ℕ) → AllBelow 256 s → little_endian s / 2 ^ (8 * j) * 2 ^ (8 * j)
-    ≡ little_endian (clear j s)
+clear_word : (j : ℕ) (s : List ℕ) → j ≤ length s → AllBelow 256 s
+    → little_endian s / 2 ^ (8 * j) * 2 ^ (8 * j) ≡ little_endian (clear j s)
 unfolding clear
-clear_word zero s h = omega arith
-clear_word (suc j) [] h = nothing_shifted (8 * suc j)
-clear_word (suc j) (b ∷ s) h =
+clear_word zero s within h = omega arith
+clear_word (suc j) [] within h = absurd (omega (arith, within))
+clear_word (suc j) (b ∷ s) within h =
     let n = b + 256 * little_endian s in
     let k : 8 * suc j ≡ 8 + 8 * j = omega arith in
     let first : n / 2 ^ 8 ≡ little_endian s = omega (arith, h.0) in
-    let rest = clear_word j s h.1 in
+    let rest = clear_word j s (omega (arith, within)) h.1 in
     ap (λ i. n / 2 ^ i * 2 ^ i) k
     ∙ ap (λ q. q * 2 ^ (8 + 8 * j)) (sym (shr-shr n 8 (8 * j)) ∙ ap (λ q. q / 2 ^ (8 * j)) first)
     ∙ ap (λ p. little_endian s / 2 ^ (8 * j) * p) (pow-add 2 8 (8 * j))
     ∙ times_shifted (little_endian s / 2 ^ (8 * j)) (2 ^ (8 * j))
     ∙ omega (arith, rest)
 
--- a list of eight
-pub eight : (P : List ℕ → Type 0) → ((a b c d e f g h : ℕ) → P (a ∷ b ∷ c ∷ d ∷ e ∷ f ∷ g ∷ h ∷ [])) → (s : List ℕ)
-    → length s ≡ 8 → P s
-eight P each (a ∷ b ∷ c ∷ d ∷ e ∷ f ∷ g ∷ h ∷ []) l = each a b c d e f g h
-eight _ each _ l = absurd (omega (arith, l))
-
 word_below : (s : List ℕ) → length s ≡ 8 → AllBelow 256 s → little_endian s < 2 ^ 64
-word_below s l =
-    eight (λ t. AllBelow 256 t → little_endian t < 2 ^ 64)
-    (λ a b c d e f g h z. omega
-    (arith, z.0, z.1.0, z.1.1.0, z.1.1.1.0, z.1.1.1.1.0, z.1.1.1.1.1.0, z.1.1.1.1.1.1.0, z.1.1.1.1.1.1.1.0)) s l
+word_below s l h = rw l at (below s h)
+  where
+    below : (s : List ℕ) → AllBelow 256 s → little_endian s < 256 ^ length s
+    below [] h = omega arith
+    below (b ∷ s) h = omega (arith, h.0, below s h.1, pow-suc 256 (length s))
 
 masked : (j : ℕ) (s : List ℕ) → j ≤ 8 → length s ≡ 8 → AllBelow 256 s
     → bit_and (little_endian s) (2 ^ 64 - 2 ^ (8 * j)) ≡ little_endian (clear j s)
-masked j s k l h = and_high_mask 64 (8 * j) (omega arith) (little_endian s) (word_below s l h) ∙ clear_word j s h
+masked j s k l h =
+    and_high_mask 64 (8 * j) (omega arith) (little_endian s) (word_below s l h)
+    ∙ clear_word j s (omega (arith, k, l)) h
 
 -- ---- the number that eight digits spell
 
@@ -180,72 +109,63 @@ two_bytes n =
     omega (arith, all, block, high, low)
 
 -- the number of some pairs of digits, of which each second one counts
-of_pairs : {n : ℕ} (p q r s t u v w : ℕ)
-    → n ≡ p + 256 * (q + 256 * (r + 256 * (s + 256 * (t + 256 * (u + 256 * (v + 256 * w)))))) → p < 100 → q < 100
-    → r < 100 → s < 100 → t < 100 → u < 100 → v < 100 → w < 100
+of_pairs : {n : ℕ} (p q r s t u v w : ℕ) → n ≡ little_endian (p ∷ q ∷ r ∷ s ∷ t ∷ u ∷ v ∷ w ∷ [])
+    → AllBelow 100 (p ∷ q ∷ r ∷ s ∷ t ∷ u ∷ v ∷ w ∷ [])
     → (bit_and n 0x000000ff000000ff * 4294967296000100 % 2 ^ 64
-    + bit_and (n / 2 ^ 16) 0x000000ff000000ff * 42949672960001 % 2 ^ 64) % 2 ^ 64 / 2 ^ 32 ≡ p * 1000000 + r * 10000
-    + t * 100 + v
-of_pairs {n} p q r s t u v w e lp lq lr ls lt lu lv lw =
+    + bit_and (n / 2 ^ 16) 0x000000ff000000ff * 42949672960001 % 2 ^ 64) % 2 ^ 64 / 2 ^ 32
+    ≡ p * 1000000 + r * 10000 + t * 100 + v
+of_pairs {n} p q r s t u v w e small =
     let first = two_bytes n in
     let second = two_bytes (n / 2 ^ 16) in
     let p_is : n % 256 ≡ p = omega arith in
     let t_is : n / 2 ^ 32 % 256 ≡ t = omega arith in
     let r_is : n / 2 ^ 16 % 256 ≡ r = omega arith in
     let v_is : n / 2 ^ 16 / 2 ^ 32 % 256 ≡ v = omega arith in
-    let x : bit_and n 0x000000ff000000ff ≡ t * 2 ^ 32 + p = omega (arith, first, p_is, t_is) in
-    let y : bit_and (n / 2 ^ 16) 0x000000ff000000ff ≡ v * 2 ^ 32 + r = omega (arith, second, r_is, v_is) in
-    products (bit_and n 0x000000ff000000ff) (bit_and (n / 2 ^ 16) 0x000000ff000000ff) p r t v x y lp lr lt lv
+    products _ _ p r t v (omega (arith, first, p_is, t_is)) (omega (arith, second, r_is, v_is))
+    (omega arith) (omega arith) (omega arith) (omega arith)
   where
     products : (x y p r t v : ℕ) → x ≡ t * 2 ^ 32 + p → y ≡ v * 2 ^ 32 + r → p < 100 → r < 100 → t < 100 → v < 100
-        → (x * 4294967296000100 % 2 ^ 64 + y * 42949672960001 % 2 ^ 64) % 2 ^ 64 / 2 ^ 32 ≡ p * 1000000 + r * 10000
-        + t * 100 + v
+        → (x * 4294967296000100 % 2 ^ 64 + y * 42949672960001 % 2 ^ 64) % 2 ^ 64 / 2 ^ 32
+        ≡ p * 1000000 + r * 10000 + t * 100 + v
     products x y p r t v ex ey lp lr lt lv = omega arith
 
-unfoldable pub horner : ℕ → List ℕ → ℕ
-horner n [] = n
-horner n (d ∷ s) = horner (10 * n + d) s
+value_after_weighed : (n : ℕ) (s : List ℕ)
+    → value_after n (map (λ d. d + 48) s) ≡ n * 10 ^ length s + weighed 10 s
+unfolding weighed
+value_after_weighed n [] = omega arith
+value_after_weighed n (d ∷ s) =
+    let e : 10 * n + (d + 48 - 48) ≡ 10 * n + d = omega arith in
+    ap (λ m. value_after m (map (λ c. c + 48) s)) e ∙ value_after_weighed (10 * n + d) s
+    ∙ regroup n d (10 ^ length s) (weighed 10 s)
+    ∙ ap (λ p. n * p + (10 ^ length s * d + weighed 10 s)) (sym (pow-suc 10 (length s)))
+  where
+    regroup : (n d p w : ℕ) → (10 * n + d) * p + w ≡ n * (p * 10) + (p * d + w)
+    regroup n d p w = omega arith
 
-pub spelled_value : (n : ℕ) (s : List ℕ) → value_after n (map (λ d. d + 48) s) ≡ horner n s
-unfolding horner
-spelled_value n [] = refl
-spelled_value n (d ∷ s) = let e : 10 * n + (d + 48 - 48) ≡ 10 * n + d = omega arith in
-    ap (λ m. value_after m (map (λ c. c + 48) s)) e ∙ spelled_value (10 * n + d) s
+pub value_weighed : (s : List ℕ) → digits_value (map (λ d. d + 48) s) ≡ weighed 10 s
+value_weighed s = value_after_weighed 0 s ∙ omega arith
 
 pub value_eight : (s : List ℕ) → length s ≡ 8 → AllBelow 10 s → (w n : ℕ) → w ≡ little_endian s
     → n ≡ (bit_and (w * 10 + w / 2 ^ 8) 0x000000ff000000ff * 4294967296000100 % 2 ^ 64
     + bit_and ((w * 10 + w / 2 ^ 8) / 2 ^ 16) 0x000000ff000000ff * 42949672960001 % 2 ^ 64) % 2 ^ 64 / 2 ^ 32
     → n ≡ digits_value (map (λ d. d + 48) s)
-unfolding horner
-value_eight s l = eight P each s l
+unfolding weighed
+value_eight (a ∷ b ∷ c ∷ d ∷ e ∷ f ∷ g ∷ h ∷ []) l z w n is answer =
+    let s = a ∷ b ∷ c ∷ d ∷ e ∷ f ∷ g ∷ h ∷ [] in
+    let value = of_pairs (10 * a + b) (10 * b + c) (10 * c + d) (10 * d + e) (10 * e + f) (10 * f + g) (10 * g + h)
+    (10 * h) (pairs a b c d e f g h w z.0 is) (omega arith) in
+    answer ∙ value ∙ sym (value_weighed s ∙ sum a b c d e f g h)
   where
-    P : List ℕ → Type 0
-    P s = AllBelow 10 s → (w n : ℕ) → w ≡ little_endian s
-        → n ≡ (bit_and (w * 10 + w / 2 ^ 8) 0x000000ff000000ff * 4294967296000100 % 2 ^ 64
-        + bit_and ((w * 10 + w / 2 ^ 8) / 2 ^ 16) 0x000000ff000000ff * 42949672960001 % 2 ^ 64) % 2 ^ 64 / 2 ^ 32
-        → n ≡ digits_value (map (λ d. d + 48) s)
-
-    pairs : (a b c d e f g h w : ℕ) → a < 10
-        → w ≡ a + 256 * (b + 256 * (c + 256 * (d + 256 * (e + 256 * (f + 256 * (g + 256 * (h + 256 * 0)))))))
-        → w * 10 + w / 2 ^ 8 ≡ 10 * a + b
-        + 256 * (10 * b + c + 256 * (10 * c + d
-        + 256 * (10 * d + e + 256 * (10 * e + f + 256 * (10 * f + g + 256 * (10 * g + h + 256 * (10 * h)))))))
+    pairs : (a b c d e f g h w : ℕ) → a < 10 → w ≡ little_endian (a ∷ b ∷ c ∷ d ∷ e ∷ f ∷ g ∷ h ∷ [])
+        → w * 10 + w / 2 ^ 8 ≡ little_endian ((10 * a + b) ∷ (10 * b + c) ∷ (10 * c + d) ∷ (10 * d + e) ∷ (10 * e + f)
+        ∷ (10 * f + g) ∷ (10 * g + h) ∷ (10 * h) ∷ [])
     pairs a b c d e f g h w la is =
-        let r : w / 2 ^ 8 ≡ b + 256 * (c + 256 * (d + 256 * (e + 256 * (f + 256 * (g + 256 * (h + 256 * 0)))))) =
-        omega arith in omega arith
+        let r : w / 2 ^ 8 ≡ little_endian (b ∷ c ∷ d ∷ e ∷ f ∷ g ∷ h ∷ []) = omega arith in omega arith
 
-    sum : (a b c d e f g h n : ℕ) → n ≡ (10 * a + b) * 1000000 + (10 * c + d) * 10000 + (10 * e + f) * 100
-        + (10 * g + h) → n ≡ horner 0 (a ∷ b ∷ c ∷ d ∷ e ∷ f ∷ g ∷ h ∷ [])
-    sum a b c d e f g h n is = omega arith
-
-    each : (a b c d e f g h : ℕ) → P (a ∷ b ∷ c ∷ d ∷ e ∷ f ∷ g ∷ h ∷ [])
-    each a b c d e f g h z w n is answer =
-        let la = z.0 in let lb = z.1.0 in let lc = z.1.1.0 in let ld = z.1.1.1.0 in let le = z.1.1.1.1.0 in
-        let lf = z.1.1.1.1.1.0 in let lg = z.1.1.1.1.1.1.0 in let lh = z.1.1.1.1.1.1.1.0 in
-        let value = of_pairs (10 * a + b) (10 * b + c) (10 * c + d) (10 * d + e) (10 * e + f)
-        (10 * f + g) (10 * g + h) (10 * h) (pairs a b c d e f g h w la is) (omega arith) (omega arith) (omega arith)
-        (omega arith) (omega arith) (omega arith) (omega arith) (omega arith) in
-        sum a b c d e f g h n (answer ∙ value) ∙ sym (spelled_value 0 (a ∷ b ∷ c ∷ d ∷ e ∷ f ∷ g ∷ h ∷ []))
+    sum : (a b c d e f g h : ℕ) → weighed 10 (a ∷ b ∷ c ∷ d ∷ e ∷ f ∷ g ∷ h ∷ [])
+        ≡ (10 * a + b) * 1000000 + (10 * c + d) * 10000 + (10 * e + f) * 100 + (10 * g + h)
+    sum a b c d e f g h = omega arith
+value_eight _ l z w n is answer = absurd (omega (arith, l))
 
 -- ---- the digits at the end of eight bytes
 
@@ -274,12 +194,9 @@ unfolding without_zeros
 spelled [] h z = (tt, refl)
 spelled (b ∷ s) h z =
     let rest = spelled s h.1 z.1 in
-    let e = back b h.0 z.0 in
-    let l = z.0 in (
-      (((omega arith), (omega arith)), rest.0),
-      ap (λ c. c ∷ map (λ d. d + 48) (without_zeros s)) e
-          ∙ ap (λ t. b ∷ t) rest.1,
-    )
+    let e = back b _ (right b h.0) z.0 in
+    let l = z.0 in
+    (((omega arith, omega arith), rest.0), rw e (ap (λ t. b ∷ t) rest.1))
 
 cleared : (j : ℕ) (s : List ℕ) → AllBelow 256 s → AllBelow 10 (clear j (without_zeros s)) → AllDigits (drop j s)
     × (digits_value (map (λ d. d + 48) (clear j (without_zeros s))) ≡ digits_value (drop j s))
@@ -290,30 +207,15 @@ cleared (suc j) (b ∷ s) h z = cleared j s h.1 z.1
 
 -- ---- and back: digits pass the test
 
-is_small : ℕ → Bool
-is_small b = not (nat_le 48 b && nat_le b 57) || nat_le (bit_xor b 48) 9
-
-all_digits_small : all_to 256 is_small ≡ true
-unfolding all_to is_small
-all_digits_small = refl
-
-digit_small : (b : ℕ) → 48 ≤ b → b ≤ 57 → bit_xor b 48 < 10
-unfolding is_small
-digit_small b low high = let t : not (nat_le 48 b && nat_le b 57) || nat_le (bit_xor b 48) 9 ≡ true =
-    of_all 256 is_small all_digits_small b (omega arith) in from (bit_xor b 48) b low high t
-  where
-    from : (x b : ℕ) → 48 ≤ b → b ≤ 57 → not (nat_le 48 b && nat_le b 57) || nat_le x 9 ≡ true → x < 10
-    from x b low high t = grind (arith, nat_tests)
-
 digits_small : (j : ℕ) (s : List ℕ) → AllDigits (drop j s) → AllBelow 10 (clear j (without_zeros s))
 unfolding clear without_zeros
-digits_small zero (b ∷ s) d = (digit_small b d.0.0 d.0.1, digits_small zero s d.1)
+digits_small zero (b ∷ s) d = (digit_small b _ (right b (omega (arith, d.0))) d.0.0 d.0.1, digits_small zero s d.1)
 digits_small (suc j) (b ∷ s) d = (omega arith, digits_small j s d)
 digits_small _ _ d = tt
 
 -- of the bytes in a number of JSON those below 16 are digits
 low_digit : (b : ℕ) → IsDigit b ⊎ (16 ≤ bit_xor b 48) → bit_xor b 48 < 16 → bit_xor b 48 < 10
-low_digit b (inl digit) low = digit_small b digit.0 digit.1
+low_digit b (inl digit) low = digit_small b _ (right b (omega (arith, digit))) digit.0 digit.1
 low_digit b (inr high) low = absurd (omega (arith, high, low))
 
 low_digits : (j : ℕ) (s : List ℕ) → NumberBytes (drop j s) → AllBelow 16 (clear j (without_zeros s))
@@ -327,28 +229,17 @@ low_digits _ _ h z = tt
 first_begun : (j : ℕ) (s : List ℕ) → j < length s → AllBelow 256 s → AllBelow 16 (clear j (without_zeros s))
     → (45 ≤ get_or (drop j s) 0 0) × (get_or (drop j s) 0 0 < 64)
 unfolding clear without_zeros
-first_begun zero (b ∷ s) l h z = begun b h.0 z.0
+first_begun zero (b ∷ s) l h z = begun b _ (right b h.0) z.0
 first_begun (suc j) (b ∷ s) l h z = first_begun j s (omega (arith, l)) h.1 z.1
 first_begun _ _ l h z = absurd (omega (arith, l))
 
-low_of : (b : ℕ) → b < 16 → bit_and b 240 ≡ 0
-low_of b l = let e : bit_and b (2 ^ 8 - 2 ^ 4) ≡ b / 2 ^ 4 * 2 ^ 4 = and_high_mask 8 4 (omega arith) b (omega arith) in
-    omega (arith, e)
-
 all_low : (s : List ℕ) → AllBelow 16 s → little_endian (map (λ b. bit_and b 240) s) ≡ 0
 all_low [] h = refl
-all_low (b ∷ s) h = let first = low_of b h.0 in let rest = all_low s h.1 in omega (arith, first, rest)
+all_low (b ∷ s) h = omega (arith, h.0, high_half b (omega (arith, h.0)), all_low s h.1)
 
 below_more : (m n : ℕ) → m ≤ n → (s : List ℕ) → AllBelow m s → AllBelow n s
 below_more m n l [] h = tt
 below_more m n l (b ∷ s) h = (omega (arith, h.0), below_more m n l s h.1)
-
-no_nibbles : (s : List ℕ) → length s ≡ 8 → AllBelow 16 s → bit_and (little_endian s) 0xf0f0f0f0f0f0f0f0 ≡ 0
-unfolding copies
-no_nibbles s e h =
-    let high : little_endian (copies 8 240) ≡ 0xf0f0f0f0f0f0f0f0 = refl in
-    let same = and_same 240 (omega arith) s (below_more 16 256 (omega arith) s h) in
-    ap (bit_and (little_endian s)) (sym high ∙ ap (λ n. little_endian (copies n 240)) (sym e)) ∙ same ∙ all_low s h
 
 -- the word that is tested, and what its test says of the bytes
 module _ (j : ℕ) (s : List ℕ) {w : ℕ} (m : ℕ) (lj : j ≤ 8) (ls : length s ≡ 8) (h : AllBelow 256 s)
@@ -356,19 +247,18 @@ module _ (j : ℕ) (s : List ℕ) {w : ℕ} (m : ℕ) (lj : j ≤ 8) (ls : lengt
     (word : m ≡ bit_and (bit_xor w 0x3030303030303030) (2 ^ 64 - 2 ^ (8 * j))) where
   tested_length : length (clear j (without_zeros s)) ≡ 8
   unfolding without_zeros
-  tested_length = length_clear j (without_zeros s) ∙ length_map (λ b. bit_xor b 48) s ∙ ls
+  tested_length = length_clear j (without_zeros s) ∙ length-map s (λ b. bit_xor b 48) ∙ ls
 
   tested : m ≡ little_endian (clear j (without_zeros s))
-  unfolding copies without_zeros
+  unfolding without_zeros
   tested =
       let xs = without_zeros s in
-      let zeros : little_endian (copies 8 48) ≡ 0x3030303030303030 = refl in
       let same : bit_xor (little_endian s) 0x3030303030303030 ≡ little_endian xs =
-      ap (bit_xor (little_endian s)) (sym zeros ∙ ap (λ k. little_endian (copies k 48)) (sym ls))
-      ∙ xor_same 48 (omega arith) s h in
+      ap (λ n. bit_xor (little_endian s) (little_endian (replicate n 48))) (sym ls)
+      ∙ by_bytes bit_xor refl (xor_block 8) 48 (omega arith) s h in
       word ∙ ap (λ v. bit_and (bit_xor v 0x3030303030303030) (2 ^ 64 - 2 ^ (8 * j))) is
       ∙ ap (λ v. bit_and v (2 ^ 64 - 2 ^ (8 * j))) same
-      ∙ masked j xs lj (length_map (λ b. bit_xor b 48) s ∙ ls) (xor_below s h)
+      ∙ masked j xs lj (length-map s (λ b. bit_xor b 48) ∙ ls) (xor_below s h)
 
   -- where each byte of the word is below 16: the eight digits of the word, and those that stand at the end of eight
   -- bytes, which are a number if begun as one
@@ -428,37 +318,18 @@ end_of_eight line count stop few room =
     ∙ ap (take count) (drop-drop (8 - count) (stop - 8) line ∙ ap (λ k. drop k line) p)
     ∙ ap (λ k. take k (drop (stop - count) line)) (sym m)
 
-zero_is : (n : ℕ) → IsTrue (nat_eq n 0) → n ≡ 0
-zero_is n h = grind (arith, nat_tests)
-
-is_zero : (n : ℕ) → n ≡ 0 → IsTrue (nat_eq n 0)
-is_zero n h = grind (arith, nat_tests)
-
 -- the test of a word: no bit is set in a high half
 pub low_each : {w : ℕ} (s : List ℕ) → length s ≡ 8 → AllBelow 256 s → w ≡ little_endian s
     → IsTrue (nat_eq (bit_and w 0xf0f0f0f0f0f0f0f0) 0) → AllBelow 16 s
-low_each s e h is test = nibbles s e h (ap (λ v. bit_and v 0xf0f0f0f0f0f0f0f0) (sym is) ∙ zero_is _ test)
+low_each s e h is test = all_high s h (no_bit (sym (high_halves s e h)) (rw is at test))
+  where
+    no_bit : {m n : ℕ} → m ≡ n → IsTrue (nat_eq n 0) → m ≡ 0
+    no_bit e h = grind (arith, nat_tests)
 
 pub passes_low : {w : ℕ} (s : List ℕ) → length s ≡ 8 → w ≡ little_endian s → AllBelow 16 s
     → IsTrue (nat_eq (bit_and w 0xf0f0f0f0f0f0f0f0) 0)
-passes_low s e is low = is_zero _ (ap (λ v. bit_and v 0xf0f0f0f0f0f0f0f0) is ∙ no_nibbles s e low)
-
--- ---- short numbers
-
-alone : (t : List ℕ) → length t ≡ 0 → t ≡ []
-alone [] h = refl
-alone (b ∷ t) h = absurd (omega (arith, h))
-
-int_filled : (s : List ℕ) → IsInt s → 0 < length s
-int_filled [] int = absurd int
-int_filled (b ∷ t) int = omega arith
-
--- an int alone is a short number
-pub int_short : (s : List ℕ) {n : ℕ} → IsInt s → n ≡ digits_value s → n < 2 ^ 32 → IsShort s n
-int_short s int value small =
-    let front = front_alone s (int_digits s int) in
-    let tests = int_alone_reads s int in
-    record { int = tests.0; rest = tests.1; value = value ∙ ap digits_value (sym front); small = omega (arith, small) }
+passes_low s e is low =
+    let below = below_more 16 256 (omega arith) s low in rw (is, high_halves s e below, all_low s low) refl
 
 pub first_is : (line : List ℕ) (start stop : ℕ) → start < stop
     → get_or (slice_range line start stop) 0 0 ≡ get_or line start 0
@@ -470,10 +341,7 @@ first_is line start stop order = get_or-take (stop - start) (drop start line) 0 
 begins_first : {c : ℕ} (s : List ℕ) → 0 < length s → get_or s 0 0 ≡ c → begins c s ≡ true
 unfolding begins
 begins_first [] l e = absurd (omega (arith, l))
-begins_first {c} (b ∷ t) l e = test b e
-  where
-    test : (b : ℕ) → b ≡ c → nat_eq b c ≡ true
-    test b e = grind (arith, nat_tests)
+begins_first (b ∷ t) l e = eq-eqb b _ e
 
 pub minus_first : (line : List ℕ) (start stop : ℕ) → start < stop → stop ≤ length line → get_or line start 0 ≡ 45
     → true ≡ begins 45 (slice_range line start stop)
@@ -484,10 +352,7 @@ minus_first line start stop order within z =
 begins_not : (c : ℕ) (s : List ℕ) → (get_or s 0 0 ≡ c → ⊥) → begins c s ≡ false
 unfolding begins
 begins_not c [] n = refl
-begins_not c (b ∷ t) n = test b n
-  where
-    test : (b : ℕ) → (b ≡ c → ⊥) → nat_eq b c ≡ false
-    test b n = grind (arith, nat_tests)
+begins_not c (b ∷ t) n = ne_eqb b c n
 
 pub body_plain : (line : List ℕ) (start stop : ℕ) → start < stop → (get_or line start 0 ≡ 45 → ⊥)
     → body (slice_range line start stop) ≡ slice_range line start stop
@@ -505,31 +370,23 @@ body_behind line start stop order minus =
 pub short_behind : (line : List ℕ) (start stop : ℕ) {n : ℕ} → start < stop
     → true ≡ begins 45 (slice_range line start stop)
     → IsShort (slice_range line (start + 1) stop) n → IsShort (body (slice_range line start stop)) n
-short_behind line start stop {n} order minus short = let P : List ℕ → Type 0 = λ t. IsShort t n in
-    subst P (sym (body_behind line start stop order minus)) short
+short_behind line start stop order minus short = rw (body_behind line start stop order minus) short
 
 -- few digits, as a body and where they stand
 pub few_in : (line : List ℕ) (start stop : ℕ) {s : List ℕ} → s ≡ slice_range line start stop → stop ≤ length line
     → stop ≤ start + 8 → IsInt (slice_range line start stop) → IsFewDigits s
 few_in line start stop e within near int =
-    let l = length_slice line start stop within in
-    let few : IsFewDigits (slice_range line start stop) = (int, omega (arith, l)) in
-    let P : List ℕ → Type 0 = λ t. IsFewDigits t in
-    subst P (sym e) few
+    let l = length_slice line start stop within in rw e (int, omega (arith, l))
 
 pub int_in : {s t : List ℕ} → s ≡ t → IsFewDigits s → IsInt t
-int_in e few = let P : List ℕ → Type 0 = λ u. IsInt u in subst P e few.0
+int_in e few = rw e at few.0
 
 pub no_int : (line : List ℕ) (start stop : ℕ) → stop ≤ start → IsInt (slice_range line start stop) → ⊥
-no_int line start stop h int =
-    let n : stop - start ≡ 0 = omega arith in
-    let e : slice_range line start stop ≡ [] = ap (λ k. take k (drop start line)) n in
-    let P : List ℕ → Type 0 = λ t. IsInt t in subst P e int
+no_int line start stop h int = let n : stop - start ≡ 0 = omega arith in rw n at int
 
 pub all_from_eight : (line : List ℕ) (count stop : ℕ) → count ≤ 8 → 8 ≤ stop
     → AllDigits (slice_range line (stop - count) stop) → AllDigits (drop (8 - count) (slice_range line (stop - 8) stop))
-all_from_eight line count stop few room all = let P : List ℕ → Type 0 = λ t. AllDigits t in
-    subst P (sym (end_of_eight line count stop few room)) all
+all_from_eight line count stop few room all = rw (end_of_eight line count stop few room) all
 
 -- ---- digits that are a number of JSON
 
@@ -540,14 +397,8 @@ digits_unsigned (b ∷ t) all = digit_begins_alone 45 (b ∷ t) all (omega arith
 
 -- they are an int
 pub number_int : (s : List ℕ) → SpellsNumber s → AllDigits s → IsInt s
-number_int s number all = go (is_int (digits_front (body s))) refl
-  where
-    same : digits_front (body s) ≡ s
-    same = ap digits_front (no_minus s (digits_unsigned s all)) ∙ front_alone s all
-
-    go : (b : Bool) → is_int (digits_front (body s)) ≡ b → IsInt s
-    go true e = int_from_test s all (ap is_int (sym same) ∙ e)
-    go false e = absurd (not_int s e number)
+number_int s number all = int_from_test s all (true_from_ne_false (is_int s) (λ e.
+    not_int s (ap is_int (ap digits_front (no_minus s (digits_unsigned s all)) ∙ front_alone s all) ∙ e) number))
 
 -- ---- and what stands behind the minus of a number is one
 
@@ -569,6 +420,5 @@ pub begun_behind : (line : List ℕ) (start stop : ℕ) → start < stop → sto
 begun_behind line start stop order within minus number = λ low high.
     let s = slice_range line start stop in
     let first = first_is line start stop order ∙ minus in
-    let P : List ℕ → Type 0 = SpellsNumber in
-    subst P (body_behind line start stop order (minus_first line start stop order within minus))
+    rw (body_behind line start stop order (minus_first line start stop order within minus)) at
     (body_number s (number (omega (arith, first)) (omega (arith, first))))

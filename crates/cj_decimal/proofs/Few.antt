@@ -1,36 +1,28 @@
 -- Few digits, perhaps after a minus, are a whole number.
 use Rattle.cj_decimal.proofs.Common.{◌≡◌, ℕ, ◌+◌, ◌-◌, ◌*◌, ◌^◌, ◌<◌, ◌≤◌, List, [], ◌∷◌, length, ℤ, Some, Ok, refl, sym, ap, subst, arith, ◌∙◌, mul_assoc, mul_comm, mul-le-mul_right, pow-suc, pow-le-pow_right, Class, whole_answer, signed, IsShort, digits_front, begins, begins_digit, body, digits_value, value_after, AllDigits, IsFewDigits, IsFewSigned}
-use Rattle.cj_decimal.proofs.Grammar.{front_alone, int_digits}
-use Rattle.cj_decimal.proofs.Wholes.{int_alone_reads, signed_answer, body_of_signed}
+use Rattle.cj_decimal.proofs.Grammar.{int_digits}
+use Rattle.cj_decimal.proofs.Wholes.{int_short, signed_answer, body_of_signed}
 
 -- digits are worth less than one more of what they go on from
 value_below : (n : ℕ) (s : List ℕ) → AllDigits s → value_after n s < (n + 1) * 10 ^ length s
 value_below n [] h = omega arith
 value_below n (b ∷ s) h =
-    let rest = value_below (10 * n + (b - 48)) s h.1 in
-    let low = h.0.0 in
-    let high = h.0.1 in
-    let p = 10 ^ length s in
-    let room : 10 * n + (b - 48) + 1 ≤ 10 * (n + 1) = omega arith in
-    let more = mul-le-mul_right p room in
-    let power = pow-suc 10 (length s) in
-    subst (λ q. value_after (10 * n + (b - 48)) s < (n + 1) * q) (sym power)
-    (nearer (value_after (10 * n + (b - 48)) s) ((10 * n + (b - 48) + 1) * p) (10 * (n + 1) * p) ((n + 1) * (p * 10))
-    rest more (turned (n + 1) p))
+    let m = 10 * n + (b - 48) in
+    let more = mul-le-mul_right (10 ^ length s) (room n b h.0.0 h.0.1) in
+    omega (arith, value_below m s h.1, more, turned (n + 1) (10 ^ length s),
+    ap (λ q. (n + 1) * q) (pow-suc 10 (length s)))
   where
-    nearer : (v d m q : ℕ) → v < d → d ≤ m → m ≡ q → v < q
-    nearer v d m q l o e = omega arith
+    room : (n b : ℕ) → 48 ≤ b → b ≤ 57 → 10 * n + (b - 48) + 1 ≤ 10 * (n + 1)
+    room n b low high = omega arith
 
     turned : (x p : ℕ) → 10 * x * p ≡ x * (p * 10)
-    turned x p = ap (λ z. z * p) (mul_comm 10 x) ∙ mul_assoc x 10 p ∙ ap (λ z. x * z) (mul_comm 10 p)
+    turned x p = omega arith
 
 pub few_short : (s : List ℕ) → IsFewDigits s → IsShort s (digits_value s)
 few_short s few =
-    let all = int_digits s few.0 in
-    let tests = int_alone_reads s few.0 in
-    let below = value_below 0 s all in
+    let below = value_below 0 s (int_digits s few.0) in
     let power : 10 ^ length s ≤ 10 ^ 18 = pow-le-pow_right (omega arith) few.1 in
-    record { int = tests.0; rest = tests.1; value = ap digits_value (sym (front_alone s all)); small = omega (arith, below, power) }
+    int_short s few.0 refl (omega (arith, below, power))
 
 -- whatever class such a spelling has, it has a whole number
 pub few_whole : (s : List ℕ) → IsFewSigned s → (w : ℤ) × ((c : Class s) → whole_answer c ≡ Ok (Some w))

@@ -22,43 +22,27 @@ has_one_value s = record {
   one = one_value s;
 }
 
--- the number of the parts that were read
-abbrev pub read_number : (s : List ℕ) (negative : Bool) (lead extra : ℕ) (lost : Bool) (after_point : ℕ) (exponent : ℤ)
-    → IsReadOf s negative lead extra lost after_point exponent → Number
-read_number s negative lead extra lost after_point exponent r =
-    scaled (signed negative (digits_value (r.written.int ++ r.written.frac))) (r.written.exponent -ℤ pos after_point)
+module _ {s : List ℕ} {negative : Bool} {lead extra : ℕ} {lost : Bool} {after_point : ℕ} {exponent : ℤ}
+    (r : IsReadOf s negative lead extra lost after_point exponent) where
+  -- the number of the parts that were read
+  abbrev read_number : Number
+  read_number =
+      scaled (signed negative (digits_value (r.written.int ++ r.written.frac))) (r.written.exponent -ℤ pos after_point)
 
-is_number_of : {s : List ℕ} {negative : Bool} {lead extra : ℕ} {lost : Bool} {after_point : ℕ} {exponent : ℤ}
-    (r : IsReadOf s negative lead extra lost after_point exponent)
-    → read_number s negative lead extra lost after_point exponent r ≡ number_of r.written
-is_number_of {after_point} r =
-    let n : ℕ = digits_value (r.written.int ++ r.written.frac) in
-    ap (λ b. scaled (signed b n) (r.written.exponent -ℤ pos after_point)) (sym r.sign)
-    ∙ ap (λ k. scaled (signed r.written.negative n) (r.written.exponent -ℤ pos k)) (sym r.after_point_is)
+  pub value_of_read : {v : Number} → SameValue read_number v → IsNormal v → IsValue s v
+  value_of_read same normal = record {
+    written = r.written;
+    spells = r.spells;
+    same = rw (r.sign, r.after_point_is) same;
+    normal = normal;
+  }
 
-pub value_of_read : {s : List ℕ} {negative : Bool} {lead extra : ℕ} {lost : Bool} {after_point : ℕ} {exponent : ℤ}
-    (r : IsReadOf s negative lead extra lost after_point exponent) {v : Number}
-    → SameValue (read_number s negative lead extra lost after_point exponent r) v → IsNormal v → IsValue s v
-value_of_read r same normal = record {
-  written = r.written;
-  spells = r.spells;
-  same = rw (is_number_of r) at same;
-  normal = normal;
-}
-
-pub out_of_read : {s : List ℕ} {negative : Bool} {lead extra : ℕ} {lost : Bool} {after_point : ℕ} {exponent : ℤ}
-    (r : IsReadOf s negative lead extra lost after_point exponent)
-    → IsOutOfRange (read_number s negative lead extra lost after_point exponent r) → IsNumberOutOfRange s
-out_of_read r o = (
-  o.normal_form,
-  value_of_read r o.same o.normal,
-  o.out,
-)
+  pub out_of_read : IsOutOfRange read_number → IsNumberOutOfRange s
+  out_of_read o = (o.normal_form, value_of_read o.same o.normal, o.out)
 
 pub not_both : (s : List ℕ) → IsNumberInRange s → ¬ IsNumberOutOfRange s
 not_both s a b =
-    let same = one_value s a.0 b.0 a.1 b.1 in
-    b.2 (let P : Number → Type 0 = IsInRange in subst P same a.2)
+    b.2 (rw (one_value s a.0 b.0 a.1 b.1) at a.2)
 
 pub value_is_number : (s : List ℕ) (v : Number) → IsValue s v → SpellsNumber s
 value_is_number s v a = (a.written, a.spells)

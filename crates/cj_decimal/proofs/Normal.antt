@@ -2,7 +2,7 @@
 use Rattle.cj_decimal.proofs.Common.{◌≡◌, ℕ, zero, suc, ◌+◌, ◌*◌, ◌/◌, ◌%◌, ◌^◌, ◌<◌, ◌≤◌, Bool, true, false, ℤ, pos, neg_ℤ, ◌+ℤ◌, ◌-ℤ◌, ◌*ℤ◌, ◌≤ℤ◌, ◌<ℤ◌, refl, sym, ap, ◌∙◌, arith, ⊎_elim, ◌⊎◌, unsigned_abs, pow-add, ints, by_lt_z, to_z-of_z, fits_signed_from_abs, Number, scaled, signed, SameValue, IsNormal, IsInRange, IsOutOfRange, IsTooLong, StandsFor, IsTrimmed, Saturates}
 use Rattle.std.specs.Int.{int_gap, int_min, w32, w128, cast_signed, cast_unsigned}
 use Rattle.cj_decimal.proofs.TenPowers.{ten_pow_suc, neg_times}
-use Rattle.cj_decimal.proofs.Trims.{trim_more, trim_left}
+use Rattle.cj_decimal.proofs.Trims.{trim_left}
 use Rattle.cj_decimal.proofs.Values.{same_scaled}
 
 pub signed_size : (s : Bool) (n : ℕ) → unsigned_abs (signed s n) ≡ n
@@ -45,12 +45,6 @@ trimmed_normal s c q h = record { normal = λ e. absurd (omega (arith, h, e, ap 
 abbrev Trimmed : ℕ → Type 0
 Trimmed n = (c : ℕ) × (k : ℕ) × IsTrimmed n c k
 
-join : {n m : ℕ} (c p : ℕ) {q : ℕ} → n ≡ m * 10 ^ 1 → m ≡ c * p → q ≡ 10 * p → n ≡ c * q
-join c p e f g = e ∙ ap (λ x. x * 10 ^ 1) f ∙ regroup c p ∙ sym (ap (λ x. c * x) g)
-  where
-    regroup : (c p : ℕ) → c * p * 10 ^ 1 ≡ c * (10 * p)
-    regroup c p = omega arith
-
 trim_by_last : (n d : ℕ) → n % 10 ≡ d → 0 < n → (0 < n / 10 → n % 10 ≡ 0 → Trimmed (n / 10)) → Trimmed n
 trim_by_last n (suc d) e p more = (n, 0, record { whole = omega arith; last = omega (arith, e) })
 trim_by_last n zero e p more =
@@ -58,10 +52,13 @@ trim_by_last n zero e p more =
       less.0,
       less.1 + 1,
       record {
-        whole = join less.0 (10 ^ less.1) (trim_more n n 0 (omega arith) e) less.2.whole (ten_pow_suc less.1);
+        whole = tenfold less.0 (10 ^ less.1) less.2.whole ∙ sym (ap (λ p. less.0 * p) (ten_pow_suc less.1));
         last = less.2.last;
       },
     )
+  where
+    tenfold : (c p : ℕ) → n / 10 ≡ c * p → n ≡ c * (10 * p)
+    tenfold c p f = omega arith
 
 trim_within : (fuel n : ℕ) → n ≤ fuel → 0 < n → Trimmed n
 trim_within zero n h p = absurd (omega arith)
@@ -83,18 +80,22 @@ normal_form s (suc n) q =
     )
 
 -- ---- what from_parts answers
+-- where the normal form is out of range
+out_form : (s : Bool) {n : ℕ} (c up : ℕ) (q : ℤ) → n ≡ c * 10 ^ up → 0 < c % 10
+    → (IsInRange (scaled (signed s c) (q +ℤ pos up)) → ⊥) → IsOutOfRange (scaled (signed s n) q)
+out_form s c up q whole last out = record {
+  normal_form = scaled (signed s c) (q +ℤ pos up);
+  same = trimmed_same s c up q _ whole refl;
+  normal = trimmed_normal s c _ last;
+  out = out;
+}
+
 -- too many digits are out of range in every form
 pub too_long_out : (s : Bool) {n : ℕ} (q : ℤ) → IsTooLong n → IsOutOfRange (scaled (signed s n) q)
 too_long_out s {n} q long =
-    let some : 0 < n = omega (arith, long.too_long n 0 (omega arith)) in
-    let t = trim n some in
+    let t = trim n (omega (arith, long.too_long n 0 (omega arith))) in
     let big : 10 ^ 36 ≤ t.0 = long.too_long t.0 t.1 t.2.whole in
-    record {
-      normal_form = scaled (signed s t.0) (q +ℤ pos t.1);
-      same = trimmed_same s t.0 t.1 q _ t.2.whole refl;
-      normal = trimmed_normal s t.0 _ t.2.last;
-      out = λ r. omega (arith, r.digits, signed_size s t.0, big);
-    }
+    out_form s t.0 t.1 q t.2.whole t.2.last (λ r. omega (arith, r.digits, signed_size s t.0, big))
 
 -- the digits that were read, without the zeros at their end
 pub stands_trimmed : {lead extra : ℕ} {lost : Bool} {n c k : ℕ} → StandsFor lead extra lost n → lost ≡ false
@@ -128,12 +129,8 @@ power_high_out {e} {r} after_point up s a b h = by_lt_z r (pos (10 ^ 35))
 pub power_out : (s : Bool) {n : ℕ} (c up : ℕ) (q : ℤ) → n ≡ c * 10 ^ up → 0 < c % 10
     → ((q +ℤ pos up) <ℤ neg_ℤ (pos 1000000))
     ⊎ (pos 1000000 <ℤ (q +ℤ pos up)) → IsOutOfRange (scaled (signed s n) q)
-power_out s c up q whole last far = record {
-  normal_form = scaled (signed s c) (q +ℤ pos up);
-  same = trimmed_same s c up q _ whole refl;
-  normal = trimmed_normal s c _ last;
-  out = λ r. ⊎_elim (λ h. omega (arith, ints, r.power_low)) (λ h. omega (arith, ints, r.power_high)) far;
-}
+power_out s c up q whole last far = out_form s c up q whole last
+    (λ r. ⊎_elim (λ h. omega (arith, ints, r.power_low)) (λ h. omega (arith, ints, r.power_high)) far)
 
 pub form_in_range : (s : Bool) (c : ℕ) (p : ℤ) → c < 10 ^ 36 → neg_ℤ (pos 1000000) ≤ℤ p → p ≤ℤ pos 1000000
     → IsInRange (scaled (signed s c) p)

@@ -1,11 +1,11 @@
 -- One more digit after those that were read.
-use Rattle.cj_decimal.proofs.Common.{◌≡◌, ℕ, zero, suc, ◌+◌, ◌*◌, ◌^◌, ◌<◌, ◌≤◌, Bool, true, false, refl, sym, ap, ◌∙◌, arith, rules, IsTrue, IsTooLong, StandsFor}
+use Rattle.cj_decimal.proofs.Common.{◌≡◌, ℕ, zero, suc, ◌+◌, ◌*◌, ◌^◌, ◌<◌, ◌≤◌, Bool, true, false, refl, sym, ap, ◌∙◌, arith, pow-suc, rules, IsTrue, IsTooLong, StandsFor}
 use Rattle.cj_decimal.proofs.TenPowers.{ten_pow_suc, ten_pow_pos}
 
 no_gap : (x : ℕ) → x ≡ x * 10 ^ 0
 no_gap x = omega arith
 
-over_ten : (n d c p : ℕ) → d < 10 → 10 * n + d ≡ c * (10 * p) → (d ≡ 0) × (n ≡ c * p)
+over_ten : (n d c p : ℕ) → d < 10 → 10 * n + d ≡ c * (p * 10) → (d ≡ 0) × (n ≡ c * p)
 over_ten n d c p h e = let f : 10 * n + d ≡ 10 * (c * p) = omega (arith, e) in (omega arith, omega arith)
 
 pub too_long_more : {n : ℕ} (d : ℕ) → d < 10 → IsTooLong n → IsTooLong (10 * n + d)
@@ -15,7 +15,7 @@ too_long_more {n} d h t = record { too_long = λ c k e. at c k e }
     at c zero e = let big : 10 ^ 36 ≤ n = t.too_long n 0 (no_gap n) in omega (arith, e)
     at c (suc k) e =
         t.too_long c k (over_ten n d c (10 ^ k) h
-        (e ∙ ap (λ p. c * p) (ap (λ j. 10 ^ j) (omega arith) ∙ ten_pow_suc k))).1
+        (e ∙ ap (λ p. c * p) (pow-suc 10 k))).1
 
 pub too_long_new : (n d : ℕ) → 0 < d → d < 10 → 10 ^ 35 ≤ n → IsTooLong (10 * n + d)
 too_long_new n d p h big = record { too_long = λ c k e. at c k e }
@@ -26,7 +26,7 @@ too_long_new n d p h big = record { too_long = λ c k e. at c k e }
         absurd (omega (
           arith,
           p,
-          (over_ten n d c (10 ^ k) h (e ∙ ap (λ p. c * p) (ap (λ j. 10 ^ j) (omega arith) ∙ ten_pow_suc k))).0,
+          (over_ten n d c (10 ^ k) h (e ∙ ap (λ p. c * p) (pow-suc 10 k))).0,
         ))
 
 no_extra : (lead extra : ℕ) → lead < 10 ^ 35 → (0 < extra → 10 ^ 35 ≤ lead) → extra ≡ 0

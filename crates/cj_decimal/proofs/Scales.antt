@@ -33,22 +33,21 @@ pub units_same : (v : Number) (u t : ℤ) (k : ℕ) → v.power ≡ t +ℤ pos k
     → SameValue v (scaled u t)
 units_same v u t k f e = same_sym (same_scaled u v.coefficient t k e f)
 
+split : (k digits : ℕ) → k ≤ digits → 10 ^ digits ≡ 10 ^ (digits - k) * 10 ^ k
+split k digits h = ap (λ n. 10 ^ n) (omega arith) ∙ ten_pow_add (digits - k) k
+
 -- a coefficient below a power of ten is below a higher one after the zeros
 pub scaled_small : (c k digits : ℕ) → k ≤ digits → c < 10 ^ (digits - k) → c * 10 ^ k < 10 ^ digits
 scaled_small c k digits h small =
-    let split : 10 ^ digits ≡ 10 ^ (digits - k) * 10 ^ k = ap (λ n. 10 ^ n) (omega arith)
-    ∙ ten_pow_add (digits - k) k in
     let less : c * 10 ^ k < 10 ^ (digits - k) * 10 ^ k =
     mul-lt-mul_of_pos_right {m = c} {n = 10 ^ (digits - k)} {k = 10 ^ k} small (ten_pow_pos k) in
-    omega (arith, split, less)
+    omega (arith, split k digits h, less)
 
 pub scaled_large : (c k digits : ℕ) → k ≤ digits → 10 ^ (digits - k) ≤ c → 10 ^ digits ≤ c * 10 ^ k
 scaled_large c k digits h large =
-    let split : 10 ^ digits ≡ 10 ^ (digits - k) * 10 ^ k = ap (λ n. 10 ^ n) (omega arith)
-    ∙ ten_pow_add (digits - k) k in
     let more : 10 ^ (digits - k) * 10 ^ k ≤ c * 10 ^ k =
     mul-le-mul_right {m = 10 ^ (digits - k)} {n = c} (10 ^ k) large in
-    omega (arith, split, more)
+    omega (arith, split k digits h, more)
 
 -- with as many zeros as the bound has, only 0 is below it
 pub zeros_large : (c k digits : ℕ) → 0 < c → digits ≤ k → 10 ^ digits ≤ c * 10 ^ k
@@ -96,32 +95,28 @@ pub power_fits : (k : ℕ) → k ≤ 36 → 10 ^ k ≤ 10 ^ 36
 power_fits k h = ten_pow_le k 36 h
 
 -- the product as the code computes it
+factors_cast : (c : ℤ) (k : ℕ) {power : ℕ} → k ≤ 36 → unsigned_abs c < 10 ^ 36 → power ≡ 10 ^ k
+    → cast_signed w128 (cast_unsigned w128 c) *ℤ cast_signed w128 power ≡ c *ℤ pos (10 ^ k)
+factors_cast c k {power} most fits e =
+    let low : power ≤ 10 ^ 36 = omega (arith, e, power_fits k most) in
+    let second : cast_signed w128 power ≡ pos (10 ^ k) = omega (arith, ints, e) in
+    ap (λ x. x *ℤ cast_signed w128 power) (to_z-of_z w128 c (fits_signed_from_abs w128 c (omega arith)))
+    ∙ ap (λ x. c *ℤ x) second
+
 pub product_cast : (c : ℤ) (k digits : ℕ) {power : ℕ} → k ≤ digits → digits ≤ 36 → unsigned_abs c < 10 ^ 36
     → unsigned_abs c < 10 ^ (digits - k) → power ≡ 10 ^ k
     → cast_signed w128 (cast_unsigned w128 (cast_signed w128 (cast_unsigned w128 c) *ℤ cast_signed w128 power))
     ≡ c *ℤ pos (10 ^ k)
-product_cast c k digits {power} h most fits small e =
-    let low : power ≤ 10 ^ 36 = omega (arith, e, power_fits k (omega arith)) in
-    let first : cast_signed w128 (cast_unsigned w128 c) ≡ c =
-    to_z-of_z w128 c (fits_signed_from_abs w128 c (omega arith)) in
-    let second : cast_signed w128 power ≡ pos (10 ^ k) = omega (arith, ints, e) in
-    let product : (cast_signed w128 (cast_unsigned w128 c) *ℤ cast_signed w128 power) ≡ c *ℤ pos (10 ^ k) =
-    ap (λ x. x *ℤ cast_signed w128 power) first ∙ ap (λ x. c *ℤ x) second in
-    ap (λ x. cast_signed w128 (cast_unsigned w128 x)) product
+product_cast c k digits h most fits small e =
+    ap (λ x. cast_signed w128 (cast_unsigned w128 x)) (factors_cast c k (omega arith) fits e)
     ∙ to_z-of_z w128 (c *ℤ pos (10 ^ k))
     (fits_signed_from_abs w128 _ (omega (arith, product_fits c k digits h most small)))
 
 pub product_in_bits : (c : ℤ) (k digits : ℕ) {power : ℕ} → k ≤ digits → digits ≤ 36 → unsigned_abs c < 10 ^ 36
     → unsigned_abs c < 10 ^ (digits - k) → power ≡ 10 ^ k
     → FitsSigned w128 (cast_signed w128 (cast_unsigned w128 c) *ℤ cast_signed w128 power)
-product_in_bits c k digits {power} h most fits small e =
-    let low : power ≤ 10 ^ 36 = omega (arith, e, power_fits k (omega arith)) in
-    let first : cast_signed w128 (cast_unsigned w128 c) ≡ c =
-    to_z-of_z w128 c (fits_signed_from_abs w128 c (omega arith)) in
-    let second : cast_signed w128 power ≡ pos (10 ^ k) = omega (arith, ints, e) in
-    let product : (cast_signed w128 (cast_unsigned w128 c) *ℤ cast_signed w128 power) ≡ c *ℤ pos (10 ^ k) =
-    ap (λ x. x *ℤ cast_signed w128 power) first ∙ ap (λ x. c *ℤ x) second in
-    rw product (fits_signed_from_abs w128 (c *ℤ pos (10 ^ k)) (omega (arith, product_fits c k digits h most small)))
+product_in_bits c k digits h most fits small e = rw (factors_cast c k (omega arith) fits e)
+    (fits_signed_from_abs w128 (c *ℤ pos (10 ^ k)) (omega (arith, product_fits c k digits h most small)))
 
 -- what the product with its zeros answers is the number of units
 pub value_in_units : (r : Option ℤ) {v w : Number} (t : ℤ) {x : ℤ} (digits k : ℕ)

@@ -6,7 +6,7 @@ use Rattle.std.specs.declared.cmp.Ordering.TheVariants.{Less, Equal, Greater}
 use Rattle.std.specs.Cmp.{int_cmp_is, int_ranked}
 use Rattle.std.specs.Int.{int_div_euclid, int_rem_euclid, w64, w128, cast_signed, cast_unsigned}
 use Rattle.cj_decimal.specs.Affine.{units}
-use Rattle.cj_decimal.proofs.TenPowers.{times_one}
+use Rattle.cj_decimal.proofs.TenPowers.{times_one, times_scaled}
 use borrow.Author.Differences.{up, down, same_in, product_is, sum_is_lem}
 
 -- a number is its quotient by 10^18 times that, and its remainder
@@ -14,13 +14,10 @@ pub euclid : (z : ℤ) → int_div_euclid z (pos (10 ^ 18)) *ℤ pos (10 ^ 18) +
 euclid (pos a) = omega (arith, ints)
 euclid (negsuc a) = omega (arith, ints)
 
-pub euclid_low : (z : ℤ) → pos 0 ≤ℤ int_rem_euclid z (pos (10 ^ 18))
-euclid_low (pos a) = omega (arith, ints)
-euclid_low (negsuc a) = omega (arith, ints)
-
-pub euclid_high : (z : ℤ) → int_rem_euclid z (pos (10 ^ 18)) <ℤ pos (10 ^ 18)
-euclid_high (pos a) = omega (arith, ints)
-euclid_high (negsuc a) = omega (arith, ints)
+pub euclid_part : (z : ℤ) → (pos 0 ≤ℤ int_rem_euclid z (pos (10 ^ 18)))
+    × (int_rem_euclid z (pos (10 ^ 18)) <ℤ pos (10 ^ 18))
+euclid_part (pos a) = (omega (arith, ints), omega (arith, ints))
+euclid_part (negsuc a) = (omega (arith, ints), omega (arith, ints))
 
 -- products go over sums
 pub times_sum : (v x y : ℤ) → v *ℤ (x +ℤ y) ≡ v *ℤ x +ℤ v *ℤ y
@@ -34,22 +31,6 @@ times_sum v x y =
       sum_is_lem (v *ℤ x) (v *ℤ y),
       ap (λ n. up v * n) sum,
       ap (λ n. down v * n) sum,
-    ))
-
-pub times_scaled : (v a : ℤ) (u : ℕ) → v *ℤ (a *ℤ pos u) ≡ (v *ℤ a) *ℤ pos u
-times_scaled v a u =
-    let scaled = product_is a (pos u) in
-    let first = product_is v a in
-    same_in _ _ (omega (
-      arith,
-      product_is v (a *ℤ pos u),
-      product_is (v *ℤ a) (pos u),
-      ap (λ n. up v * n) scaled.0,
-      ap (λ n. up v * n) scaled.1,
-      ap (λ n. down v * n) scaled.0,
-      ap (λ n. down v * n) scaled.1,
-      ap (λ n. n * u) first.0,
-      ap (λ n. n * u) first.1,
     ))
 
 -- ---- how a number compares with another, by the parts of their difference
@@ -99,8 +80,7 @@ pub whole_small : (scale : ℤ) {whole part : ℤ} → int_div_euclid scale (pos
     → int_rem_euclid scale (pos (10 ^ 18)) ≡ part → unsigned_abs scale < 10 ^ 36 → unsigned_abs whole ≤ 10 ^ 18
 whole_small scale {part} e f small =
     let joined = scale_joined scale e f in
-    let low : pos 0 ≤ℤ part = rw f at (euclid_low scale) in
-    let high : part <ℤ pos (10 ^ 18) = rw f at (euclid_high scale) in
+    let bounds = rw f at (euclid_part scale) in
     omega (arith, ints)
 
 -- what the steps of the comparison amount to
@@ -128,8 +108,7 @@ product_of_casts v p a b e =
 
 pub part_small : (scale : ℤ) {part : ℤ} → int_rem_euclid scale (pos (10 ^ 18)) ≡ part → unsigned_abs part ≤ 10 ^ 18
 part_small scale {part} f =
-    let low : pos 0 ≤ℤ part = rw f at (euclid_low scale) in
-    let high : part <ℤ pos (10 ^ 18) = rw f at (euclid_high scale) in
+    let bounds = rw f at (euclid_part scale) in
     omega (arith, ints)
 
 pub split_cast : (z : ℤ) {w : ℤ} → FitsSigned w128 z
@@ -137,9 +116,8 @@ pub split_cast : (z : ℤ) {w : ℤ} → FitsSigned w128 z
     → (w *ℤ pos (10 ^ 18) +ℤ int_rem_euclid z (pos (10 ^ 18)) ≡ z) × (pos 0 ≤ℤ int_rem_euclid z (pos (10 ^ 18)))
     × (int_rem_euclid z (pos (10 ^ 18)) <ℤ pos (10 ^ 18))
 split_cast z {w} fits e =
-    let same : w ≡ int_div_euclid z (pos (10 ^ 18)) =
-    e ∙ ap (λ x. int_div_euclid x (pos (10 ^ 18))) (to_z-of_z w128 z fits) in
-    (ap (λ x. x *ℤ pos (10 ^ 18) +ℤ int_rem_euclid z (pos (10 ^ 18))) same ∙ euclid z, euclid_low z, euclid_high z)
+    let same = e ∙ ap (λ x. int_div_euclid x (pos (10 ^ 18))) (to_z-of_z w128 z fits) in
+    let part = euclid_part z in (rw same (euclid z), part.0, part.1)
 
 pub rest_cast : (p s : ℤ) {u q : ℤ} → unsigned_abs p ≤ 10 ^ 36 → unsigned_abs s < 10 ^ 36 → unsigned_abs u < 10 ^ 36
     → u ≡ q

@@ -35,13 +35,28 @@ times_cancel x y k p e =
     same_in x y (mul_right_cancel (up x + down y) (up y + down x) k p
     (omega (arith, same_out (x *ℤ pos k) (y *ℤ pos k) e, product_is x (pos k), product_is y (pos k))))
 
+pub times_scaled : (v a : ℤ) (u : ℕ) → v *ℤ (a *ℤ pos u) ≡ (v *ℤ a) *ℤ pos u
+times_scaled v a u =
+    let scaled = product_is a (pos u) in
+    let first = product_is v a in
+    same_in _ _ (omega (
+      arith,
+      product_is v (a *ℤ pos u),
+      product_is (v *ℤ a) (pos u),
+      ap (λ n. up v * n) scaled.0,
+      ap (λ n. up v * n) scaled.1,
+      ap (λ n. down v * n) scaled.0,
+      ap (λ n. down v * n) scaled.1,
+      ap (λ n. n * u) first.0,
+      ap (λ n. n * u) first.1,
+    ))
+
 pub neg_times : (m b : ℕ) → neg_ℤ (pos m) *ℤ pos b ≡ neg_ℤ (pos (m * b))
 neg_times zero b = let none : zero * b ≡ zero = omega arith in ap (λ n. pos n) none ∙ sym (ap (λ n. neg_ℤ (pos n)) none)
 neg_times (suc m) b = refl
 
 pub times_times : (x : ℤ) (a b : ℕ) → (x *ℤ pos a) *ℤ pos b ≡ x *ℤ pos (a * b)
-times_times (pos n) a b = ap pos (omega arith)
-times_times (negsuc n) a b = neg_times (suc n * a) b ∙ ap (λ m. neg_ℤ (pos m)) (omega arith)
+times_times x a b = sym (times_scaled x (pos a) b)
 
 pub times_one : (x : ℤ) → x *ℤ pos 1 ≡ x
 times_one x = omega (arith, ints)

@@ -1,5 +1,6 @@
 -- Equality of numbers, and its laws.
-use Rattle.cj_decimal.proofs.Common.{◌≡◌, ℕ, zero, suc, ◌+◌, ◌*◌, ◌%◌, ◌^◌, ◌<◌, ℤ, pos, negsuc, ◌+ℤ◌, ◌*ℤ◌, ◌≤ℤ◌, true, refl, sym, ap, ◌∙◌, arith, inl, inr, ⊎_elim, subst, unsigned_abs, ◌⊎◌, nat_tests, ints, clamps, unsigned_abs-mul, by_lt_z, to_z-of_z, fits_signed_from_abs, mul-mod_right, Number, scaled, smaller_power, brought, SameValue, IsNormal, IsInRange}
+use Rattle.cj_decimal.proofs.Common.{◌≡◌, ℕ, zero, suc, ◌+◌, ◌*◌, ◌%◌, ◌^◌, ◌<◌, ℤ, pos, negsuc, ◌+ℤ◌, ◌*ℤ◌, ◌≤ℤ◌, true, refl, sym, ap, ◌∙◌, arith, inl, inr, ⊎_elim, unsigned_abs, ◌⊎◌, ints, clamps, unsigned_abs-mul, by_lt_z, to_z-of_z, fits_signed_from_abs, mul-mod_right, Number, scaled, smaller_power, brought, SameValue, IsNormal, IsInRange}
+use Rattle.std.proofs.lemmas.Bool.{eq-eqb, eqb-true}
 use Rattle.std.specs.Prelude.{nat_eq, FitsSigned, ◌↔◌}
 use Rattle.std.specs.Int.{int_gap, int_min, Width, w32, w128, cast_signed, cast_unsigned}
 use Rattle.cj_decimal.proofs.TenPowers.{ten_pow_pos, ten_pow_add, ten_pow_suc, times_cancel, times_times, times_one, mul_right_cancel}
@@ -125,14 +126,10 @@ normal_same {v} {w} same a b =
 bits_apart : (w : Width) (p q : ℤ) → FitsSigned w p → FitsSigned w q
     → nat_eq (cast_unsigned w p) (cast_unsigned w q) ≡ true → p ≡ q
 bits_apart w p q a b e =
-    let bits : cast_unsigned w p ≡ cast_unsigned w q = grind (arith, nat_tests) in
-    sym (to_z-of_z w p a) ∙ ap (cast_signed w) bits ∙ to_z-of_z w q b
+    sym (to_z-of_z w p a) ∙ ap (cast_signed w) (eqb-true _ _ e) ∙ to_z-of_z w q b
 
 bits_same : (w : Width) (p q : ℤ) → p ≡ q → nat_eq (cast_unsigned w p) (cast_unsigned w q) ≡ true
-bits_same w p q e = rw e (own (cast_unsigned w q))
-  where
-    own : (n : ℕ) → nat_eq n n ≡ true
-    own n = grind (arith, nat_tests)
+bits_same w p q e = eq-eqb _ _ (ap (cast_unsigned w) e)
 
 coefficient_fits : {v : Number} → IsInRange v → FitsSigned w128 v.coefficient
 coefficient_fits {v} r = let small : unsigned_abs v.coefficient < 10 ^ 36 = r.digits in
@@ -156,8 +153,7 @@ pub same_by_power : {v w : Number} → IsNormal v × IsInRange v → IsNormal w 
 same_by_power {v} {w} a b e =
     let c : v.coefficient ≡ w.coefficient = sym (to_z-of_z w128 v.coefficient (coefficient_fits a.1))
     ∙ ap (cast_signed w128) e ∙ to_z-of_z w128 w.coefficient (coefficient_fits b.1) in (
-      λ h. let P : Number → Type 0 = SameValue v in
-          subst P (number_eq v w c (bits_apart w32 v.power w.power (power_fits a.1) (power_fits b.1) h)) (same_refl v),
+      λ h. rw (number_eq v w c (bits_apart w32 v.power w.power (power_fits a.1) (power_fits b.1) h)) (same_refl w),
       λ same. bits_same w32 v.power w.power (ap (λ (n : Number). n.power) (normal_same same a.0 b.0)),
     )
 
@@ -166,7 +162,7 @@ pub apart_by_coefficient : {v w : Number} → IsNormal v × IsInRange v → IsNo
     → (cast_unsigned w128 v.coefficient ≡ cast_unsigned w128 w.coefficient → ⊥)
     → (nat_eq (cast_unsigned w128 v.coefficient) (cast_unsigned w128 w.coefficient) ≡ true) ↔ SameValue v w
 apart_by_coefficient a b apart = (
-  λ h. absurd (apart (grind (arith, nat_tests))),
+  λ h. absurd (apart (eqb-true _ _ h)),
   λ same. absurd (apart (ap (λ (n : Number). cast_unsigned w128 n.coefficient) (normal_same same a.0 b.0))),
 )
 

@@ -1,5 +1,5 @@
 -- The way through the digits of a spelling.
-use Rattle.cj_decimal.proofs.Common.{◌≡◌, ℕ, suc, ◌+◌, ◌-◌, ◌*◌, ◌<◌, ◌≤◌, List, [], ◌∷◌, length, drop, drop_all, drop_more, get_or, true, false, cond-true, cond-false, refl, sym, ap, ◌∙◌, arith, inl, inr, cases_lt, nat_tests, is_ascii_digit, begins_digit, digits_front, digits_rest, value_after, Passes, Carries, Stops}
+use Rattle.cj_decimal.proofs.Common.{◌≡◌, ℕ, suc, ◌+◌, ◌-◌, ◌*◌, ◌<◌, ◌≤◌, List, [], ◌∷◌, length, drop, drop_all, drop_more, get_or, Bool, true, false, cond-true, cond-false, refl, sym, ap, ◌∙◌, arith, inl, inr, cases_lt, nat_tests, is_ascii_digit, begins_digit, digits_front, digits_rest, value_after, Passes, Carries, Stops}
 
 pub front_digit : (b : ℕ) (s : List ℕ) → is_ascii_digit b ≡ true → digits_front (b ∷ s) ≡ b ∷ digits_front s
 unfolding digits_front
@@ -60,12 +60,21 @@ pub no_digit_past : (s : List ℕ) (at : ℕ) → length s ≤ at → begins_dig
 unfolding begins_digit
 no_digit_past s at h = ap begins_digit (drop_all at s h)
 
--- a digit there is a byte of the list
-pub is_digit_at : (s : List ℕ) (at : ℕ) → begins_digit (drop at s) ≡ true → (at < length s)
-    × (is_ascii_digit (get_or s at 0) ≡ true)
-is_digit_at s at h = elim (cases_lt at (length s)) [
-  | inl within ↦ (within, sym (digit_at s at within) ∙ h)
-  | inr past ↦ absurd (cc (no_digit_past s at past))
+-- a digit that a test has found is a byte of the list
+pub record IsDigitThere (s : List ℕ) (at : ℕ) : Type 0 where
+  pub within : at < length s
+  pub digit : is_ascii_digit (get_or s at 0) ≡ true
+  pub low : 48 ≤ get_or s at 0
+  pub high : get_or s at 0 ≤ 57
+
+pub is_digit_at : (s : List ℕ) (at : ℕ) {test : Bool} → test ≡ begins_digit (drop at s) → test ≡ true
+    → IsDigitThere s at
+is_digit_at s at e t = elim (cases_lt at (length s)) [
+  | inl within ↦
+      let digit = sym (digit_at s at within) ∙ sym e ∙ t in
+      let bounds = digit_bounds (get_or s at 0) digit in
+      record { within = within; digit = digit; low = bounds.0; high = bounds.1 }
+  | inr past ↦ absurd (cc (no_digit_past s at past, e, t))
 ]
 
 -- where no digit follows, the digits stop

@@ -46,6 +46,12 @@ pub int_alone_reads : (s : List ℕ) → IsInt s → (is_int (digits_front s) �
 int_alone_reads s int =
     let all = int_digits s int in (ap is_int (front_alone s all) ∙ int_test s int, rest_alone s all)
 
+pub int_short : (s : List ℕ) {n : ℕ} → IsInt s → n ≡ digits_value s → n < 10 ^ 18 → IsShort s n
+int_short s int value small =
+    let tests = int_alone_reads s int in
+    let front = front_alone s (int_digits s int) in
+    record { int = tests.0; rest = tests.1; value = value ∙ ap digits_value (sym front); small = small }
+
 pub int_alone_read : (s : List ℕ) → is_int (digits_front s) ≡ true → digits_rest s ≡ [] → IsInt s
 int_alone_read s int rest = rw (front_is_all s rest) at (int_from_test (digits_front s) (front_all s) int)
 

@@ -1,6 +1,6 @@
 use Rattle.cj_decimal.proofs.Common.{◌≡◌, ◌-◌, true, sym, ap, arith, get_or, ◌∙◌, rules, is_ascii_digit}
 use Rattle.cj_decimal.proofs.Pushes.{push_zero, push_lost}
-use Rattle.cj_decimal.proofs.Ways.{passes_step, carries_step, stops_here, carried_here, digit_bounds, is_digit_at}
+use Rattle.cj_decimal.proofs.Ways.{passes_step, carries_step, stops_here, carried_here, is_digit_at}
 use Rattle.cj_decimal.proofs.digits.read_past_full.Goals as goal
 
 pub loop-at-preserved : goal.loop-at-preserved
@@ -17,22 +17,21 @@ loop-at-preserved c =
     }
 
 pub loop-lost-smaller : goal.loop-lost-smaller
-loop-lost-smaller c = let there =
-    is_digit_at c.args.spelling.now c.loop-lost.at (sym c.has_digit.ensures ∙ c.loop-lost-test.true) in
-    omega (arith, there.0)
+loop-lost-smaller c =
+    let there = is_digit_at c.args.spelling.now c.loop-lost.at c.has_digit.ensures c.loop-lost-test.true in
+    omega arith
 
 pub loop-lost-preserved : goal.loop-lost-preserved
 loop-lost-preserved c =
-    let there = is_digit_at c.args.spelling.now c.loop-lost.at (sym c.has_digit.ensures ∙ c.loop-lost-test.true) in
-    let bounds = digit_bounds (get_or c.args.spelling.now c.loop-lost.at 0) there.1 in
+    let there = is_digit_at c.args.spelling.now c.loop-lost.at c.has_digit.ensures c.loop-lost-test.true in
     record {
-      passes = passes_step _ _ _ c.loop-lost.invariant.passes there.0 there.1;
+      passes = passes_step _ _ _ c.loop-lost.invariant.passes there.within there.digit;
       stands = λ n s.
           let so_far = c.loop-lost.invariant.stands n s in (
             _,
-            carries_step _ _ _ _ _ so_far.1 there.0 there.1,
-            push_lost _ _ c.requires.full (λ e. omega (arith, c.loop-lost.invariant.other e there.0, bounds.0))
-                (omega (arith, bounds.1)) so_far.2,
+            carries_step _ _ _ _ _ so_far.1 there.within there.digit,
+            push_lost _ _ c.requires.full (λ e. omega (arith, c.loop-lost.invariant.other e there.within, there.low))
+                (omega (arith, there.high)) so_far.2,
           );
       other = λ e. absurd (cc e);
       bounded = omega arith;
