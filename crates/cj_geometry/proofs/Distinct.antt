@@ -1,6 +1,7 @@
 -- Distinct names, told by walks that each deal with the least names above the last ones.
 use Rattle.cj_geometry.proofs.Common.{All, AreNamesInOrder, Ascend, Bool, Contains, DuplicateName, Finding, IfSome, List, None, Option, Some, Tree, [], ap, are_same_texts, arith, cond, false, found_at, get_or, inl, inr, is_above, last_of, least, length, names_of, nat_lt, nat_tests, neighbours, one, refl, repeat_of, repeats, repeats_of, start_of, subst, suc, sym, text_of, true, zero, ℕ, ◌&&◌, ◌++◌, ◌+◌, ◌<◌, ◌∙◌, ◌∷◌, ◌≡◌, ◌≤◌}
-use Rattle.std.proofs.lemmas.List.Elements.{All-contains, All-head, All-tail, All-nil, All-append, Contains-append_left, Contains-append_right, Contains-append_cases}
+use Rattle.std.proofs.lemmas.Bool.{and_parts, cond_both, ltb-true}
+use Rattle.std.proofs.lemmas.List.Elements.{All-contains, All-head, All-tail, All-nil, All-cons, All-append, Contains-get_or, Contains-append_left, Contains-append_right, Contains-append_cases}
 use Rattle.cj_spans.proofs.Findings.{least-append}
 use Rattle.cj_geometry.proofs.Neighbours.{absorbed, contains_cases, contains_first, contains_later, contains_none, AreDealt, HaveNoGap, IsPast, all_dealt, none_past, last_past, last_among}
 
@@ -45,8 +46,7 @@ names_behind : (name : Tree) (ms : List (Tree × Tree)) → All (λ (n : Tree ×
 names_behind name [] a u c = absurd (contains_none u c)
 names_behind name (m ∷ ms) a u c =
     elim (contains_cases m.0 (names_of ms) u c) [
-      | inl e ↦ subst (λ x. start_of name < start_of x) e
-          (All-head (λ (n : Tree × Tree). start_of name < start_of n.0) m ms a)
+      | inl e ↦ rw e at (All-head (λ (n : Tree × Tree). start_of name < start_of n.0) m ms a)
       | inr d ↦ names_behind name ms (All-tail (λ (n : Tree × Tree). start_of name < start_of n.0) m ms a) u d
     ]
 
@@ -95,12 +95,7 @@ told_of name (m ∷ ms) u c s =
   where
     here : m.0 ≡ u → Contains (cond (are_same_texts (text_of m.0) (text_of name)) (one DuplicateName m.0) [])
         (found_at (start_of u) DuplicateName)
-    here e =
-        let b : are_same_texts (text_of m.0) (text_of name) ≡ true =
-        ap (λ x. are_same_texts (text_of x) (text_of name)) e ∙ s in
-        subst (λ v. Contains (cond v (one DuplicateName m.0) []) (found_at (start_of u) DuplicateName)) (sym b)
-        (subst (λ x. Contains (one DuplicateName m.0) (found_at (start_of x) DuplicateName)) e
-        (contains_first (found_at (start_of m.0) DuplicateName) []))
+    here e = rw (e, s) (contains_first (found_at (start_of u) DuplicateName) [])
 
 pub repeat_told : (ms : List (Tree × Tree)) → AreNamesInOrder ms → (t u : Tree) → Contains (names_of ms) t
     → Contains (names_of ms) u → are_same_texts (text_of u) (text_of t) ≡ true → start_of t < start_of u
@@ -132,19 +127,11 @@ repeat_among : (ms : List (Tree × Tree)) → AreNamesInOrder ms → (floor : Op
     → IfSome floor (Contains (names_of ms)) → Contains (names_of ms) t → All (Contains (repeats ms)) (repeat_of floor t)
 repeat_among ms o None t cf ct = All-nil (Contains (repeats ms))
 repeat_among ms o (Some u) t cf ct =
-    by_test (are_same_texts (text_of t) (text_of u)) (nat_lt (start_of u) (start_of t)) refl refl
-  where
-    only_here : Contains (repeats ms) (found_at (start_of t) DuplicateName)
-        → All (Contains (repeats ms)) (one DuplicateName t)
-    only_here c zero d h = c
-    only_here c (suc k) d h = absurd (omega arith)
-
-    by_test : (a b : Bool) → are_same_texts (text_of t) (text_of u) ≡ a → nat_lt (start_of u) (start_of t) ≡ b
-        → All (Contains (repeats ms)) (cond (a && b) (one DuplicateName t) [])
-    by_test true true e f = let l : start_of u < start_of t = grind (arith, nat_tests) in
-        λ k d h. only_here (repeat_told ms o u t cf ct e l) k d h
-    by_test true false e f = All-nil (Contains (repeats ms))
-    by_test false b e f = All-nil (Contains (repeats ms))
+    let P : List Finding → Type 0 = All (Contains (repeats ms)) in
+    cond_both (are_same_texts (text_of t) (text_of u) && nat_lt (start_of u) (start_of t)) (one DuplicateName t) [] P
+    (λ e. let parts = and_parts _ _ e in
+    All-cons (Contains (repeats ms)) _ [] (repeat_told ms o u t cf ct parts.0 (ltb-true _ _ parts.1))
+    (All-nil (Contains (repeats ms)))) (λ _. All-nil (Contains (repeats ms)))
 
 pub neighbours_among : (ms : List (Tree × Tree)) → AreNamesInOrder ms → (floor : Option Tree) (ts : List Tree)
     → IfSome floor (Contains (names_of ms)) → All (Contains (names_of ms)) ts
@@ -178,15 +165,13 @@ pub reached_more : {ms : List (Tree × Tree)} → AreNamesInOrder ms
     → HasReached ms old next last
 reached_more {ms} o {old} {now} {floor} {last} {ts} r n e f =
     let more = neighbours_among ms o floor ts r.floor_named n.named in
-    let p : HasReached ms old (least now (neighbours floor ts)) (last_of floor ts) = record {
+    rw (e, f) (record {
       told = r.told ++ neighbours floor ts;
       sum = ap (λ x. least x (neighbours floor ts)) r.sum ∙ sym (least-append old r.told (neighbours floor ts));
       right = All-append (Contains (repeats ms)) r.told (neighbours floor ts) r.right more;
       floor_named = last_among (names_of ms) floor ts r.floor_named n.named;
       dealt = all_dealt (names_of ms) now floor ts n.no_gap n.ascend n.past r.dealt;
-    } in
-    subst (λ x. HasReached ms old x last) (sym e)
-    (subst (λ x. HasReached ms old (least now (neighbours floor ts)) x) (sym f) p)
+    })
 
 told_all : (o : Option Finding) (fs : List Finding) → All (λ f. least o (f ∷ []) ≡ o) fs → least o fs ≡ o
 told_all o [] a = refl
@@ -197,19 +182,13 @@ pub all_reached : {ms : List (Tree × Tree)} → AreNamesInOrder ms → {old now
     → HasReached ms old now floor → ((t : Tree) → Contains (names_of ms) t → is_above floor t ≡ false)
     → now ≡ least old (repeats ms)
 all_reached {ms} o {old} {now} r done =
-    sym (told_all now (repeats ms) (λ k d l. told_at (get_or (repeats ms) k d) (at (repeats ms) k d l)))
+    sym (told_all now (repeats ms) (λ k d l. told_at (get_or (repeats ms) k d) (Contains-get_or (repeats ms) k d l)))
     ∙ ap (λ x. least x (repeats ms)) r.sum ∙ absorbed old r.told (repeats ms) r.right
   where
     told_at : (f : Finding) → Contains (repeats ms) f → least now (f ∷ []) ≡ now
     told_at f c =
         let p = repeat_is ms o f c in
-        subst (λ g. least now (g ∷ []) ≡ now) (sym p.is)
-        (r.dealt p.earlier p.later p.first p.second p.same p.behind (done p.later p.second))
-
-    at : (fs : List Finding) (k : ℕ) (d : Finding) → k < length fs → Contains fs (get_or fs k d)
-    at [] k d l = absurd (omega arith)
-    at (f ∷ fs) zero d l = contains_first f fs
-    at (f ∷ fs) (suc k) d l = contains_later f fs (get_or fs k d) (at fs k d (omega arith))
+        rw p.is (r.dealt p.earlier p.later p.first p.second p.same p.behind (done p.later p.second))
 
 -- ---- how many names are left
 

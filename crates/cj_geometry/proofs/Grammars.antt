@@ -68,8 +68,8 @@ minus_back false s e = inl e
 minus_back true s e = inr e
 
 frac_back : (digits s : List ℕ) → read.IsFrac digits s → scanned.IsFrac s
-frac_back digits s (inl (d, e)) = subst scanned.IsFrac (sym e) tt
-frac_back digits s (inr (d, e)) = let is : scanned.IsFrac (46 ∷ digits) = (refl, d) in subst scanned.IsFrac (sym e) is
+frac_back digits s (inl (d, e)) = rw e tt
+frac_back digits s (inr (d, e)) = rw e (refl, d)
 
 sign_back : (b : Bool) (s : List ℕ) → read.IsExpSign b s → scanned.IsExpSign s
 sign_back false s (inl e) = inl e
@@ -77,18 +77,15 @@ sign_back false s (inr e) = inr (inl e)
 sign_back true s e = inr (inr e)
 
 exp_back : (e : ℤ) (s : List ℕ) → read.IsExp e s → scanned.IsExp s
-exp_back e s (inl (z, q)) = subst scanned.IsExp (sym q) tt
+exp_back e s (inl (z, q)) = rw q tt
 exp_back e s (inr p) =
-    let rest : scanned.IsExpRest (p.sign ++ p.digits) =
-    record {
+    rw p.joined (p.mark_is, record {
       sign = p.sign;
       digits = p.digits;
       sign_is = sign_back p.negative p.sign p.sign_is;
       digits_are = p.digits_are;
       joined = refl;
-    } in
-    let is : scanned.IsExp (p.mark ∷ (p.sign ++ p.digits)) = (p.mark_is, rest) in
-    subst scanned.IsExp (sym p.joined) is
+    })
 
 pub scanned_number : (s : List ℕ) → SpellsNumber s → scanned.IsNumber s
 scanned_number s (w, n) =
@@ -99,8 +96,7 @@ scanned_number s (w, n) =
       exp = n.exp;
       minus_is = minus_back w.negative n.minus n.minus_is;
       int_is = n.int_is;
-      frac_is =
-          frac_back w.frac n.fraction n.frac_is;
+      frac_is = frac_back w.frac n.fraction n.frac_is;
       exp_is = exp_back w.exponent n.exp n.exp_is;
       joined = n.joined;
     }
@@ -136,9 +132,10 @@ module _ {b : List ℕ} where
   last_item : (ts : Items) (t v : Tree) → Spelled b t → (Contains (list_items ts) v → Spelled b v)
       → Contains (list_items (add_item ts t)) v → Spelled b v
   last_item ts t v last earlier h =
-      let split : Contains (list_items ts) v ⊎ (t ≡ v) =
-      Contains-push_cases (list_items ts) t v (subst (λ us. Contains us v) (items-add ts t) h) in
-      elim split [ inl k ↦ earlier k | inr e ↦ subst (Spelled b) e last ]
+      elim (Contains-push_cases (list_items ts) t v (rw items-add at h)) [
+        | inl k ↦ earlier k
+        | inr e ↦ rw e at last
+      ]
 
   led_spelled : {i j : ℕ} {ts : Items} → LedItems b i j ts → (v : Tree) → Contains (list_items ts) v → Spelled b v
   led_spelled (no_led i) v h = absurd (nothing_held v h)
@@ -147,10 +144,10 @@ module _ {b : List ℕ} where
   last_value : (ms : Members) (n : Atom) (t : Tree) (m : Tree × Tree) → Spelled b t
       → (Contains (list_members ms) m → Spelled b m.1) → Contains (list_members (add_member ms n t)) m → Spelled b m.1
   last_value ms n t m last earlier h =
-      let split : Contains (list_members ms) m ⊎ ((scalar Text n, t) ≡ m) =
-      Contains-push_cases (list_members ms) (scalar Text n, t) m
-      (subst (λ us. Contains us m) (members-add ms n t) h) in
-      elim split [ inl k ↦ earlier k | inr e ↦ subst (λ x. Spelled b x.1) e last ]
+      elim (Contains-push_cases (list_members ms) (scalar Text n, t) m (rw members-add at h)) [
+        | inl k ↦ earlier k
+        | inr e ↦ subst (λ x. Spelled b x.1) e last
+      ]
 
   led_members_spelled : {i j : ℕ} {ms : Members} → LedMembers b i j ms → (m : Tree × Tree)
       → Contains (list_members ms) m → Spelled b m.1
@@ -159,20 +156,14 @@ module _ {b : List ℕ} where
       last_value ms n t m (padded_spelled p) (led_members_spelled before m) h
 
   item_spelled : {i j : ℕ} {u : Tree} → Value b i j u → (v : Tree) → Contains (items_of u) v → Spelled b v
-  item_spelled (atom k i j a) v h = absurd (nothing_held v h)
-  item_spelled (empty_array i j opened white closed) v h = absurd (nothing_held v h)
   item_spelled (full_array i j k ts t opened before p closed) v h =
       last_item ts t v (padded_spelled p) (led_spelled before v) h
-  item_spelled (empty_object i j opened white closed) v h = absurd (nothing_held v h)
-  item_spelled (full_object i j k l ms n t opened before name p closed) v h = absurd (nothing_held v h)
+  item_spelled _ v h = absurd (nothing_held v h)
 
   value_spelled : {i j : ℕ} {u : Tree} → Value b i j u → (m : Tree × Tree) → Contains (members_of u) m → Spelled b m.1
-  value_spelled (atom k i j a) m h = absurd (nothing_held m h)
-  value_spelled (empty_array i j opened white closed) m h = absurd (nothing_held m h)
-  value_spelled (full_array i j k ts t opened before p closed) m h = absurd (nothing_held m h)
-  value_spelled (empty_object i j opened white closed) m h = absurd (nothing_held m h)
   value_spelled (full_object i j k l ms n t opened before name p closed) m h =
       last_value ms n t m (padded_spelled p) (led_members_spelled before m) h
+  value_spelled _ m h = absurd (nothing_held m h)
 
   held_spelled : {t u : Tree} → Spelled b t → IsWithinTree t u → Spelled b u
   held_spelled s the_tree = s
@@ -181,11 +172,8 @@ module _ {b : List ℕ} where
 
   spelled_number : {i j : ℕ} {u : Tree} → Value b i j u → kind_of u ≡ Number → SpellsNumber (spelling_of b u)
   spelled_number (atom k i j a) e =
-      read_number (slice_range b i j) (subst (λ x. IsScalar x (slice_range b i j)) e a.spelled)
-  spelled_number (empty_array i j opened white closed) e = cc
-  spelled_number (full_array i j k ts t opened before p closed) e = cc
-  spelled_number (empty_object i j opened white closed) e = cc
-  spelled_number (full_object i j k l ms n t opened before name p closed) e = cc
+      read_number (slice_range b i j) (rw e at a.spelled)
+  spelled_number _ e = cc
 
 pub held_number : (line : List ℕ) (t u : Tree) → Json line t → IsWithinTree t u → kind_of u ≡ Number
     → SpellsNumber (spelling_of line u)

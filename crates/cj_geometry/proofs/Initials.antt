@@ -1,6 +1,7 @@
 -- Names whose first characters have different slots are distinct.
 use Rattle.cj_geometry.proofs.Common.{Bool, DuplicateName, List, None, Option, Some, Tree, [], ap, are_apart, are_same_texts, arith, cases_eq, cond, distinct, false, false≢true, get_or, inl, inr, length, length-set, members_of, one, option_and_then, refl, repeats, repeats_of, replicate, subst, sym, text_of, true, ℕ, ◌%◌, ◌++◌, ◌<◌, ◌∙◌, ◌∷◌, ◌≡◌, ◌≤◌}
 use Rattle.std.proofs.Common.{◌≢◌, get_or-set_same, get_or-set_other}
+use Rattle.std.proofs.lemmas.Bool.{false_from_ne_true}
 use Rattle.std.specs.Prelude.{slice_set}
 use Rattle.cj_spans.specs.Initials.{begin_apart, then_apart, first_code_of, head}
 use Rattle.cj_geometry.proofs.Repeats.{same_texts}
@@ -27,16 +28,9 @@ pub still_free : (taken : List Bool) (s i : ℕ) → s < length taken → get_or
     → (i ≢ s) × (get_or taken i false ≡ false)
 still_free taken s i below free =
     elim (cases_eq i s) [
-      | inl e ↦ absurd (not_same e)
+      | inl e ↦ absurd (cc (get_or-set_same taken s true false below, rw e at free))
       | inr n ↦ (n, sym (get_or-set_other taken s i true false n) ∙ free)
     ]
-  where
-    not_same : i ≡ s → ⊥
-    not_same e =
-        let yes : get_or (slice_set taken s true) s false ≡ true = get_or-set_same taken s true false below in
-        let no : get_or (slice_set taken s true) s false ≡ false =
-        subst (λ k. get_or (slice_set taken s true) k false ≡ false) e free in
-        cc
 
 all_still_free : (taken : List Bool) (s : ℕ) → s < length taken → (ms : List (Tree × Tree))
     → AreFree (slice_set taken s true) ms → AreFree taken ms
@@ -46,45 +40,41 @@ all_still_free taken s below (m ∷ ms) free = (
   all_still_free taken s below ms free.1,
 )
 
+-- the first of names that are apart has a free slot, and the others are apart once that is taken
+free_slot : (b x : Bool) → cond b false x ≡ true → (b ≡ false) × (x ≡ true)
+free_slot true x h = absurd (false≢true h)
+free_slot false x h = (refl, h)
+
+apart_parts : (taken : List Bool) (m : Tree × Tree) (ms : List (Tree × Tree)) → are_apart taken (m ∷ ms) ≡ true
+    → (c : ℕ) × (first_code_of m.0 ≡ Some c) × (get_or taken (c % 32) false ≡ false)
+    × (are_apart (slice_set taken (c % 32) true) ms ≡ true)
+apart_parts taken m ms h = by_code (first_code_of m.0) h refl
+  where
+    by_code : (o : Option ℕ) → then_apart o taken (λ more. are_apart more ms) ≡ true → first_code_of m.0 ≡ o
+        → (c : ℕ) × (first_code_of m.0 ≡ Some c) × (get_or taken (c % 32) false ≡ false)
+        × (are_apart (slice_set taken (c % 32) true) ms ≡ true)
+    by_code None h is = absurd (false≢true h)
+    by_code (Some c) h is = let parts = free_slot (get_or taken (c % 32) false) _ h in (c, is, parts.0, parts.1)
+
 -- what are apart are free
 all_free : (taken : List Bool) (ms : List (Tree × Tree)) → 32 ≤ length taken → are_apart taken ms ≡ true
     → AreFree taken ms
 all_free taken [] room h = tt
 all_free taken (m ∷ ms) room h =
-    by_code (first_code_of m.0) h refl (λ more wide after. all_free more ms wide after)
-  where
-    by_slot : (c : ℕ) (b : Bool) → get_or taken (c % 32) false ≡ b
-        → cond b false (are_apart (slice_set taken (c % 32) true) ms) ≡ true → first_code_of m.0 ≡ Some c
-        → ((more : List Bool) → 32 ≤ length more → are_apart more ms ≡ true → AreFree more ms) → AreFree taken (m ∷ ms)
-    by_slot c true e h is rest = absurd (false≢true h)
-    by_slot c false e h is rest =
-        let wide : 32 ≤ length (slice_set taken (c % 32) true) =
-        omega (arith, length-set taken (c % 32) true, room) in (
-          (c, is, e),
-          all_still_free taken (c % 32) (omega (arith, room)) ms
-              (rest (slice_set taken (c % 32) true) wide h),
-        )
-
-    by_code : (o : Option ℕ) → then_apart o taken (λ more. are_apart more ms) ≡ true → first_code_of m.0 ≡ o
-        → ((more : List Bool) → 32 ≤ length more → are_apart more ms ≡ true → AreFree more ms) → AreFree taken (m ∷ ms)
-    by_code None h is rest = absurd (false≢true h)
-    by_code (Some c) h is rest = by_slot c (get_or taken (c % 32) false) refl h is rest
+    let a = apart_parts taken m ms h in
+    let wide : 32 ≤ length (slice_set taken (a.0 % 32) true) =
+    omega (arith, length-set taken (a.0 % 32) true, room) in
+    ((a.0, a.1, a.2), all_still_free taken (a.0 % 32) (omega (arith, room)) ms
+    (all_free (slice_set taken (a.0 % 32) true) ms wide a.3))
 
 -- texts of different first characters differ
 others : (t u : Tree) (c d : ℕ) → first_code_of t ≡ Some c → first_code_of u ≡ Some d → d % 32 ≢ c % 32
     → are_same_texts (text_of u) (text_of t) ≡ false
-others t u c d is other apart = by_test (are_same_texts (text_of u) (text_of t)) refl
-  where
-    some-is : {a b : ℕ} → ◌≡◌ {A = Option ℕ} (Some a) (Some b) → a ≡ b
-    some-is h = cc
-
-    by_test : (b : Bool) → are_same_texts (text_of u) (text_of t) ≡ b → b ≡ false
-    by_test true e =
-        let same : first_code_of u ≡ first_code_of t =
-        ap (λ o. option_and_then head o) (same_texts (text_of u) (text_of t) e) in
-        let codes : Some d ≡ Some c = sym other ∙ same ∙ is in
-        absurd (apart (ap (λ k. k % 32) (some-is codes)))
-    by_test false e = refl
+others t u c d is other apart = false_from_ne_true (are_same_texts (text_of u) (text_of t)) (λ e.
+    let same : first_code_of u ≡ first_code_of t =
+    ap (λ o. option_and_then head o) (same_texts (text_of u) (text_of t) e) in
+    let codes : d ≡ c = cc (sym other ∙ same ∙ is) in
+    apart (ap (λ k. k % 32) codes))
 
 -- none of the names repeats one whose slot was taken before
 none_repeats : (t : Tree) (c : ℕ) → first_code_of t ≡ Some c → (taken : List Bool) → c % 32 < length taken
@@ -100,23 +90,12 @@ pub distinct_apart : (taken : List Bool) (ms : List (Tree × Tree)) → 32 ≤ l
     → repeats ms ≡ []
 distinct_apart taken [] room h = refl
 distinct_apart taken (m ∷ ms) room h =
-    by_code (first_code_of m.0) h refl (λ more wide after. distinct_apart more ms wide after)
-  where
-    by_slot : (c : ℕ) (b : Bool) → get_or taken (c % 32) false ≡ b
-        → cond b false (are_apart (slice_set taken (c % 32) true) ms) ≡ true → first_code_of m.0 ≡ Some c
-        → ((more : List Bool) → 32 ≤ length more → are_apart more ms ≡ true → repeats ms ≡ []) → repeats (m ∷ ms) ≡ []
-    by_slot c true e h is rest = absurd (false≢true h)
-    by_slot c false e h is rest =
-        let more = slice_set taken (c % 32) true in
-        let wide : 32 ≤ length more = omega (arith, length-set taken (c % 32) true, room) in
-        let first : repeats_of m.0 ms ≡ [] =
-        none_repeats m.0 c is taken (omega (arith, room)) ms (all_free more ms wide h) in
-        ap (λ fs. fs ++ repeats ms) first ∙ rest more wide h
-
-    by_code : (o : Option ℕ) → then_apart o taken (λ more. are_apart more ms) ≡ true → first_code_of m.0 ≡ o
-        → ((more : List Bool) → 32 ≤ length more → are_apart more ms ≡ true → repeats ms ≡ []) → repeats (m ∷ ms) ≡ []
-    by_code None h is rest = absurd (false≢true h)
-    by_code (Some c) h is rest = by_slot c (get_or taken (c % 32) false) refl h is rest
+    let a = apart_parts taken m ms h in
+    let more = slice_set taken (a.0 % 32) true in
+    let wide : 32 ≤ length more = omega (arith, length-set taken (a.0 % 32) true, room) in
+    ap (λ fs. fs ++ repeats ms)
+    (none_repeats m.0 a.0 a.1 taken (omega (arith, room)) ms (all_free more ms wide a.3))
+    ∙ distinct_apart more ms wide a.3
 
 -- names that begin apart are distinct
 pub begin_distinct : (t : Tree) → begin_apart (members_of t) ≡ true → distinct t ≡ []

@@ -14,7 +14,7 @@ pub record IsNoted (places step : ℕ) (ts left : List Tree) (sizes : List ℕ) 
   pub next : place * step ≡ length ts - length left + until
   pub noted : (n : ℕ) → n < place → get_or sizes n 0 ≡ total_size (take (n * step) ts)
 
-total_size-append : (ts us : List Tree) → total_size (ts ++ us) ≡ total_size ts + total_size us
+pub total_size-append : (ts us : List Tree) → total_size (ts ++ us) ≡ total_size ts + total_size us
 total_size-append [] us = omega arith
 total_size-append (t ∷ ts) us = let e = total_size-append ts us in omega arith
 

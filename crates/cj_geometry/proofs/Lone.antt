@@ -2,6 +2,7 @@
 use Rattle.cj_geometry.proofs.Common.{AreLone, Bool, DecimalFault, Err, Finding, IfSome, IsSome, List, None, Ok, Option, Reason, Result, Some, Tree, [], ap, arith, decimal_of, drop, false, flat_map, index, is_number, is_outside, kind_of, length, length-drop, nat_lt, nat_tests, not, option_and_then, pos, refl, result_ok, scalar, size, spelling, subst, suc, sym, take, total_size, true, value_findings, whole_findings, whole_number, whole_of, zero, ℕ, ℤ, ◌++◌, ◌+◌, ◌<◌, ◌∙◌, ◌∷◌, ◌≡◌, ◌≤◌}
 use Rattle.std.proofs.lemmas.List.Concat.{flat_map-append}
 use Rattle.cj_decimal.specs.Meaning.Number.{Number, as_whole}
+use Rattle.cj_geometry.proofs.ListSteps.{total_size-append}
 use Rattle.cj_geometry.proofs.Numbers.{index-of-whole}
 
 take-next : (n : ℕ) (ts : List Tree) (t : Tree) (rest : List Tree) → drop n ts ≡ t ∷ rest
@@ -14,10 +15,6 @@ there : (n : ℕ) (ts : List Tree) (t : Tree) (rest : List Tree) → drop n ts �
 there zero (x ∷ xs) t rest e = omega arith
 there (suc n) (x ∷ xs) t rest e = let h = there n xs t rest e in omega (arith, h)
 there _ _ t rest e = absurd (cc e)
-
-size-append : (ts us : List Tree) → total_size (ts ++ us) ≡ total_size ts + total_size us
-size-append [] us = omega arith
-size-append (t ∷ ts) us = let h = size-append ts us in omega (arith, h)
 
 size-front : (n : ℕ) (ts : List Tree) → total_size (take n ts) ≤ total_size ts
 size-front (suc n) (t ∷ ts) = let h = size-front n ts in omega (arith, h)
@@ -33,7 +30,7 @@ module _ (n : ℕ) (ts : List Tree) (t : Tree) (rest : List Tree) (next : drop n
   pub lone-more : size t ≡ 1 → AreLone n ts → AreLone (n + 1) ts
   lone-more one_is h =
       let l = there n ts t rest next in
-      let s = ap total_size front ∙ size-append (take n ts) (t ∷ []) in
+      let s = ap total_size front ∙ total_size-append (take n ts) (t ∷ []) in
       let before = h.sizes in
       record { within = omega (arith, l); sizes = omega (arith, s, before, one_is) }
 

@@ -1,6 +1,7 @@
 -- Repeated names, told by neighbours in the order of names.
 use Rattle.cj_geometry.proofs.Common.{All, Ascend, Bool, Contains, DuplicateName, Finding, IfSome, List, None, Option, Some, Tree, [], ap, are_same_texts, arith, cond, false, found_at, get_or, inl, inr, is_above, is_earlier, last_of, least, length, nat_lt, nat_tests, neighbours, one, refl, repeat_of, start_of, subst, suc, sym, text_of, true, zero, ℕ, ◌&&◌, ◌++◌, ◌<◌, ◌∙◌, ◌∷◌, ◌≡◌, ◌⊎◌}
-use Rattle.std.proofs.lemmas.List.Elements.{All-contains, All-head, All-tail, Contains-append_left, Contains-append_right, Contains-append_cases}
+use Rattle.std.proofs.lemmas.Bool.{and_from, cond-true, lt-ltb}
+use Rattle.std.proofs.lemmas.List.Elements.{All-contains, All-contains_itself, All-head, All-tail, Contains-append_left, Contains-append_right, Contains-append_cases}
 use Rattle.cj_spans.specs.Meaning.Least.{list_found, HaveSame}
 use Rattle.cj_spans.proofs.Findings.{least-append, least-swap, least_only, fold_least}
 use Rattle.cj_geometry.proofs.Repeats.{same_texts}
@@ -60,15 +61,10 @@ told_more : (o : Option Finding) (fs : List Finding) (t : Tree) → IsTold o t �
 told_more o fs t h = comm o fs (one DuplicateName t) ∙ ap (λ x. least x fs) h
 
 told_now : (o : Option Finding) (t : Tree) → IsTold (least o (one DuplicateName t)) t
-told_now o t = absorbed o (one DuplicateName t) (one DuplicateName t) (λ k d l. contains_at (one DuplicateName t) k d l)
-  where
-    contains_at : (fs : List Finding) (k : ℕ) (d : Finding) → k < length fs → Contains fs (get_or fs k d)
-    contains_at [] k d l = absurd (omega arith)
-    contains_at (f ∷ fs) zero d l = contains_first f fs
-    contains_at (f ∷ fs) (suc k) d l = contains_later f fs (get_or fs k d) (contains_at fs k d (omega arith))
+told_now o t = absorbed o (one DuplicateName t) (one DuplicateName t) (All-contains_itself (one DuplicateName t))
 
 told_as : (o : Option Finding) (t u : Tree) → start_of t ≡ start_of u → IsTold o t → IsTold o u
-told_as o t u e h = subst (λ n. least o (found_at n DuplicateName ∷ []) ≡ o) e h
+told_as o t u e h = rw e at h
 
 -- each name up to the floor that repeats an earlier one is told
 abbrev pub AreDealt : List Tree → Option Finding → Option Tree → Type 0
@@ -97,7 +93,7 @@ front : (ns : List Tree) (floor : Option Tree) (t : Tree) (ts : List Tree) → H
 front ns floor t ts g a u c h =
     elim (g u c h) [
       | inl i ↦ elim (contains_cases t ts u i) [
-        | inl e ↦ subst (λ x. is_earlier x t ≡ false) e (earlier_itself t)
+        | inl e ↦ rw (← e) (earlier_itself t)
         | inr j ↦ All-contains (λ v. is_earlier v t ≡ false) ts u a j
       ]
       | inr b ↦ All-head (λ v. is_earlier u v ≡ false) t ts b
@@ -105,10 +101,7 @@ front ns floor t ts g a u c h =
 
 repeat_shown : (p t : Tree) → are_same_texts (text_of t) (text_of p) ≡ true → start_of p < start_of t
     → repeat_of (Some p) t ≡ one DuplicateName t
-repeat_shown p t s l =
-    let e : nat_lt (start_of p) (start_of t) ≡ true = grind (arith, nat_tests) in
-    ap (λ b. cond (b && nat_lt (start_of p) (start_of t)) (one DuplicateName t) []) s
-    ∙ ap (λ b. cond b (one DuplicateName t) []) e
+repeat_shown p t s l = cond-true _ _ _ (and_from _ _ s (lt-ltb _ _ l))
 
 -- u repeats t, and is above the floor and no later than the next name n
 next_told : (ns : List Tree) (o : Option Finding) (floor : Option Tree) (n t u : Tree)
@@ -131,7 +124,7 @@ next_told ns o (Some p) n t u f ct cu s l a h =
     ∙ ap (λ x. are_same_texts (text_of u) x) (e ∙ sym tie.text ∙ sym tu_text) ∙ s in
     let r = repeat_shown p n same (start_by_earlier p n e pn) in
     told_as (least o (repeat_of (Some p) n)) n u (sym tie.start)
-    (subst (λ fs. IsTold (least o fs) n) (sym r) (told_now o n))
+    (rw r (told_now o n))
 
 dealt_more : (ns : List Tree) (o : Option Finding) (floor : Option Tree) (n : Tree)
     → ((x : Tree) → Contains ns x → is_above floor x ≡ true → is_earlier x n ≡ false) → AreDealt ns o floor
@@ -152,7 +145,7 @@ gap_on : (ns : List Tree) (floor : Option Tree) (t : Tree) (ts : List Tree) → 
 gap_on ns floor t ts g p = λ u c h.
     elim (g u c (p u h)) [
       | inl i ↦ elim (contains_cases t ts u i) [
-        | inl e ↦ absurd (both_sides h (subst (λ x. is_earlier t x ≡ false) e (earlier_itself t)))
+        | inl e ↦ absurd (both_sides h (rw (← e) (earlier_itself t)))
         | inr j ↦ inl j
       ]
       | inr b ↦ inr (All-tail (λ v. is_earlier u v ≡ false) t ts b)
@@ -169,8 +162,7 @@ all_dealt ns o floor (t ∷ ts) g a p d =
     let e = dealt_more ns o floor t (front ns floor t ts g a.0) d in
     let r = all_dealt ns (least o (repeat_of floor t)) (Some t) ts
     (gap_on ns floor t ts g (All-head (IsPast floor) t ts p)) a.1 (past_rest t ts a.0) e in
-    subst (λ x. AreDealt ns x (last_of (Some t) ts)) (sym (least-append o (repeat_of floor t) (neighbours (Some t) ts)))
-    r
+    rw least-append r
 
 -- ---- the last of them
 
@@ -180,14 +172,12 @@ pub none_past : (floor : Option Tree) (ts : List Tree) (u : Tree) → Ascend ts 
 none_past floor [] u a c = absurd (contains_none u c)
 none_past floor (t ∷ []) u a c =
     elim (contains_cases t [] u c) [
-      | inl e ↦ subst (λ x. is_earlier t x ≡ false) e (earlier_itself t)
-      | inr d ↦
-          absurd (contains_none u d)
+      | inl e ↦ rw (← e) (earlier_itself t)
+      | inr d ↦ absurd (contains_none u d)
     ]
 none_past floor (t ∷ v ∷ ts) u a c =
     elim (contains_cases t (v ∷ ts) u c) [
-      | inl e ↦ subst (λ x. is_above (last_of (Some v) ts) x ≡ false) e
-          (past_last (last_of (Some v) ts) t v (All-head (λ x. is_earlier x t ≡ false) v ts a.0)
+      | inl e ↦ rw (← e) (past_last (last_of (Some v) ts) t v (All-head (λ x. is_earlier x t ≡ false) v ts a.0)
           (none_past (Some t) (v ∷ ts) v a.1 (contains_first v ts)))
       | inr d ↦ none_past (Some t) (v ∷ ts) u a.1 d
     ]

@@ -1,6 +1,7 @@
 -- What reading a number says of its findings.
 use Rattle.cj_geometry.proofs.Common.{Bool, Class, DecimalFault, Err, Finding, IfSome, IsInt, IsNumberInRange, IsNumberOutOfRange, IsSome, List, None, NotWhole, Number, Ok, Option, Reason, Result, Some, SpellsNumber, Tree, WrongKind, [], ap, arith, array, cond, decimal_of, false, fault_reason, get_or, index, inl, inr, is_number, is_outside, kind_by, kind_of, least, nat_lt, nat_tests, negsuc, number, object, of_z, one, option_and_then, pos, refl, result_ok, scalar, slice_range, spelling, spelling_of, subst, sym, to_z, true, value_findings, w64, whole_answer, whole_answer_by, whole_findings, whole_of, ℕ, ℤ, ◌<◌, ◌^◌, ◌∙◌, ◌∷◌, ◌≡◌, ◌≤◌}
 use Rattle.std.proofs.Common.{unsigned_abs, ◌*ℤ◌, unwrap_or}
+use Rattle.std.proofs.lemmas.Bool.{cond_both, ltb-true}
 use Rattle.std.proofs.lemmas.Int.{to_z-of_z, fits_signed_from_abs}
 use Rattle.cj_spans.specs.Meaning.Json.{byte}
 use Rattle.cj_decimal.specs.declared.decimal.DecimalFault.TheVariants.{NotANumber, NumberRange as OutOfRange}
@@ -121,14 +122,9 @@ index-told {found} t same reason count = go (is_number (kind_of t)) refl
 pub whole-small : (t : Tree) → unsigned_abs (unwrap_or (whole_of t) (pos 0)) < 10 ^ 18
 whole-small t = by_kind (is_number (kind_of t))
   where
-    by_size : (w : ℤ) (b : Bool) → nat_lt (unsigned_abs w) (10 ^ 18) ≡ b
-        → unsigned_abs (unwrap_or (cond b (Some w) None) (pos 0)) < 10 ^ 18
-    by_size w true e = grind (arith, nat_tests)
-    by_size w false e = omega arith
-
     by_power : (c p : ℤ) → unsigned_abs (unwrap_or (power_whole c p) (pos 0)) < 10 ^ 18
-    by_power c (pos k) =
-        by_size (c *ℤ pos (10 ^ k)) (nat_lt (unsigned_abs (c *ℤ pos (10 ^ k))) (10 ^ 18)) refl
+    by_power c (pos k) = cond_both (nat_lt (unsigned_abs (c *ℤ pos (10 ^ k))) (10 ^ 18)) _ _
+        (λ (o : Option ℤ). unsigned_abs (unwrap_or o (pos 0)) < 10 ^ 18) (λ e. ltb-true _ _ e) (λ e. omega arith)
     by_power c (negsuc k) = omega arith
 
     by_value : (r : Result DecimalNumber DecimalFault)
@@ -217,21 +213,18 @@ module _ {line b : List ℕ} (t : Tree) (start stop : ℕ) (e : b ≡ line) (ord
   read-there : (w : ℤ) → kind_by (byte line start) ≡ Number
       → ((c : Class (slice_range b start stop)) → whole_answer c ≡ Ok (Some w)) → whole_of t ≡ Some w
   read-there w number answer =
-      let P : List ℕ → Type 0 = λ s. (c : Class (slice_range s start stop)) → whole_answer c ≡ Ok (Some w) in
-      whole-there line t (sym kind ∙ number) (slice_range line start stop) same w (subst P e answer)
+      whole-there line t (sym kind ∙ number) (slice_range line start stop) same w (rw e at answer)
 
   pub few-there : (n : ℕ) → IsFewDigits (slice_range b start stop)
       → ((c : Class (slice_range b start stop)) → whole_answer c ≡ Ok (Some (pos n))) → whole_of t ≡ Some (pos n)
   few-there n few answer =
-      let P : List ℕ → Type 0 = λ s. IsFewDigits (slice_range s start stop) in
-      read-there (pos n) (kind-at line start stop order (int-first (slice_range line start stop) (subst P e few).0))
+      read-there (pos n) (kind-at line start stop order (int-first (slice_range line start stop) (rw e at few).0))
       answer
 
   pub signed-there : (w : ℤ) → IsFewSigned (slice_range b start stop)
       → ((c : Class (slice_range b start stop)) → whole_answer c ≡ Ok (Some w)) → whole_of t ≡ Some w
   signed-there w few answer =
-      let P : List ℕ → Type 0 = λ s. IsFewSigned (slice_range s start stop) in
-      read-there w (kind-at line start stop order (signed-first (slice_range line start stop) (subst P e few))) answer
+      read-there w (kind-at line start stop order (signed-first (slice_range line start stop) (rw e at few))) answer
 
   pub few-there-if : (o : Option ℕ) → (IsSome o → IsFewDigits (slice_range b start stop))
       → IfSome o (λ n. (c : Class (slice_range b start stop)) → whole_answer c ≡ Ok (Some (pos n)))
@@ -249,9 +242,7 @@ module _ {line b : List ℕ} (t : Tree) (start stop : ℕ) (e : b ≡ line) (ord
   pub begun-there : (kind_of t ≡ Number → scanned.IsNumber (slice_range line start stop))
       → IsNumberIfBegun (slice_range b start stop)
   begun-there number =
-      let P : List ℕ → Type 0 = λ s. IsNumberIfBegun (slice_range s start stop) in
-      subst P (sym e)
-      (λ low high. read_number (slice_range line start stop)
+      rw e (λ low high. read_number (slice_range line start stop)
       (number (sym kind ∙ kind-at line start stop order (low, high))))
 
   pub word-there-if : (o : Option ℕ) → kind_of t ≡ Number

@@ -156,3 +156,7 @@ of-name n t small h = of-text object_types (chars (row_numbered n).name) t (text
 
 pub of-name-type : (o : ObjectType) (t : Tree) → has_text (chars (row_at o).name) t ≡ true → row_of t ≡ Some (row_at o)
 of-name-type o t h = of-name (number_of o) t (number-below o) h
+
+pub of-self : {o p : ObjectType} (t : Tree) → o ≡ p → has_text (chars (row_at p).name) t ≡ true
+    → row_of t ≡ Some (row_at o)
+of-self {p} t is h = rw is (of-name-type p t h)

@@ -1,5 +1,6 @@
 -- The order of names, and what neighbours in it tell.
 use Rattle.cj_geometry.proofs.Common.{Bool, Equal, Greater, Less, List, None, Option, Ordering, Some, Tree, ap, arith, cases_lt, cases_order, compare_names, cond, false, inl, inr, is_earlier, is_eq, is_lt, nat_cmp, nat_eq, nat_lt, nat_tests, refl, start_of, subst, sym, text_of, true, ℕ, ◌<◌, ◌∙◌, ◌≡◌}
+use Rattle.std.proofs.lemmas.Bool.{false_from_ne_true}
 use Rattle.std.specs.Cmp.{IsTotalOrder, tied_itself, alike_right, then_total, on_total, nat_cmp_total}
 use Rattle.std.specs.Cmp.Lexicographic.{bytes_decides, nat_list_cmp_total, options_total, texts_ties}
 use Rattle.std.specs.Ordering.{ordering_then, ordering_reverse}
@@ -45,8 +46,7 @@ pub both_sides : {b : Bool} → b ≡ true → b ≡ false → ⊥
 both_sides {b} h k = cc
 
 pub none_true : (b : Bool) → (b ≡ true → ⊥) → b ≡ false
-none_true true f = absurd (f refl)
-none_true false f = refl
+none_true b f = false_from_ne_true b f
 
 pub upto_upto : (t u v : Tree) → is_earlier u t ≡ false → is_earlier v u ≡ false → is_earlier v t ≡ false
 upto_upto t u v h k = none_true (is_earlier v t) (λ e. both_sides (on_upto v t u e h) k)
@@ -67,18 +67,7 @@ then_equal Equal s h = (refl, h)
 then_equal _ s h = cc
 
 same_number : (m n : ℕ) → nat_cmp m n ≡ Equal → m ≡ n
-same_number m n h =
-    elim (cases_order m n) [
-      | inl e ↦ e
-      | inr (inl l) ↦ let e : nat_lt m n ≡ true = grind (arith, nat_tests) in
-          let f : Less ≡ Equal = sym (ap (λ b. cond b Less (cond (nat_eq m n) Equal Greater)) e) ∙ h in cc
-      | inr (inr g) ↦
-          let e : nat_lt m n ≡ false = grind (arith, nat_tests) in
-          let d : nat_eq m n ≡ false = grind (arith, nat_tests) in
-          let f : Greater ≡ Equal =
-          sym (ap (λ b. cond b Less (cond (nat_eq m n) Equal Greater)) e ∙ ap (λ b. cond b Equal Greater) d) ∙ h in
-          cc
-    ]
+same_number m n h = grind (arith, nat_tests)
 
 pub same_by_order : (s t : Option (List ℕ)) → compare_texts s t ≡ Equal → s ≡ t
 same_by_order None None h = refl
@@ -100,24 +89,11 @@ tied t u h k =
 text_itself : {s t : Option (List ℕ)} → s ≡ t → compare_texts s t ≡ Equal
 text_itself {s} e = subst (λ x. compare_texts s x ≡ Equal) e (tied_itself (options_total nat_list_cmp_total) s)
 
-less_number : (m n : ℕ) → m < n → nat_cmp m n ≡ Less
-less_number m n h = let e : nat_lt m n ≡ true = grind (arith, nat_tests) in
-    ap (λ b. cond b Less (cond (nat_eq m n) Equal Greater)) e
+pub less_number : (m n : ℕ) → m < n → nat_cmp m n ≡ Less
+less_number m n h = grind (arith, nat_tests)
 
 number_less : (m n : ℕ) → nat_cmp m n ≡ Less → m < n
-number_less m n h =
-    elim (cases_lt m n) [
-      | inl l ↦ l
-      | inr g ↦
-          let e : nat_lt m n ≡ false = grind (arith, nat_tests) in
-          let f : cond (nat_eq m n) Equal Greater ≡ Less =
-          sym (ap (λ b. cond b Less (cond (nat_eq m n) Equal Greater)) e) ∙ h in
-          absurd (never_less (nat_eq m n) f)
-    ]
-  where
-    never_less : (b : Bool) → cond b Equal Greater ≡ Less → ⊥
-    never_less true e = cc
-    never_less false e = cc
+number_less m n h = grind (arith, nat_tests)
 
 -- where they start orders them
 pub earlier_by_start : (t u : Tree) → text_of t ≡ text_of u → start_of t < start_of u → is_earlier t u ≡ true

@@ -1,7 +1,7 @@
 -- What a walk over names leaves in the room.
 use Rattle.cj_geometry.proofs.Common.{All, All-permutation, AreLeast, Ascend, Bool, Contains, HoldNames, IfSome, IsHeldName, IsPermutation, IsWorded, List, None, Option, Some, Source, TakeOne, Tree, WordedName, [], ap, arith, compare_worded, drop, false, get_or, inl, inr, is_above, is_below, is_earlier, is_lt, is_past, is_some, last_of, length, length-append, length-drop, length-take-le, limit_in, map, name_in, names_in, names_of, refl, set, subst, sym, take, true, ℕ, ◌&&◌, ◌++◌, ◌+◌, ◌<◌, ◌∙◌, ◌∷◌, ◌≡◌, ◌≤◌, ◌⊎◌}
 use Rattle.std.proofs.lemmas.Grind.{common_steps}
-use Rattle.std.proofs.lemmas.List.{map-append, take_more_set}
+use Rattle.std.proofs.lemmas.List.{get_or-map, length-map, map-append, take_more_set}
 use Rattle.std.proofs.lemmas.List.Elements.{All-contains, All-head, All-tail, All-nil, All-push, All-map, Contains-get_or, Contains-append_left, Contains-append_right, Contains-append_cases, Contains-push, All-contains_itself}
 use Rattle.std.proofs.lemmas.List.Sorted.{length_permutation, Contains-permutation, IsPermutation-sym}
 use Rattle.cj_geometry.proofs.Ordered.{earlier_itself, earlier_not_back, on_upto, upto_upto, both_sides, none_true}
@@ -11,16 +11,9 @@ use Rattle.cj_geometry.proofs.Distinct.{AreNext, left_above, fewer_left}
 
 -- ---- lists
 
-all_of : {X : Type 0} (P : X → Type 0) (xs : List X) → ((x : X) → Contains xs x → P x) → All P xs
-all_of P xs f = λ k d l. f (get_or xs k d) (Contains-get_or xs k d l)
-
 pub contains_map : {X Y : Type 0} (f : X → Y) (xs : List X) (x : X) → Contains xs x → Contains (map f xs) (f x)
-contains_map f [] x c = absurd (contains_none x c)
-contains_map f (y ∷ xs) x c =
-    elim (contains_cases y xs x c) [
-      | inl e ↦ subst (λ z. Contains (f y ∷ map f xs) (f z)) e (contains_first (f y) (map f xs))
-      | inr d ↦ contains_later (f y) (map f xs) (f x) (contains_map f xs x d)
-    ]
+contains_map f xs x c = rw (get_or-map f xs c.0 x (f x) c.1, c.2) at
+    (Contains-get_or (map f xs) c.0 (f x) (omega (arith, c.1, length-map xs f)))
 
 pub contains_unmap : {X Y : Type 0} (f : X → Y) (xs : List X) (y : Y) → Contains (map f xs) y → (x : X) × Contains xs x
     × (f x ≡ y)
@@ -39,7 +32,7 @@ pub full_least : {s : Source} (room : List WordedName) (n : ℕ) (e : WordedName
 full_least {s} room n e {least} new {c} l f a h =
     let all : take (n + 1) (set room n e) ≡ set room n e = grind (arith, common_steps) in
     let p : set room n e ≡ take n room ++ e ∷ [] = sym all ∙ take_more_set room n e l in
-    subst (λ xs. AreLeast s xs (take (length least) new) c) p (subst (λ xs. AreLeast s (set room n e) xs c) (sym h) a)
+    rw (h, ← p) a
 
 -- ---- a walk begins, and passes a name over
 
@@ -58,10 +51,7 @@ holds_passed {s} left {floor} {ceiling} {es} t n h =
     still u a b (inl c) = inl c
     still u a b (inr c) =
         elim (contains_cases t left u c) [
-          | inl e ↦
-              let m : is_above floor t && is_below ceiling t ≡ true =
-              ap (λ x. is_above floor x && is_below ceiling x) e ∙ ap (λ x. x && is_below ceiling u) a ∙ b in
-              absurd (both_sides m n)
+          | inl e ↦ absurd (both_sides (rw (e, a) b) n)
           | inr d ↦ inr d
         ]
 
@@ -83,12 +73,10 @@ holds_pushed {s} {names} left {floor} {ceiling} {es} {e} i h = record {
     still : (u : Tree) → Contains (names_in s es) u ⊎ Contains (name_in s e ∷ left) u
         → Contains (names_in s (es ++ e ∷ [])) u ⊎ Contains left u
     still u (inl c) =
-        inl (subst (λ ts. Contains ts u) (sym (map-append (name_in s) es (e ∷ [])))
-        (Contains-append_left (names_in s es) (name_in s e ∷ []) u c))
+        inl (rw map-append (Contains-append_left (names_in s es) (name_in s e ∷ []) u c))
     still u (inr c) =
         elim (contains_cases (name_in s e) left u c) [
-          | inl f ↦ inl (subst (λ x. Contains (names_in s (es ++ e ∷ [])) x) f
-              (contains_map (name_in s) (es ++ e ∷ []) e (Contains-push es e)))
+          | inl f ↦ inl (rw f at (contains_map (name_in s) (es ++ e ∷ []) e (Contains-push es e)))
           | inr d ↦ inr d
         ]
 
@@ -116,7 +104,7 @@ pub holds_least : {s : Source} {names left : List Tree} {floor ceiling : Option 
     {next : WordedName} → HoldNames s names left floor ceiling es → AreLeast s es front next
     → HoldNames s names left floor (Some (name_in s next)) front
 holds_least {s} {names} {left} {floor} {ceiling} {es} {front} {next} h a = record {
-  held = all_of (IsHeldName s names floor (Some (name_in s next))) front held_on;
+  held = λ k d l. held_on (get_or front k d) (Contains-get_or front k d l);
   whole = λ t c up b. still t b (h.whole t c up (below_more ceiling t (name_in s next) n.under b));
 }
   where
@@ -131,8 +119,7 @@ holds_least {s} {names} {left} {floor} {ceiling} {es} {front} {next} h a = recor
           word = i.word;
           named = i.named;
           above = i.above;
-          under = sym (less_as_earlier s next e n.word i.word)
-              ∙ l;
+          under = sym (less_as_earlier s next e n.word i.word) ∙ l;
         }
 
     kept : (t : Tree) (e : WordedName) → is_earlier t (name_in s next) ≡ true → Contains es e → name_in s e ≡ t
@@ -141,7 +128,7 @@ holds_least {s} {names} {left} {floor} {ceiling} {es} {front} {next} h a = recor
         let i = All-contains (IsHeldName s names floor ceiling) es e h.held c in
         let b' : is_earlier (name_in s e) (name_in s next) ≡ true = ap (λ x. is_earlier x (name_in s next)) f ∙ b in
         elim (Contains-append_cases front (next ∷ a.others) e (Contains-permutation es _ e a.permutation c)) [
-          | inl d ↦ subst (λ x. Contains (names_in s front) x) f (contains_map (name_in s) front e d)
+          | inl d ↦ rw f at (contains_map (name_in s) front e d)
           | inr d ↦ elim (contains_cases next a.others e d) [
             | inl g ↦ absurd (both_sides (ap (λ x. is_earlier (name_in s x) (name_in s next)) g ∙ b')
                 (earlier_itself (name_in s next)))
@@ -174,7 +161,7 @@ pub gathered_passed : {s : Source} {names : List Tree} (left : List Tree) {floor
     && is_below (limit_in s ceiling) (name_in s e) ≡ false
     → HasGathered s names (t ∷ left) floor ceiling es → HasGathered s names left floor ceiling es
 gathered_passed {s} {names} left {floor} {ceiling} e t f n g = record {
-  holds = holds_passed left t (subst (λ x. is_above floor x && is_below (limit_in s ceiling) x ≡ false) f n) g.holds;
+  holds = holds_passed left t (rw f at n) g.holds;
   word = g.word;
   rest = All-tail (Contains names) t left g.rest;
 }
@@ -188,54 +175,44 @@ pub gathered_more : {s : Source} {names : List Tree} (left : List Tree) {floor :
 gathered_more {s} {names} left {floor} ceiling next e t es new f w a b o g =
     let i : IsHeldName s names floor (limit_in s ceiling) e = record {
       word = w;
-      named = subst (Contains names) (sym f) (All-head (Contains names) t left g.rest);
+      named = rw f (All-head (Contains names) t left g.rest);
       above = a;
       under = below_under (limit_in s ceiling) (name_in s e) b;
     } in
-    let h = subst (λ x. HoldNames s names (x ∷ left) floor (limit_in s ceiling) es) (sym f) g.holds in
-    by_room o (holds_pushed left i h)
+    by_room o (holds_pushed left i (rw f g.holds))
   where
     rest : All (Contains names) left
     rest = All-tail (Contains names) t left g.rest
 
     by_room : TakeOne s e es ceiling new next → HoldNames s names left floor (limit_in s ceiling) (es ++ e ∷ [])
         → HasGathered s names left floor next new
-    by_room (inl p) h =
-        subst (λ x. HasGathered s names left floor next x) (sym p.0)
-        (subst (λ x. HasGathered s names left floor x (es ++ e ∷ [])) (sym p.1)
-        (record { holds = h; word = g.word; rest = rest }))
+    by_room (inl p) h = rw (p.0, p.1) (record { holds = h; word = g.word; rest = rest })
     by_room (inr p) h =
         let n = All-contains (IsHeldName s names floor (limit_in s ceiling)) (es ++ e ∷ []) p.0 h.held
         (next_among p.2) in
-        subst (λ x. HasGathered s names left floor x new) (sym p.1)
-        (record {
-          holds = holds_least h p.2;
-          word = n.word;
-          rest = rest;
-        })
+        rw p.1 (record { holds = holds_least h p.2; word = n.word; rest = rest })
 
 -- ---- a walk has ended
+
+-- what was gathered is there in another order, and nothing is left
+still_there : (s : Source) {es : List WordedName} (fs : List WordedName) (t : Tree) → IsPermutation es fs
+    → Contains (names_in s es) t ⊎ Contains [] t → Contains (names_in s fs) t
+still_there s {es} fs t p (inl c) =
+    let r = contains_unmap (name_in s) es t c in
+    rw r.2 at (contains_map (name_in s) fs r.0 (Contains-permutation es fs r.0 p r.1))
+still_there s fs t p (inr c) = absurd (contains_none t c)
 
 gap_none : {s : Source} {ns : List Tree} {floor ceiling : Option Tree} {es : List WordedName} (fs : List WordedName)
     → HoldNames s ns [] floor ceiling es → IsPermutation es fs → HaveNoGap ns floor (names_in s fs)
 gap_none {s} {ns} {floor} {ceiling} {es} fs h p = λ t c a. by_side (is_below ceiling t) t refl c a
   where
-    moved : (t : Tree) → Contains (names_in s es) t → Contains (names_in s fs) t
-    moved t c = let r = contains_unmap (name_in s) es t c in
-        subst (λ x. Contains (names_in s fs) x) r.2
-        (contains_map (name_in s) fs r.0 (Contains-permutation es fs r.0 p r.1))
-
     behind : (o : Option Tree) (t u : Tree) → is_below o t ≡ false → is_past o u ≡ false → is_earlier t u ≡ false
     behind None t u b k = absurd (both_sides refl b)
     behind (Some c) t u b k = upto_upto u c t k b
 
-    none_left : (t : Tree) → Contains (names_in s es) t ⊎ Contains [] t → Contains (names_in s es) t
-    none_left t (inl c) = c
-    none_left t (inr c) = absurd (contains_none t c)
-
     by_side : (v : Bool) (t : Tree) → is_below ceiling t ≡ v → Contains ns t → is_above floor t ≡ true
         → Contains (names_in s fs) t ⊎ All (λ u. is_earlier t u ≡ false) (names_in s fs)
-    by_side true t b c a = inl (moved t (none_left t (h.whole t c a b)))
+    by_side true t b c a = inl (still_there s fs t p (h.whole t c a b))
     by_side false t b c a =
         inr (All-map (λ u. is_earlier t u ≡ false) (name_in s) fs
         (All-permutation (λ e. is_earlier t (name_in s e) ≡ false) es fs p
@@ -262,13 +239,7 @@ pub none_left : (s : Source) (ms : List (Tree × Tree)) (floor : Option Tree) (e
 none_left s ms floor es fs h p a t c =
     let n = are_next ms fs h p a in
     none_true (is_above (last_of floor (names_in s fs)) t) (λ k. both_sides k (none_past floor (names_in s fs) t a
-    (there (h.whole t c (last_past floor (names_in s fs) a n.past t k) refl))))
-  where
-    there : Contains (names_in s es) t ⊎ Contains [] t → Contains (names_in s fs) t
-    there (inl c) = let r = contains_unmap (name_in s) es t c in
-        subst (λ x. Contains (names_in s fs) x) r.2
-        (contains_map (name_in s) fs r.0 (Contains-permutation es fs r.0 p r.1))
-    there (inr c) = absurd (contains_none t c)
+    (still_there s fs t p (h.whole t c (last_past floor (names_in s fs) a n.past t k) refl))))
 
 -- a part of the room that was put in order has as many names
 pub room_kept : (n : ℕ) (room fs : List WordedName) → n ≤ length room → IsPermutation (take n room) fs

@@ -9,17 +9,12 @@ use Rattle.cj_geometry.proofs.Numbers.{whole-there}
 few-signed : {s : List ℕ} → IsWholeNumber s → length s ≤ 18 → IsFewSigned s
 few-signed {s} w short = go w.minus_is
   where
-    int-few : length w.int ≤ 18 → IsFewDigits w.int
-    int-few l = (w.int_is, l)
-
     go : (w.minus ≡ []) ⊎ (w.minus ≡ 45 ∷ []) → IsFewSigned s
     go (inl e) =
-        let same : s ≡ w.int = w.joined ∙ ap (λ m. m ++ w.int) e in
-        let P : List ℕ → Type 0 = IsFewDigits in
-        inl (subst P (sym same) (int-few (omega (arith, short, ap length same))))
+        let same : s ≡ w.int = w.joined ∙ ap (λ m. m ++ w.int) e in inl (rw same (w.int_is, rw same at short))
     go (inr e) =
         let same : s ≡ 45 ∷ w.int = w.joined ∙ ap (λ m. m ++ w.int) e in
-        inr (w.int, same, int-few (omega (arith, short, ap length same)))
+        inr (w.int, same, (w.int_is, omega (arith, short, ap length same)))
 
 short-none : {line : List ℕ} {t : Tree} → IsShortWhole line t → whole_number t ≡ []
 short-none {line} {t} w =

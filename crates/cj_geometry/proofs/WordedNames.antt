@@ -7,35 +7,28 @@ use Rattle.std.specs.Cmp.Lexicographic.{nat_list_cmp_total, options_total}
 use Rattle.std.specs.List.Sorted.{IsSplitAroundBy}
 use Rattle.std.specs.Ordering.{ordering_then, ordering_reverse}
 use Rattle.std.specs.Fn.{Called, ComparesAs}
-use Rattle.std.proofs.lemmas.List.Elements.{All-head, All-tail, All-nil}
+use Rattle.std.proofs.lemmas.List.Elements.{All-cons, All-head, All-tail, All-nil}
 use Rattle.std.proofs.lemmas.Fn.{always_returns_same}
 use Rattle.cj_spans.specs.Order.{compare_texts, front_word}
 use Rattle.cj_spans.proofs.Words.{less_by_words}
-use Rattle.cj_geometry.proofs.Ordered.{order}
+use Rattle.cj_geometry.proofs.Ordered.{less_number, order}
 
 -- ---- the words go along with the texts
 
-less_numbers : (m n : ℕ) → m < n → nat_cmp m n ≡ Less
-less_numbers m n h = let e : nat_lt m n ≡ true = grind (arith, nat_tests) in
-    ap (λ b. cond b Less (cond (nat_eq m n) Equal Greater)) e
-
-same_numbers : {m n : ℕ} → m ≡ n → nat_cmp m n ≡ Equal
-same_numbers {m} {n} h =
-    let e : nat_lt m n ≡ false = grind (arith, nat_tests) in
-    let f : nat_eq m n ≡ true = grind (arith, nat_tests) in
-    ap (λ b. cond b Less (cond (nat_eq m n) Equal Greater)) e ∙ ap (λ b. cond b Equal Greater) f
+same_numbers : (m n : ℕ) → m ≡ n → nat_cmp m n ≡ Equal
+same_numbers m n h = grind (arith, nat_tests)
 
 greater_numbers : (m n : ℕ) → n < m → nat_cmp m n ≡ Greater
-greater_numbers m n h = nat_cmp_total.antisymm m n ∙ ap ordering_reverse (less_numbers n m h)
+greater_numbers m n h = grind (arith, nat_tests)
 
 words_first : (t u : Tree) {v w : ℕ} → v ≡ front_word (text_of t) → w ≡ front_word (text_of u)
     → ordering_then (nat_cmp v w) (compare_names t u) ≡ compare_names t u
 words_first t u {v} {w} e f =
     elim (cases_order v w) [
-      | inl s ↦ ap (λ r. ordering_then r (compare_names t u)) (same_numbers s)
+      | inl s ↦ ap (λ r. ordering_then r (compare_names t u)) (same_numbers v w s)
       | inr (inl l) ↦
           let h : compare_texts (text_of t) (text_of u) ≡ Less = less_by_words (text_of t) (text_of u) (omega arith) in
-          ap (λ r. ordering_then r (compare_names t u)) (less_numbers v w l)
+          ap (λ r. ordering_then r (compare_names t u)) (less_number v w l)
           ∙ sym (ap (λ r. ordering_then r (nat_cmp (start_of t) (start_of u))) h)
       | inr (inr g) ↦
           let h : compare_texts (text_of u) (text_of t) ≡ Less = less_by_words (text_of u) (text_of t) (omega arith) in
@@ -66,13 +59,7 @@ each_later s e [] h a f = All-nil (λ u. is_earlier u (name_in s e) ≡ false)
 each_later s e (d ∷ es) h a f =
     let g = sym (less_as_earlier s d e (All-head (IsWorded s) d es a) h) ∙ f 0 d (omega arith) in
     let r = each_later s e es h (All-tail (IsWorded s) d es a) (λ k x l. f (suc k) x (omega arith)) in
-    first_and g r
-  where
-    first_and : is_earlier (name_in s d) (name_in s e) ≡ false
-        → All (λ u. is_earlier u (name_in s e) ≡ false) (names_in s es)
-        → All (λ u. is_earlier u (name_in s e) ≡ false) (names_in s (d ∷ es))
-    first_and g r zero x l = g
-    first_and g r (suc k) x l = r k x (omega arith)
+    All-cons (λ u. is_earlier u (name_in s e) ≡ false) (name_in s d) (names_in s es) g r
 
 pub ascend_by : (s : Source) (es : List WordedName) → All (IsWorded s) es
     → ((i j : ℕ) (d : WordedName) → i ≤ j → j < length es → is_lt (compare_worded s (get_or es j d) (get_or es i d))
@@ -104,5 +91,4 @@ pub least_copied : (s : Source) (all : List WordedName) {front : List WordedName
     → IsPermutation all (front ++ next ∷ others)
     → IsSplitAroundBy (λ d e. is_lt (compare_worded s d e)) front next others → AreLeast s all copy next
 least_copied s all others next e h k =
-    subst (λ xs. AreLeast s all xs next) (sym e)
-    (record { others = others; permutation = h; before = k.0; behind = k.1 })
+    rw e (record { others = others; permutation = h; before = k.0; behind = k.1 })
