@@ -1,5 +1,5 @@
 -- Each spelling has one of the four classes.
-use Rattle.cj_decimal.proofs.Common.{◌≡◌, ℕ, ◌^◌, ◌<◌, ◌≤◌, ◌*ℤ◌, List, Bool, true, false, Option, Some, None, ℤ, pos, negsuc, refl, sym, ap, ◌∙◌, arith, ints, nat_tests, unsigned_abs, Number, is_in_range, whole_by, as_whole, IsNormal, IsInRange, IsWhole, IsValue, is_number, written_of, Class, no_number, out_of_range, not_whole, whole, false_from_ne_true}
+use Rattle.cj_decimal.proofs.Common.{◌≡◌, ℕ, ◌^◌, ◌<◌, ◌≤◌, ◌*ℤ◌, List, Bool, true, false, Option, Some, None, ℤ, pos, negsuc, refl, sym, ap, ◌∙◌, arith, ints, nat_tests, unsigned_abs, Number, is_in_range, whole_by, as_whole, IsNormal, IsInRange, IsWhole, IsValue, is_number, written_of, Class, no_number, out_of_range, not_whole, whole}
 use Rattle.cj_decimal.specs.Meaning.Number.{small_whole}
 use Rattle.cj_decimal.proofs.Grammar.{spells_test, test_spells}
 use Rattle.cj_decimal.proofs.Law.{has_one_value}

@@ -1,10 +1,10 @@
 -- Numbers of at most eight digits, read by one word of eight bytes.
-use Rattle.cj_decimal.proofs.Common.{◌≡◌, ℕ, zero, suc, and_parts, ◌+◌, ◌-◌, ◌*◌, ◌/◌, ◌%◌, ◌^◌, ◌<◌, ◌≤◌, List, [], ◌∷◌, length, length-drop, length-map, slice_range, take, drop, map, Bool, true, false, ◌&&◌, ◌||◌, nat_le, nat_eq, refl, sym, ap, subst, arith, ◌∙◌, inl, inr, not, get_or, ◌⊎◌, IsTrue, bit_and, bit_xor, and_block, xor_block, xor_lt, pow-add, pow-suc, shr-shr, and_mask, nat_tests, IsShort, after_frac, digits_front, digits_rest, begins, body, is_exp, is_frac, is_int, written_of, digits_value, value_after, AllDigits, IsDigit, IsInt, SpellsNumber, IsFewDigits, IsNumberIfBegun}
+use Rattle.cj_decimal.proofs.Common.{◌≡◌, ℕ, zero, suc, and_parts, ◌+◌, ◌-◌, ◌*◌, ◌/◌, ◌%◌, ◌^◌, ◌<◌, ◌≤◌, List, [], ◌∷◌, length, length-drop, length-map, slice_range, take, drop, map, Bool, true, false, ◌&&◌, ◌||◌, nat_le, nat_eq, refl, sym, ap, arith, ◌∙◌, inl, inr, not, get_or, ◌⊎◌, IsTrue, bit_and, bit_xor, and_block, xor_block, xor_lt, pow-add, pow-suc, shr-shr, and_mask, nat_tests, IsShort, after_frac, digits_front, digits_rest, begins, body, is_exp, is_frac, is_int, written_of, digits_value, value_after, AllDigits, IsDigit, IsInt, SpellsNumber, IsFewDigits, IsNumberIfBegun}
 use Rattle.std.proofs.lemmas.Nat.Bits.{and_high_mask}
 use Rattle.std.specs.Prelude.{replicate}
 use Rattle.std.proofs.lemmas.Bool.{agree_below_at, eq-eqb, ne_eqb, true_from_ne_false}
 use Rattle.std.proofs.lemmas.List.{drop-take, drop-drop, get_or-take, get_or-drop, length-take-le}
-use Rattle.cj_decimal.proofs.Grammar.{digit_begins, digit_begins_alone, front_all, front_alone, front_rest, int_digits, int_from_test, int_is_digits, minus_there, no_minus, spells_test, test_spells}
+use Rattle.cj_decimal.proofs.Grammar.{digit_begins, digit_begins_alone, front_all, front_alone, front_rest, int_from_test, int_is_digits, minus_there, no_minus, spells_test, test_spells}
 use Rattle.cj_decimal.proofs.Parts.{not_int}
 use Rattle.cj_decimal.proofs.NumberBytes.{NumberBytes, number_bytes}
 use Rattle.cj_decimal.specs.Word.{little_endian, AllBelow, weighed}

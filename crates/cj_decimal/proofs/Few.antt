@@ -1,5 +1,5 @@
 -- Few digits, perhaps after a minus, are a whole number.
-use Rattle.cj_decimal.proofs.Common.{◌≡◌, ℕ, ◌+◌, ◌-◌, ◌*◌, ◌^◌, ◌<◌, ◌≤◌, List, [], ◌∷◌, length, ℤ, Some, Ok, refl, sym, ap, subst, arith, ◌∙◌, mul_assoc, mul_comm, mul-le-mul_right, pow-suc, pow-le-pow_right, Class, whole_answer, signed, IsShort, digits_front, begins, begins_digit, body, digits_value, value_after, AllDigits, IsFewDigits, IsFewSigned}
+use Rattle.cj_decimal.proofs.Common.{◌≡◌, ℕ, ◌+◌, ◌-◌, ◌*◌, ◌^◌, ◌<◌, ◌≤◌, List, [], ◌∷◌, length, ℤ, Some, Ok, refl, ap, arith, mul-le-mul_right, pow-suc, pow-le-pow_right, Class, whole_answer, signed, IsShort, begins, body, digits_value, value_after, AllDigits, IsFewDigits, IsFewSigned}
 use Rattle.cj_decimal.proofs.Grammar.{int_digits}
 use Rattle.cj_decimal.proofs.Wholes.{int_short, signed_answer, body_of_signed}
 

@@ -1,5 +1,5 @@
 -- The test of a spelling from its front, and the grammar.
-use Rattle.cj_decimal.proofs.Common.{◌≡◌, ℕ, ◌<◌, ◌≤◌, List, [], ◌∷◌, ◌++◌, append-nil, drop, Bool, true, false, and_from, and_parts, cases_Bool, cond, cond-false, cond-true, nat_eq, ◌&&◌, ◌||◌, not, refl, sym, ap, ◌∙◌, arith, inl, inr, ◌⊎◌, ℤ, nat_tests, is_ascii_digit, signed, IsDigit, AllDigits, IsDigits, IsInt, IsMinus, IsFrac, IsExpSign, ExpParts, IsExp, Spells, Written, digits_value, digits_front, digits_rest, begins, is_empty, begins_digit, body, is_int, is_frac, frac_digits, after_frac, exp_digits, is_whole_digits, is_exp, exp_value, is_number, written_of}
+use Rattle.cj_decimal.proofs.Common.{◌≡◌, ℕ, ◌<◌, ◌≤◌, List, [], ◌∷◌, ◌++◌, append-nil, drop, Bool, true, false, and_from, and_parts, cases_Bool, cond, cond-false, cond-true, nat_eq, ◌||◌, refl, sym, ap, ◌∙◌, arith, inl, inr, ◌⊎◌, ℤ, nat_tests, is_ascii_digit, signed, IsDigit, AllDigits, IsDigits, IsInt, IsMinus, IsFrac, IsExpSign, ExpParts, IsExp, Spells, Written, digits_value, digits_front, digits_rest, begins, is_empty, begins_digit, body, is_int, is_frac, frac_digits, after_frac, exp_digits, is_whole_digits, is_exp, exp_value, is_number, written_of}
 use Rattle.std.proofs.lemmas.Bool.{cases_eq, cond_both, or_cases, or_from, or_left, or_right}
 use Rattle.cj_decimal.proofs.Ways.{front_digit, rest_digit, digit_bounds, front_of_stop}
 

@@ -1,5 +1,5 @@
 -- What a spelling that was read stands for, and that its value is one.
-use Rattle.cj_decimal.proofs.Common.{◌≡◌, ℕ, ◌++◌, List, length, Bool, ℤ, pos, ◌-ℤ◌, sym, ap, ◌∙◌, subst, Number, scaled, signed, SameValue, IsNormal, IsInRange, IsOutOfRange, Written, digits_value, number_of, Spells, SpellsNumber, IsValue, HasOneValue, IsNumberInRange, IsNumberOutOfRange, IsReadOf}
+use Rattle.cj_decimal.proofs.Common.{◌≡◌, ℕ, ◌++◌, List, length, Bool, ℤ, pos, ◌-ℤ◌, sym, ◌∙◌, Number, scaled, signed, SameValue, IsNormal, IsOutOfRange, Written, digits_value, number_of, Spells, SpellsNumber, IsValue, HasOneValue, IsNumberInRange, IsNumberOutOfRange, IsReadOf}
 use Rattle.cj_decimal.proofs.Values.{same_sym, same_trans, normal_same}
 use Rattle.cj_decimal.proofs.Normal.{normal_form}
 use Rattle.cj_decimal.proofs.Grammar.{spells_test}

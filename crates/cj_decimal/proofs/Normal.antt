@@ -2,7 +2,7 @@
 use Rattle.cj_decimal.proofs.Common.{◌≡◌, ℕ, zero, suc, ◌+◌, ◌*◌, ◌/◌, ◌%◌, ◌^◌, ◌<◌, ◌≤◌, Bool, true, false, ℤ, pos, neg_ℤ, ◌+ℤ◌, ◌-ℤ◌, ◌*ℤ◌, ◌≤ℤ◌, ◌<ℤ◌, refl, sym, ap, ◌∙◌, arith, ⊎_elim, ◌⊎◌, unsigned_abs, pow-add, ints, by_lt_z, to_z-of_z, fits_signed_from_abs, Number, scaled, signed, SameValue, IsNormal, IsInRange, IsOutOfRange, IsTooLong, StandsFor, IsTrimmed, Saturates}
 use Rattle.std.specs.Int.{int_gap, int_min, w32, w128, cast_signed, cast_unsigned}
 use Rattle.cj_decimal.proofs.TenPowers.{ten_pow_suc, neg_times}
-use Rattle.cj_decimal.proofs.Trims.{trim_left}
+use Rattle.cj_decimal.proofs.Trims.{trim_left, trimmed_le}
 use Rattle.cj_decimal.proofs.Values.{same_scaled}
 
 pub signed_size : (s : Bool) (n : ℕ) → unsigned_abs (signed s n) ≡ n
@@ -138,9 +138,10 @@ form_in_range s c p small low high =
     record { digits = omega (arith, signed_size s c); power_low = low; power_high = high }
 
 -- the same at a coefficient and a power that equal these
-pub in_form : (s : Bool) (c : ℕ) (x p : ℤ) → x ≡ signed s c → c < 10 ^ 36 → 0 < c % 10 → neg_ℤ (pos 1000000) ≤ℤ p
-    → p ≤ℤ pos 1000000 → IsNormal (scaled x p) × IsInRange (scaled x p)
-in_form s c x p e small last low high = rw e (trimmed_normal s c p last, form_in_range s c p small low high)
+pub in_form : (s : Bool) {n c k : ℕ} {x p : ℤ} → IsTrimmed n c k → n < 10 ^ 36 → x ≡ signed s c
+    → neg_ℤ (pos 1000000) ≤ℤ p → p ≤ℤ pos 1000000 → IsNormal (scaled x p) × IsInRange (scaled x p)
+in_form s {c} {p} t small e low high =
+    rw e (trimmed_normal s c p t.last, form_in_range s c p (omega (arith, trimmed_le t, small)) low high)
 
 pub same_form : (s : Bool) {n : ℕ} (c up : ℕ) (q : ℤ) {x p : ℤ} → n ≡ c * 10 ^ up → x ≡ signed s c → p ≡ q +ℤ pos up
     → SameValue (scaled (signed s n) q) (scaled x p)

@@ -1,5 +1,5 @@
 -- The bytes of a number of JSON: digits, and others that are not below 16 without the bits of `0`.
-use Rattle.cj_decimal.proofs.Common.{◌≡◌, ℕ, ◌≤◌, List, [], ◌∷◌, ◌++◌, Bool, true, false, refl, ap, ◌∙◌, arith, nat_tests, inl, inr, ◌⊎◌, ℤ, nat_le, bit_xor, AllDigits, IsDigit, IsDigits, IsExp, IsExpSign, IsFrac, IsInt, IsMinus, SpellsNumber}
+use Rattle.cj_decimal.proofs.Common.{◌≡◌, ℕ, ◌≤◌, List, [], ◌∷◌, ◌++◌, Bool, true, false, refl, ap, ◌∙◌, arith, nat_tests, inl, inr, ◌⊎◌, ℤ, nat_le, bit_xor, AllDigits, IsDigit, IsExp, IsExpSign, IsFrac, IsInt, IsMinus, SpellsNumber}
 use Rattle.cj_decimal.proofs.Grammar.{all_of}
 
 abbrev pub NumberBytes : List ℕ → Type 0

@@ -1,5 +1,5 @@
 -- Powers of ten, and products with them.
-use Rattle.cj_decimal.proofs.Common.{◌≡◌, ℕ, zero, suc, ◌+◌, ◌*◌, ◌^◌, ◌<◌, ◌≤◌, ℤ, pos, negsuc, neg_ℤ, ◌*ℤ◌, refl, sym, ap, ◌∙◌, arith, one-le-pow, pow-le-pow_right, le_of_mul-le-mul_right, pow-add, ints}
+use Rattle.cj_decimal.proofs.Common.{◌≡◌, ℕ, zero, suc, ◌+◌, ◌*◌, ◌^◌, ◌<◌, ◌≤◌, ℤ, pos, neg_ℤ, ◌*ℤ◌, refl, sym, ap, ◌∙◌, arith, one-le-pow, pow-le-pow_right, le_of_mul-le-mul_right, pow-add, ints}
 use borrow.Author.Differences.{up, down, same_in, same_out, product_is}
 
 pub ten_pow_pos : (k : ℕ) → 0 < 10 ^ k

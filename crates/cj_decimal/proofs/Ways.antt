@@ -1,5 +1,5 @@
 -- The way through the digits of a spelling.
-use Rattle.cj_decimal.proofs.Common.{◌≡◌, ℕ, suc, ◌+◌, ◌-◌, ◌*◌, ◌<◌, ◌≤◌, List, [], ◌∷◌, length, drop, drop_all, drop_more, get_or, Bool, true, false, cond-true, cond-false, refl, sym, ap, ◌∙◌, arith, inl, inr, cases_lt, nat_tests, is_ascii_digit, begins_digit, digits_front, digits_rest, value_after, Passes, Carries, Stops}
+use Rattle.cj_decimal.proofs.Common.{◌≡◌, ℕ, ◌+◌, ◌-◌, ◌*◌, ◌<◌, ◌≤◌, List, [], ◌∷◌, length, drop, drop_all, drop_more, get_or, Bool, true, false, cond-true, cond-false, refl, sym, ap, ◌∙◌, arith, inl, inr, cases_lt, nat_tests, is_ascii_digit, begins_digit, digits_front, digits_rest, value_after, Passes, Carries, Stops}
 
 pub front_digit : (b : ℕ) (s : List ℕ) → is_ascii_digit b ≡ true → digits_front (b ∷ s) ≡ b ∷ digits_front s
 unfolding digits_front

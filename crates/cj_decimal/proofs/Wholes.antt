@@ -1,5 +1,5 @@
 -- What reading a whole number answers.
-use Rattle.cj_decimal.proofs.Common.{◌≡◌, ℕ, ◌*◌, ◌^◌, ◌<◌, ◌≤◌, ◌++◌, List, [], ◌∷◌, length, drop, drop_more, get_or, Bool, true, false, false≢true, Option, Some, None, Result, Ok, Err, ℤ, pos, negsuc, inl, inr, cases_Bool, refl, sym, ap, ◌∙◌, subst, arith, rules, IfOk, IfSome, IsSome, unsigned_abs, is_ascii_digit, le-mul_of_pos_right, ints, Number, signed, IsNormal, IsInRange, IsWhole, SpellsNumber, IsValue, IsNumberOutOfRange, IsInt, IsFewDigits, IsFewSigned, digits_value, digits_front, digits_rest, is_int, begins, begins_digit, body, Class, no_number, out_of_range, not_whole, whole, whole_answer, Passes, IsShort, NotANumber, NumberRange}
+use Rattle.cj_decimal.proofs.Common.{◌≡◌, ℕ, ◌*◌, ◌^◌, ◌<◌, ◌≤◌, ◌++◌, List, [], ◌∷◌, length, drop, drop_more, get_or, Bool, true, false, false≢true, Option, Some, None, Result, Ok, Err, ℤ, pos, negsuc, inl, inr, cases_Bool, refl, sym, ap, ◌∙◌, arith, rules, IfOk, IfSome, IsSome, unsigned_abs, is_ascii_digit, le-mul_of_pos_right, ints, Number, signed, IsNormal, IsInRange, IsWhole, SpellsNumber, IsValue, IsNumberOutOfRange, IsInt, IsFewDigits, IsFewSigned, digits_value, digits_front, digits_rest, is_int, begins, body, Class, no_number, out_of_range, not_whole, whole, whole_answer, Passes, IsShort, NotANumber, NumberRange}
 use Rattle.cj_decimal.specs.declared.decimal.DecimalFault.{DecimalFault}
 use Rattle.cj_decimal.proofs.TenPowers.{ten_pow_pos}
 use Rattle.cj_decimal.proofs.Values.{same_sym}

@@ -1,5 +1,5 @@
 -- The worked rows, computed.
-use Rattle.cj_decimal.proofs.Common.{◌≡◌, ◌%◌, ℤ, pos, neg_ℤ, true, false, refl, arith, List, ℕ, unsigned_abs, Number, scaled, smaller_power, brought, SameValue, is_in_range, SpellsNumber, IsValue, IsNumberInRange, IsNumberOutOfRange, number_of, is_number, written_of, digits_front, digits_rest, begins, is_empty, begins_digit, body, is_int, is_frac, frac_digits, after_frac, exp_digits, is_whole_digits, is_exp, exp_value}
+use Rattle.cj_decimal.proofs.Common.{◌≡◌, ◌%◌, pos, neg_ℤ, true, false, refl, arith, List, ℕ, unsigned_abs, Number, scaled, smaller_power, brought, SameValue, is_in_range, SpellsNumber, IsValue, IsNumberInRange, IsNumberOutOfRange, number_of, is_number, written_of, digits_front, digits_rest, begins, is_empty, begins_digit, body, is_int, is_frac, frac_digits, after_frac, exp_digits, is_whole_digits, is_exp, exp_value}
 use Rattle.std.specs.Prelude.{nat_eq}
 use Rattle.cj_decimal.specs.Rows.{ReadRows, NoNumberRows, UnitRows, WorkedRows}
 use Rattle.cj_decimal.proofs.Grammar.{spells_test, test_spells}

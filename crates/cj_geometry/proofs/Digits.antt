@@ -76,22 +76,21 @@ module _ (i j : ℕ) where
         (one reason (number_at (codes "-1") i j)) []
     index-minus_one = of_read (codes "-1") (negsuc 0) minus_one_read
 
+  module _ (s : List ℕ) (w : ℤ) (read : (c : Class s) → Ok (Some w) ≡ whole_answer c) where
+    of_number : number (number_at s i j) ≡ []
+    of_number = number-read [] (number_at s i j) refl s refl (Ok (Some w)) (Ok (Some w)) read refl
+
+    of_whole : whole_of (number_at s i j) ≡ Some w
+    of_whole = whole-read [] (number_at s i j) refl s refl (Ok (Some w)) (Ok (Some w)) read refl
+
   pub number-zero : number (number_at (codes "0") i j) ≡ []
-  number-zero =
-      number-read [] (number_at (codes "0") i j) refl (codes "0") refl (Ok (Some (pos 0))) (Ok (Some (pos 0))) zero_read
-      refl
+  number-zero = of_number (codes "0") (pos 0) zero_read
 
   pub number-one : number (number_at (codes "1") i j) ≡ []
-  number-one =
-      number-read [] (number_at (codes "1") i j) refl (codes "1") refl (Ok (Some (pos 1))) (Ok (Some (pos 1))) one_read
-      refl
+  number-one = of_number (codes "1") (pos 1) one_read
 
   pub whole-zero : whole_of (number_at (codes "0") i j) ≡ Some (pos 0)
-  whole-zero =
-      whole-read [] (number_at (codes "0") i j) refl (codes "0") refl (Ok (Some (pos 0))) (Ok (Some (pos 0))) zero_read
-      refl
+  whole-zero = of_whole (codes "0") (pos 0) zero_read
 
   pub whole-one : whole_of (number_at (codes "1") i j) ≡ Some (pos 1)
-  whole-one =
-      whole-read [] (number_at (codes "1") i j) refl (codes "1") refl (Ok (Some (pos 1))) (Ok (Some (pos 1))) one_read
-      refl
+  whole-one = of_whole (codes "1") (pos 1) one_read

@@ -1,5 +1,5 @@
 -- Distinct names, told by walks that each deal with the least names above the last ones.
-use Rattle.cj_geometry.proofs.Common.{All, AreNamesInOrder, Ascend, Bool, Contains, DuplicateName, Finding, IfSome, List, None, Option, Some, Tree, [], ap, are_same_texts, arith, cond, false, found_at, get_or, inl, inr, is_above, last_of, least, length, names_of, nat_lt, nat_tests, neighbours, one, refl, repeat_of, repeats, repeats_of, start_of, subst, suc, sym, text_of, true, zero, ℕ, ◌&&◌, ◌++◌, ◌+◌, ◌<◌, ◌∙◌, ◌∷◌, ◌≡◌, ◌≤◌}
+use Rattle.cj_geometry.proofs.Common.{All, AreNamesInOrder, Ascend, Bool, Contains, DuplicateName, Finding, IfSome, List, None, Option, Some, Tree, [], ap, are_same_texts, arith, cond, false, found_at, get_or, inl, inr, is_above, last_of, least, names_of, nat_lt, neighbours, one, refl, repeat_of, repeats, repeats_of, start_of, sym, text_of, true, ℕ, ◌&&◌, ◌++◌, ◌+◌, ◌<◌, ◌∙◌, ◌∷◌, ◌≡◌, ◌≤◌}
 use Rattle.std.proofs.lemmas.Bool.{and_parts, cond_both, ltb-true}
 use Rattle.std.proofs.lemmas.List.Elements.{All-contains, All-head, All-tail, All-nil, All-cons, All-append, Contains-get_or, Contains-append_left, Contains-append_right, Contains-append_cases}
 use Rattle.cj_spans.proofs.Findings.{least-append}
@@ -16,6 +16,10 @@ pub record IsRepeat (ns : List Tree) (f : Finding) : Type 0 where
   pub same : are_same_texts (text_of later) (text_of earlier) ≡ true
   pub behind : start_of earlier < start_of later
   pub is : f ≡ found_at (start_of later) DuplicateName
+
+-- what a name tells, if it has the text of the first one
+abbrev told_if : Tree → Tree → List Finding
+told_if name t = cond (are_same_texts (text_of t) (text_of name)) (one DuplicateName t) []
 
 only_one : (b : Bool) (t : Tree) (f : Finding) → Contains (cond b (one DuplicateName t) []) f → (b ≡ true)
     × (f ≡ found_at (start_of t) DuplicateName)
@@ -34,8 +38,7 @@ later_of : (name : Tree) (ms : List (Tree × Tree)) (f : Finding) → Contains (
     × (f ≡ found_at (start_of u) DuplicateName)
 later_of name [] f c = absurd (contains_none f c)
 later_of name (m ∷ ms) f c =
-    elim (Contains-append_cases (cond (are_same_texts (text_of m.0) (text_of name)) (one DuplicateName m.0) [])
-    (repeats_of name ms) f c) [
+    elim (Contains-append_cases (told_if name m.0) (repeats_of name ms) f c) [
       | inl h ↦ let e = only_one (are_same_texts (text_of m.0) (text_of name)) m.0 f h in
           (m.0, contains_first m.0 (names_of ms), e.0, e.1)
       | inr h ↦ let r = later_of name ms f h in (r.0, contains_later m.0 (names_of ms) r.0 r.1, r.2, r.3)
@@ -87,14 +90,12 @@ told_of : (name : Tree) (ms : List (Tree × Tree)) (u : Tree) → Contains (name
 told_of name [] u c s = absurd (contains_none u c)
 told_of name (m ∷ ms) u c s =
     elim (contains_cases m.0 (names_of ms) u c) [
-      | inl e ↦ Contains-append_left (cond (are_same_texts (text_of m.0) (text_of name)) (one DuplicateName m.0) [])
-          (repeats_of name ms) (found_at (start_of u) DuplicateName) (here e)
-      | inr d ↦ Contains-append_right (cond (are_same_texts (text_of m.0) (text_of name)) (one DuplicateName m.0) [])
-          (repeats_of name ms) (found_at (start_of u) DuplicateName) (told_of name ms u d s)
+      | inl e ↦ Contains-append_left (told_if name m.0) (repeats_of name ms) (found_at (start_of u) DuplicateName) (here e)
+      | inr d ↦ Contains-append_right (told_if name m.0) (repeats_of name ms) (found_at (start_of u) DuplicateName)
+          (told_of name ms u d s)
     ]
   where
-    here : m.0 ≡ u → Contains (cond (are_same_texts (text_of m.0) (text_of name)) (one DuplicateName m.0) [])
-        (found_at (start_of u) DuplicateName)
+    here : m.0 ≡ u → Contains (told_if name m.0) (found_at (start_of u) DuplicateName)
     here e = rw (e, s) (contains_first (found_at (start_of u) DuplicateName) [])
 
 pub repeat_told : (ms : List (Tree × Tree)) → AreNamesInOrder ms → (t u : Tree) → Contains (names_of ms) t

@@ -1,9 +1,9 @@
 -- The grammar of numbers that a scan goes by and the one that decimals are read by are the same.
-use Rattle.cj_geometry.proofs.Common.{Bool, Class, Contains, List, Number, SpellsNumber, Text, Tree, [], ap, arith, false, inl, inr, items_of, kind_of, list_items, list_members, members_of, no_number, pos, refl, scalar, slice_range, spelling_of, subst, sym, true, ℕ, ℤ, ◌++◌, ◌↔◌, ◌∷◌, ◌≡◌, ◌⊎◌}
+use Rattle.cj_geometry.proofs.Common.{Bool, Class, Contains, List, Number, SpellsNumber, Text, Tree, [], ap, arith, false, inl, inr, items_of, kind_of, list_items, list_members, members_of, no_number, pos, refl, scalar, slice_range, spelling_of, subst, true, ℕ, ℤ, ◌++◌, ◌↔◌, ◌∷◌, ◌≡◌}
 use Rattle.std.proofs.lemmas.List.Elements.{Contains-push_cases}
 use Rattle.cj_spans.specs.Meaning.Spelling.{IsScalar}
 use Rattle.cj_spans.specs.Meaning.Tree.{Atom, Items, no_items, item, Members, no_members, member, add_item, add_member}
-use Rattle.cj_spans.specs.Meaning.Json.{Json, Value, atom, empty_array, full_array, empty_object, full_object, Padded, padded, LedItems, no_led, led, LedMembers, no_led_members, led_member, IsAtom}
+use Rattle.cj_spans.specs.Meaning.Json.{Json, Value, atom, full_array, full_object, Padded, padded, LedItems, no_led, led, LedMembers, no_led_members, led_member, IsAtom}
 use Rattle.cj_decimal.specs.Meaning.Number.{signed}
 use Rattle.cj_decimal.specs.Meaning.Reading.{digits_value}
 use Rattle.cj_geometry.specs.Grammar.{IsWithinTree, the_tree, an_item, a_value, IsOfNumber}

@@ -1,5 +1,5 @@
 -- Names whose first characters have different slots are distinct.
-use Rattle.cj_geometry.proofs.Common.{Bool, DuplicateName, List, None, Option, Some, Tree, [], ap, are_apart, are_same_texts, arith, cases_eq, cond, distinct, false, false≢true, get_or, inl, inr, length, length-set, members_of, one, option_and_then, refl, repeats, repeats_of, replicate, subst, sym, text_of, true, ℕ, ◌%◌, ◌++◌, ◌<◌, ◌∙◌, ◌∷◌, ◌≡◌, ◌≤◌}
+use Rattle.cj_geometry.proofs.Common.{Bool, DuplicateName, List, None, Option, Some, Tree, [], ap, are_apart, are_same_texts, arith, cases_eq, cond, distinct, false, false≢true, get_or, inl, inr, length, length-set, members_of, one, option_and_then, refl, repeats, repeats_of, replicate, sym, text_of, true, ℕ, ◌%◌, ◌++◌, ◌<◌, ◌∙◌, ◌∷◌, ◌≡◌, ◌≤◌}
 use Rattle.std.proofs.Common.{◌≢◌, get_or-set_same, get_or-set_other}
 use Rattle.std.proofs.lemmas.Bool.{false_from_ne_true}
 use Rattle.std.specs.Prelude.{slice_set}

@@ -1,35 +1,30 @@
 -- Items at the front of an array that hold nothing, and have no finding.
-use Rattle.cj_geometry.proofs.Common.{AreLone, Bool, DecimalFault, Err, Finding, IfSome, IsSome, List, None, Ok, Option, Reason, Result, Some, Tree, [], ap, arith, decimal_of, drop, false, flat_map, index, is_number, is_outside, kind_of, length, length-drop, nat_lt, nat_tests, not, option_and_then, pos, refl, result_ok, scalar, size, spelling, subst, suc, sym, take, total_size, true, value_findings, whole_findings, whole_number, whole_of, zero, ℕ, ℤ, ◌++◌, ◌+◌, ◌<◌, ◌∙◌, ◌∷◌, ◌≡◌, ◌≤◌}
+use Rattle.cj_geometry.proofs.Common.{AreLone, Bool, DecimalFault, Err, Finding, IfSome, IsSome, List, None, Ok, Option, Reason, Result, Some, Tree, [], ap, arith, decimal_of, drop, false, flat_map, index, is_number, is_outside, kind_of, length, length-drop, nat_lt, nat_tests, not, option_and_then, pos, refl, result_ok, scalar, size, spelling, suc, sym, take, total_size, true, value_findings, whole_findings, whole_number, whole_of, zero, ℕ, ℤ, ◌++◌, ◌+◌, ◌<◌, ◌∙◌, ◌∷◌, ◌≡◌, ◌≤◌}
+use Rattle.std.proofs.Common.{get_or, take-append-drop}
+use Rattle.std.proofs.lemmas.List.{drop_more, take_more}
 use Rattle.std.proofs.lemmas.List.Concat.{flat_map-append}
 use Rattle.cj_decimal.specs.Meaning.Number.{Number, as_whole}
 use Rattle.cj_geometry.proofs.ListSteps.{total_size-append}
 use Rattle.cj_geometry.proofs.Numbers.{index-of-whole}
 
-take-next : (n : ℕ) (ts : List Tree) (t : Tree) (rest : List Tree) → drop n ts ≡ t ∷ rest
-    → take (suc n) ts ≡ take n ts ++ t ∷ []
-take-next zero (x ∷ xs) t rest e = let same : x ≡ t = cc e in ap (λ y. y ∷ []) same
-take-next (suc n) (x ∷ xs) t rest e = ap (λ ys. x ∷ ys) (take-next n xs t rest e)
-take-next _ _ t rest e = absurd (cc e)
-
-there : (n : ℕ) (ts : List Tree) (t : Tree) (rest : List Tree) → drop n ts ≡ t ∷ rest → suc n ≤ length ts
-there zero (x ∷ xs) t rest e = omega arith
-there (suc n) (x ∷ xs) t rest e = let h = there n xs t rest e in omega (arith, h)
-there _ _ t rest e = absurd (cc e)
-
 size-front : (n : ℕ) (ts : List Tree) → total_size (take n ts) ≤ total_size ts
-size-front (suc n) (t ∷ ts) = let h = size-front n ts in omega (arith, h)
-size-front _ _ = omega arith
+size-front n ts =
+    omega (arith, total_size-append (take n ts) (drop n ts), ap total_size (take-append-drop n ts))
 
 -- ---- one item more
 
 module _ (n : ℕ) (ts : List Tree) (t : Tree) (rest : List Tree) (next : drop n ts ≡ t ∷ rest) where
+  there : n < length ts
+  there = omega (arith, ap length next, length-drop n ts)
+
   front : take (n + 1) ts ≡ take n ts ++ t ∷ []
-  front = let e : suc n ≡ n + 1 = omega arith in
-      subst (λ k. take k ts ≡ take n ts ++ t ∷ []) e (take-next n ts t rest next)
+  front =
+      let same : get_or ts n t ≡ t = cc (sym (drop_more ts n t there) ∙ next) in
+      take_more ts n t there ∙ ap (λ x. take n ts ++ x ∷ []) same
 
   pub lone-more : size t ≡ 1 → AreLone n ts → AreLone (n + 1) ts
   lone-more one_is h =
-      let l = there n ts t rest next in
+      let l = there in
       let s = ap total_size front ∙ total_size-append (take n ts) (t ∷ []) in
       let before = h.sizes in
       record { within = omega (arith, l); sizes = omega (arith, s, before, one_is) }

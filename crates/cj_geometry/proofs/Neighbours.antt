@@ -1,5 +1,5 @@
 -- Repeated names, told by neighbours in the order of names.
-use Rattle.cj_geometry.proofs.Common.{All, Ascend, Bool, Contains, DuplicateName, Finding, IfSome, List, None, Option, Some, Tree, [], ap, are_same_texts, arith, cond, false, found_at, get_or, inl, inr, is_above, is_earlier, last_of, least, length, nat_lt, nat_tests, neighbours, one, refl, repeat_of, start_of, subst, suc, sym, text_of, true, zero, ℕ, ◌&&◌, ◌++◌, ◌<◌, ◌∙◌, ◌∷◌, ◌≡◌, ◌⊎◌}
+use Rattle.cj_geometry.proofs.Common.{All, Ascend, Bool, Contains, DuplicateName, Finding, IfSome, List, None, Option, Some, Tree, [], ap, are_same_texts, arith, false, get_or, inl, inr, is_above, is_earlier, last_of, least, length, neighbours, one, refl, repeat_of, start_of, suc, sym, text_of, true, zero, ℕ, ◌++◌, ◌<◌, ◌∙◌, ◌∷◌, ◌≡◌, ◌⊎◌}
 use Rattle.std.proofs.lemmas.Bool.{and_from, cond-true, lt-ltb}
 use Rattle.std.proofs.lemmas.List.Elements.{All-contains, All-contains_itself, All-head, All-tail, Contains-append_left, Contains-append_right, Contains-append_cases}
 use Rattle.cj_spans.specs.Meaning.Least.{list_found, HaveSame}

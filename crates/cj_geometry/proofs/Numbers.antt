@@ -1,5 +1,5 @@
 -- What reading a number says of its findings.
-use Rattle.cj_geometry.proofs.Common.{Bool, Class, DecimalFault, Err, Finding, IfSome, IsInt, IsNumberInRange, IsNumberOutOfRange, IsSome, List, None, NotWhole, Number, Ok, Option, Reason, Result, Some, SpellsNumber, Tree, WrongKind, [], ap, arith, array, cond, decimal_of, false, fault_reason, get_or, index, inl, inr, is_number, is_outside, kind_by, kind_of, least, nat_lt, nat_tests, negsuc, number, object, of_z, one, option_and_then, pos, refl, result_ok, scalar, slice_range, spelling, spelling_of, subst, sym, to_z, true, value_findings, w64, whole_answer, whole_answer_by, whole_findings, whole_of, ℕ, ℤ, ◌<◌, ◌^◌, ◌∙◌, ◌∷◌, ◌≡◌, ◌≤◌}
+use Rattle.cj_geometry.proofs.Common.{Bool, Class, DecimalFault, Err, Finding, IfSome, IsInt, IsNumberInRange, IsNumberOutOfRange, IsSome, List, None, NotWhole, Number, Ok, Option, Reason, Result, Some, SpellsNumber, Tree, WrongKind, [], ap, arith, array, cond, decimal_of, false, fault_reason, get_or, index, inl, inr, is_number, is_outside, kind_by, kind_of, least, nat_lt, nat_tests, negsuc, number, object, of_z, one, option_and_then, pos, refl, result_ok, scalar, slice_range, spelling, spelling_of, sym, to_z, true, value_findings, w64, whole_answer, whole_answer_by, whole_findings, whole_of, ℕ, ℤ, ◌<◌, ◌^◌, ◌∙◌, ◌∷◌, ◌≡◌, ◌≤◌}
 use Rattle.std.proofs.Common.{unsigned_abs, ◌*ℤ◌, unwrap_or}
 use Rattle.std.proofs.lemmas.Bool.{cond_both, ltb-true}
 use Rattle.std.proofs.lemmas.Int.{to_z-of_z, fits_signed_from_abs}

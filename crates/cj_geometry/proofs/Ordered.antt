@@ -1,5 +1,5 @@
 -- The order of names, and what neighbours in it tell.
-use Rattle.cj_geometry.proofs.Common.{Bool, Equal, Greater, Less, List, None, Option, Ordering, Some, Tree, ap, arith, cases_lt, cases_order, compare_names, cond, false, inl, inr, is_earlier, is_eq, is_lt, nat_cmp, nat_eq, nat_lt, nat_tests, refl, start_of, subst, sym, text_of, true, ℕ, ◌<◌, ◌∙◌, ◌≡◌}
+use Rattle.cj_geometry.proofs.Common.{Bool, Equal, Greater, Less, List, None, Option, Ordering, Some, Tree, ap, arith, compare_names, false, inl, inr, is_earlier, is_eq, is_lt, nat_cmp, nat_tests, refl, start_of, sym, text_of, true, ℕ, ◌<◌, ◌∙◌, ◌≡◌, ◌⊎◌}
 use Rattle.std.proofs.lemmas.Bool.{false_from_ne_true}
 use Rattle.std.specs.Cmp.{IsTotalOrder, tied_itself, alike_right, then_total, on_total, nat_cmp_total}
 use Rattle.std.specs.Cmp.Lexicographic.{bytes_decides, nat_list_cmp_total, options_total, texts_ties}
@@ -21,25 +21,24 @@ earlier_itself t = ap is_lt (tied_itself order t)
 pub earlier_on : (t u v : Tree) → is_earlier t u ≡ true → is_earlier u v ≡ true → is_earlier t v ≡ true
 earlier_on t u v h k = ap is_lt (order.trans t u v (less_is _ h) (less_is _ k))
 
--- t is no later than u, which comes before v
-upto_by : (t u v : Tree) (r : Ordering) → compare_names u t ≡ r → is_lt r ≡ false → is_earlier u v ≡ true
-    → is_earlier t v ≡ true
-upto_by t u v Less e h k = cc
-upto_by t u v Equal e h k = ap is_lt (sym (order.congr u t v e)) ∙ k
-upto_by t u v Greater e h k = earlier_on t u v (ap is_lt (order.antisymm t u ∙ ap ordering_reverse e)) k
+not_less : (r : Ordering) → is_lt r ≡ false → (r ≡ Equal) ⊎ (r ≡ Greater)
+not_less Less h = cc
+not_less Equal h = inl refl
+not_less Greater h = inr refl
 
+-- t is no later than u, which comes before v
 pub upto_on : (t u v : Tree) → is_earlier u t ≡ false → is_earlier u v ≡ true → is_earlier t v ≡ true
-upto_on t u v h k = upto_by t u v (compare_names u t) refl h k
+upto_on t u v h k = elim (not_less (compare_names u t) h) [
+  | inl e ↦ ap is_lt (sym (order.congr u t v e)) ∙ k
+  | inr e ↦ earlier_on t u v (ap is_lt (order.antisymm t u ∙ ap ordering_reverse e)) k
+]
 
 -- t comes before u, which is no later than v
-on_by : (t u v : Tree) (r : Ordering) → compare_names v u ≡ r → is_lt r ≡ false → is_earlier t u ≡ true
-    → is_earlier t v ≡ true
-on_by t u v Less e h k = cc
-on_by t u v Equal e h k = ap is_lt (alike_right order v u t e) ∙ k
-on_by t u v Greater e h k = earlier_on t u v k (ap is_lt (order.antisymm u v ∙ ap ordering_reverse e))
-
 pub on_upto : (t u v : Tree) → is_earlier t u ≡ true → is_earlier v u ≡ false → is_earlier t v ≡ true
-on_upto t u v h k = on_by t u v (compare_names v u) refl k h
+on_upto t u v h k = elim (not_less (compare_names v u) k) [
+  | inl e ↦ ap is_lt (alike_right order v u t e) ∙ h
+  | inr e ↦ earlier_on t u v h (ap is_lt (order.antisymm u v ∙ ap ordering_reverse e))
+]
 
 -- a test and its negation
 pub both_sides : {b : Bool} → b ≡ true → b ≡ false → ⊥
@@ -56,11 +55,11 @@ earlier_not_back t u h = none_true (is_earlier u t) (λ k. both_sides (earlier_o
 
 -- ---- names that neither comes before the other
 
-tied_by : (t u : Tree) (r : Ordering) → compare_names t u ≡ r → is_lt r ≡ false → is_earlier u t ≡ false
-    → compare_names t u ≡ Equal
-tied_by t u Less e h k = cc
-tied_by t u Equal e h k = e
-tied_by t u Greater e h k = absurd (both_sides (ap is_lt (order.antisymm u t ∙ ap ordering_reverse e)) k)
+tied_order : (t u : Tree) → is_earlier t u ≡ false → is_earlier u t ≡ false → compare_names t u ≡ Equal
+tied_order t u h k = elim (not_less (compare_names t u) h) [
+  | inl e ↦ e
+  | inr e ↦ absurd (both_sides (ap is_lt (order.antisymm u t ∙ ap ordering_reverse e)) k)
+]
 
 then_equal : (r s : Ordering) → ordering_then r s ≡ Equal → (r ≡ Equal) × (s ≡ Equal)
 then_equal Equal s h = (refl, h)
@@ -81,13 +80,13 @@ pub record AreTied (t u : Tree) : Type 0 where
 pub tied : (t u : Tree) → is_earlier t u ≡ false → is_earlier u t ≡ false → AreTied t u
 tied t u h k =
     let e = then_equal (compare_texts (text_of t) (text_of u)) (nat_cmp (start_of t) (start_of u))
-    (tied_by t u (compare_names t u) refl h k) in
+    (tied_order t u h k) in
     record { text = same_by_order (text_of t) (text_of u) e.0; start = same_number (start_of t) (start_of u) e.1 }
 
 -- ---- names of one text
 
 text_itself : {s t : Option (List ℕ)} → s ≡ t → compare_texts s t ≡ Equal
-text_itself {s} e = subst (λ x. compare_texts s x ≡ Equal) e (tied_itself (options_total nat_list_cmp_total) s)
+text_itself {s} e = rw (← e) (tied_itself (options_total nat_list_cmp_total) s)
 
 pub less_number : (m n : ℕ) → m < n → nat_cmp m n ≡ Less
 less_number m n h = grind (arith, nat_tests)

@@ -1,5 +1,5 @@
 -- What a walk over names leaves in the room.
-use Rattle.cj_geometry.proofs.Common.{All, All-permutation, AreLeast, Ascend, Bool, Contains, HoldNames, IfSome, IsHeldName, IsPermutation, IsWorded, List, None, Option, Some, Source, TakeOne, Tree, WordedName, [], ap, arith, compare_worded, drop, false, get_or, inl, inr, is_above, is_below, is_earlier, is_lt, is_past, is_some, last_of, length, length-append, length-drop, length-take-le, limit_in, map, name_in, names_in, names_of, refl, set, subst, sym, take, true, ℕ, ◌&&◌, ◌++◌, ◌+◌, ◌<◌, ◌∙◌, ◌∷◌, ◌≡◌, ◌≤◌, ◌⊎◌}
+use Rattle.cj_geometry.proofs.Common.{All, All-permutation, AreLeast, Ascend, Bool, Contains, HoldNames, IfSome, IsHeldName, IsPermutation, IsWorded, List, None, Option, Some, Source, TakeOne, Tree, WordedName, [], ap, arith, compare_worded, drop, false, get_or, inl, inr, is_above, is_below, is_earlier, is_lt, is_past, is_some, last_of, length, length-append, length-drop, length-take-le, limit_in, map, name_in, names_in, names_of, refl, set, sym, take, true, ℕ, ◌&&◌, ◌++◌, ◌+◌, ◌<◌, ◌∙◌, ◌∷◌, ◌≡◌, ◌≤◌, ◌⊎◌}
 use Rattle.std.proofs.lemmas.Grind.{common_steps}
 use Rattle.std.proofs.lemmas.List.{get_or-map, length-map, map-append, take_more_set}
 use Rattle.std.proofs.lemmas.List.Elements.{All-contains, All-head, All-tail, All-nil, All-push, All-map, Contains-get_or, Contains-append_left, Contains-append_right, Contains-append_cases, Contains-push, All-contains_itself}

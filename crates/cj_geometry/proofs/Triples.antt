@@ -1,7 +1,7 @@
 -- Arrays of three whole numbers have no finding.
-use Rattle.cj_geometry.proofs.Common.{All, Array, List, Reason, Tree, [], ap, arith, flat_map, inl, inr, items_of, kind_of, length, of_length, refl, spelling_of, subst, suc, sym, whole_number, ℕ, ◌++◌, ◌∙◌, ◌∷◌, ◌≡◌, ◌≤◌, ◌⊎◌}
+use Rattle.cj_geometry.proofs.Common.{All, Array, List, Reason, Tree, [], ap, arith, flat_map, inl, inr, items_of, kind_of, length, of_length, refl, spelling_of, suc, whole_number, ℕ, ◌++◌, ◌∙◌, ◌∷◌, ◌≡◌, ◌≤◌, ◌⊎◌}
 use Rattle.cj_spans.specs.Wholes.{IsWholeNumber, IsShortWhole}
-use Rattle.cj_decimal.specs.FewDigits.{IsFewDigits, IsFewSigned}
+use Rattle.cj_decimal.specs.FewDigits.{IsFewSigned}
 use Rattle.cj_decimal.proofs.Few.{few_whole}
 use Rattle.cj_geometry.proofs.Lone.{whole-none}
 use Rattle.cj_geometry.proofs.Numbers.{whole-there}

@@ -1,5 +1,5 @@
 -- Names with the words of their texts are ordered as their names are.
-use Rattle.cj_geometry.proofs.Common.{All, AreLeast, Ascend, Equal, Greater, IsPermutation, IsSortedBy, IsWorded, Less, List, Ordering, Source, Tree, WordedName, [], ap, arith, cases_order, compare_names, compare_worded, cond, false, get_or, inl, inr, is_earlier, is_lt, length, name_in, names_in, nat_cmp, nat_eq, nat_lt, nat_tests, ranks_by, sorted_far, start_of, subst, suc, sym, text_of, true, word_in, zero, ℕ, ◌++◌, ◌<◌, ◌∙◌, ◌∷◌, ◌≡◌, ◌≤◌}
+use Rattle.cj_geometry.proofs.Common.{All, AreLeast, Ascend, Equal, Greater, IsPermutation, IsSortedBy, IsWorded, Less, List, Ordering, Source, Tree, WordedName, [], ap, arith, cases_order, compare_names, compare_worded, false, get_or, inl, inr, is_earlier, is_lt, length, name_in, names_in, nat_cmp, nat_tests, ranks_by, sorted_far, start_of, suc, sym, text_of, word_in, ℕ, ◌++◌, ◌<◌, ◌∙◌, ◌∷◌, ◌≡◌, ◌≤◌}
 use denote.Param.Members.{Mut}
 use denote.Ref.{Bor}
 use Rattle.std.specs.Cmp.{IsTotalOrder, then_total, on_total, nat_cmp_total}

@@ -38,10 +38,8 @@ pub invariant_of-result-2 : goal.invariant_of-result-2
 invariant_of-result-2 c =
     let parts = c.args.parts in
     let few = c.without_zeros-lead.ensures.few in
-    let small : c.without_zeros-lead.result.0 < 10 ^ 36 =
-    omega (arith, trimmed_le c.without_zeros-lead.ensures.trimmed, parts.digits.lead_fits) in
-    in_form parts.negative c.without_zeros-lead.result.0 _ _ (omega (arith, ints, c.with_sign.ensures)) small
-    c.without_zeros-lead.ensures.trimmed.last (omega (arith, ints, few, parts.exponent_fits))
+    in_form parts.negative c.without_zeros-lead.ensures.trimmed parts.digits.lead_fits
+    (omega (arith, ints, c.with_sign.ensures)) (omega (arith, ints, few, parts.exponent_fits))
     (omega (arith, ints, few, parts.exponent_fits))
 
 pub returns-clause-some : goal.returns-clause-some
@@ -68,8 +66,6 @@ pub returns-clause-form : goal.returns-clause-form
 returns-clause-form c =
     let parts = c.args.parts in
     let few = c.without_zeros-lead.ensures.few in
-    let small : c.without_zeros-lead.result.0 < 10 ^ 36 =
-    omega (arith, trimmed_le c.without_zeros-lead.ensures.trimmed, parts.digits.lead_fits) in
-    in_form parts.negative c.without_zeros-lead.result.0 _ _ (omega (arith, ints, c.with_sign.ensures)) small
-    c.without_zeros-lead.ensures.trimmed.last (omega (arith, ints, few, parts.exponent_fits))
+    in_form parts.negative c.without_zeros-lead.ensures.trimmed parts.digits.lead_fits
+    (omega (arith, ints, c.with_sign.ensures)) (omega (arith, ints, few, parts.exponent_fits))
     (omega (arith, ints, few, parts.exponent_fits))

@@ -1,5 +1,5 @@
-use Rattle.cj_geometry.proofs.Common.{HoldNames, [], ap, arith, last_of, length, length-take-le, limit_in, members_of, names_in, names_of, not, refl, source_of, subst, sym, take, tree, ◌<◌, ◌∙◌}
-use Rattle.cj_geometry.proofs.Distinct.{left_above, reached_more, all_reached}
+use Rattle.cj_geometry.proofs.Common.{ap, arith, last_of, length, length-take-le, limit_in, members_of, names_in, not, refl, source_of, take, tree, ◌<◌, ◌∙◌}
+use Rattle.cj_geometry.proofs.Distinct.{reached_more, all_reached}
 use Rattle.cj_geometry.proofs.Rooms.{are_next, none_left, room_kept, first_held, none_there}
 use Rattle.cj_geometry.proofs.rule.names.check_in_order.Goals as goal
 
@@ -13,7 +13,7 @@ returns-then-is_none c =
     let es = take c.gather-held.result.count c.gather-held.new.room in
     let fs = c.deal-floor.new.names in
     let no_ceiling = none_there c.gather-held.result.ceiling (c.is_none.ensures ∙ ap not c.if-is_none.true) in
-    let h = subst (λ o. HoldNames s (names_of ms) [] floor (limit_in s o) es) no_ceiling g.names in
+    let h = rw no_ceiling at g.names in
     let r = reached_more g.order {last = last_of floor (names_in s fs)} c.loop-floor.invariant.reached
     (are_next ms fs h d.permutation d.order) d.found refl in
     all_reached g.order r (none_left s ms floor es fs h d.permutation d.order)
@@ -30,8 +30,7 @@ loop-floor-smaller c =
     let some : 0 < c.gather-held.result.count = g.more (c.is_none.ensures ∙ ap not c.if-is_none.false) in
     let l = length-take-le c.gather-held.result.count c.gather-held.new.room (omega arith) in
     let filled : 0 < length es = omega arith in
-    subst (λ o. left_above (names_of ms) o < left_above (names_of ms) floor) (sym d.last)
-    (first_held ms es fs g.names d.permutation d.order filled)
+    rw d.last (first_held ms es fs g.names d.permutation d.order filled)
 
 pub loop-floor-preserved : goal.loop-floor-preserved
 loop-floor-preserved c =

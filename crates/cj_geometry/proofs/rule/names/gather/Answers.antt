@@ -1,5 +1,6 @@
-use Rattle.cj_geometry.proofs.Common.{Bool, IsWorded, None, [], ap, arith, false, is_above, is_below, limit_in, members_left, members_of, members_source, name_in, names_of, source_of, subst, sym, take, tree, true, ◌&&◌, ◌∙◌, ◌≡◌}
-use Rattle.cj_geometry.proofs.Rooms.{HasGathered, gathered_first, gathered_passed, gathered_more}
+use Rattle.cj_geometry.proofs.Common.{ap, arith, false, is_above, is_below, limit_in, members_left, members_of, members_source, name_in, names_of, source_of, sym, take, tree, ◌&&◌, ◌∙◌, ◌≡◌}
+use Rattle.std.proofs.lemmas.Bool.{and_left, and_right}
+use Rattle.cj_geometry.proofs.Rooms.{gathered_first, gathered_passed, gathered_more}
 use Rattle.cj_geometry.proofs.rule.names.gather.Goals.{else-is_left-via-then-is_left+else-has_place, else-is_left-via-else-is_left}
 use Rattle.cj_geometry.proofs.rule.names.gather.Goals as goal
 
@@ -16,8 +17,7 @@ loop-node-init c =
       count = omega arith;
       more = λ h. cc;
       source = ap members_source walk ∙ c.members-node-items.ensures.source;
-      gathered = subst (λ xs. HasGathered s (names_of ms) (names_of xs) (limit_in s c.args.floor) None []) (sym all)
-          (gathered_first s (names_of ms) (limit_in s c.args.floor));
+      gathered = rw all (gathered_first s (names_of ms) (limit_in s c.args.floor));
     }
 
 pub loop-node-preserved-then-has_place : goal.loop-node-preserved-then-has_place
@@ -25,7 +25,6 @@ loop-node-preserved-then-has_place c =
     let i = c.loop-node.invariant in
     let y = c.in-Some.ensures.steps in
     let s = source_of c.args.object in
-    let names = names_of (members_of (tree c.args.object)) in
     let e : source_of c.in-Some.node ≡ s = y.4.0 ∙ i.source in
     let name = c.of-name.result in
     let r = c.put-held.ensures in
@@ -40,11 +39,9 @@ loop-node-preserved-then-has_place c =
       gathered = gathered_more (names_of (members_left c.next.new.self))
           c.loop-node.held.ceiling c.put-held.result.ceiling name (tree c.in-Some.node)
           (take c.loop-node.held.count c.loop-node.room) _
-          (subst (λ x. name_in x name ≡ tree c.in-Some.node) e c.of-name.ensures.name)
-          (subst (λ x. IsWorded x name) e c.of-name.ensures.word)
+          (rw e at c.of-name.ensures.name) (rw e at c.of-name.ensures.word)
           (sym c.is_left.ensures ∙ c.if-is_left.true) (sym c.has_place.ensures ∙ c.if-has_place.true) r.taken
-          (subst (λ xs. HasGathered s names (names_of xs) (limit_in s c.args.floor) c.loop-node.held.ceiling
-          (take c.loop-node.held.count c.loop-node.room)) y.0 i.gathered);
+          (rw y.0 at i.gathered);
     }
 
 pub loop-node-preserved : goal.loop-node-preserved
@@ -52,7 +49,6 @@ loop-node-preserved c =
     let i = c.loop-node.invariant in
     let y = c.in-Some.ensures.steps in
     let s = source_of c.args.object in
-    let names = names_of (members_of (tree c.args.object)) in
     let floor = limit_in s c.args.floor in
     let ceiling = c.loop-node.held.ceiling in
     let e : source_of c.in-Some.node ≡ s = y.4.0 ∙ i.source in
@@ -60,10 +56,9 @@ loop-node-preserved c =
     let unwanted : is_above floor (name_in s name) && is_below (limit_in s ceiling) (name_in s name) ≡ false =
     elim c.else-is_left.branch [
       | else-is_left-via-then-is_left+else-has_place w ↦
-          both_or (is_above floor (name_in s name)) (is_below (limit_in s ceiling) (name_in s name))
-          (sym w.has_place.ensures ∙ w.if-has_place.false)
+          and_right _ _ (sym w.has_place.ensures ∙ w.if-has_place.false)
       | else-is_left-via-else-is_left w ↦
-          ap (λ v. v && is_below (limit_in s ceiling) (name_in s name)) (sym c.is_left.ensures ∙ w.if-is_left.false)
+          and_left _ _ (sym c.is_left.ensures ∙ w.if-is_left.false)
     ] in
     record {
       some = i.some;
@@ -72,11 +67,5 @@ loop-node-preserved c =
       more = i.more;
       source = y.3 ∙ i.source;
       gathered = gathered_passed (names_of (members_left c.next.new.self)) name (tree c.in-Some.node)
-          (subst (λ x. name_in x name ≡ tree c.in-Some.node) e c.of-name.ensures.name) unwanted
-          (subst (λ xs. HasGathered s names (names_of xs) floor ceiling (take c.loop-node.held.count c.loop-node.room))
-          y.0 i.gathered);
+          (rw e at c.of-name.ensures.name) unwanted (rw y.0 at i.gathered);
     }
-  where
-    both_or : (a b : Bool) → b ≡ false → a && b ≡ false
-    both_or true b h = h
-    both_or false b h = ap (λ x. false) h
