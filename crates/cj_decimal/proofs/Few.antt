@@ -9,8 +9,13 @@ value_below n [] h = omega arith
 value_below n (b ∷ s) h =
     let m = 10 * n + (b - 48) in
     let more = mul-le-mul_right (10 ^ length s) (room n b h.0.0 h.0.1) in
-    omega (arith, value_below m s h.1, more, turned (n + 1) (10 ^ length s),
-    ap (λ q. (n + 1) * q) (pow-suc 10 (length s)))
+    omega (
+      arith,
+      value_below m s h.1,
+      more,
+      turned (n + 1) (10 ^ length s),
+      ap (λ q. (n + 1) * q) (pow-suc 10 (length s)),
+    )
   where
     room : (n b : ℕ) → 48 ≤ b → b ≤ 57 → 10 * n + (b - 48) + 1 ≤ 10 * (n + 1)
     room n b low high = omega arith

@@ -90,7 +90,8 @@ told_of : (name : Tree) (ms : List (Tree × Tree)) (u : Tree) → Contains (name
 told_of name [] u c s = absurd (contains_none u c)
 told_of name (m ∷ ms) u c s =
     elim (contains_cases m.0 (names_of ms) u c) [
-      | inl e ↦ Contains-append_left (told_if name m.0) (repeats_of name ms) (found_at (start_of u) DuplicateName) (here e)
+      | inl e ↦ Contains-append_left (told_if name m.0) (repeats_of name ms) (found_at (start_of u) DuplicateName)
+          (here e)
       | inr d ↦ Contains-append_right (told_if name m.0) (repeats_of name ms) (found_at (start_of u) DuplicateName)
           (told_of name ms u d s)
     ]

@@ -79,13 +79,16 @@ sign_back true s e = inr (inr e)
 exp_back : (e : ℤ) (s : List ℕ) → read.IsExp e s → scanned.IsExp s
 exp_back e s (inl (z, q)) = rw q tt
 exp_back e s (inr p) =
-    rw p.joined (p.mark_is, record {
-      sign = p.sign;
-      digits = p.digits;
-      sign_is = sign_back p.negative p.sign p.sign_is;
-      digits_are = p.digits_are;
-      joined = refl;
-    })
+    rw p.joined (
+      p.mark_is,
+      record {
+        sign = p.sign;
+        digits = p.digits;
+        sign_is = sign_back p.negative p.sign p.sign_is;
+        digits_are = p.digits_are;
+        joined = refl;
+      },
+    )
 
 pub scanned_number : (s : List ℕ) → SpellsNumber s → scanned.IsNumber s
 scanned_number s (w, n) =

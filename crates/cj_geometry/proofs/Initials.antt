@@ -63,9 +63,11 @@ all_free taken [] room h = tt
 all_free taken (m ∷ ms) room h =
     let a = apart_parts taken m ms h in
     let wide : 32 ≤ length (slice_set taken (a.0 % 32) true) =
-    omega (arith, length-set taken (a.0 % 32) true, room) in
-    ((a.0, a.1, a.2), all_still_free taken (a.0 % 32) (omega (arith, room)) ms
-    (all_free (slice_set taken (a.0 % 32) true) ms wide a.3))
+    omega (arith, length-set taken (a.0 % 32) true, room) in (
+      (a.0, a.1, a.2),
+      all_still_free taken (a.0 % 32) (omega (arith, room)) ms
+          (all_free (slice_set taken (a.0 % 32) true) ms wide a.3),
+    )
 
 -- texts of different first characters differ
 others : (t u : Tree) (c d : ℕ) → first_code_of t ≡ Some c → first_code_of u ≡ Some d → d % 32 ≢ c % 32

@@ -1,15 +1,10 @@
 -- Items at the front of an array that hold nothing, and have no finding.
-use Rattle.cj_geometry.proofs.Common.{AreLone, Bool, DecimalFault, Err, Finding, IfSome, IsSome, List, None, Ok, Option, Reason, Result, Some, Tree, [], ap, arith, decimal_of, drop, false, flat_map, index, is_number, is_outside, kind_of, length, length-drop, nat_lt, nat_tests, not, option_and_then, pos, refl, result_ok, scalar, size, spelling, suc, sym, take, total_size, true, value_findings, whole_findings, whole_number, whole_of, zero, ℕ, ℤ, ◌++◌, ◌+◌, ◌<◌, ◌∙◌, ◌∷◌, ◌≡◌, ◌≤◌}
+use Rattle.cj_geometry.proofs.Common.{AreLone, Finding, IfSome, IsSome, List, None, Option, Reason, Some, Tree, [], ap, arith, drop, false, flat_map, index, is_outside, length, length-drop, nat_lt, nat_tests, not, pos, refl, scalar, size, suc, sym, take, total_size, whole_number, whole_of, zero, ℕ, ℤ, ◌++◌, ◌+◌, ◌<◌, ◌∙◌, ◌∷◌, ◌≡◌, ◌≤◌}
 use Rattle.std.proofs.Common.{get_or, take-append-drop}
 use Rattle.std.proofs.lemmas.List.{drop_more, take_more}
 use Rattle.std.proofs.lemmas.List.Concat.{flat_map-append}
-use Rattle.cj_decimal.specs.Meaning.Number.{Number, as_whole}
 use Rattle.cj_geometry.proofs.ListSteps.{total_size-append}
-use Rattle.cj_geometry.proofs.Numbers.{index-of-whole}
-
-size-front : (n : ℕ) (ts : List Tree) → total_size (take n ts) ≤ total_size ts
-size-front n ts =
-    omega (arith, total_size-append (take n ts) (drop n ts), ap total_size (take-append-drop n ts))
+use Rattle.cj_geometry.proofs.Numbers.{index-of-whole, whole-told}
 
 -- ---- one item more
 
@@ -36,7 +31,8 @@ module _ (n : ℕ) (ts : List Tree) (t : Tree) (rest : List Tree) (next : drop n
 
 -- what is counted is less than what an array holds
 pub lone-below : {n : ℕ} {ts : List Tree} → AreLone n ts → n ≤ total_size ts
-lone-below {n} {ts} h = let f = size-front n ts in let s = h.sizes in omega (arith, f, s)
+lone-below {n} {ts} h =
+    omega (arith, total_size-append (take n ts) (drop n ts), ap total_size (take-append-drop n ts), h.sizes)
 
 -- ---- a whole number
 
@@ -50,17 +46,8 @@ pub whole-there : (o : Option ℤ) (t : Tree) → IfSome o (λ w. whole_of t ≡
 whole-there None t is some = absurd (cc some)
 whole-there (Some w) t is some = (w, is)
 
-whole-by-none : (t : Tree) (r : Result Number DecimalFault) (w : ℤ) → option_and_then as_whole (result_ok r) ≡ Some w
-    → value_findings (λ v. whole_findings (λ w. []) t (as_whole v)) t r ≡ []
-whole-by-none t (Ok v) w e = ap (whole_findings (λ w. []) t) e
-whole-by-none t (Err f) w e = absurd (cc e)
-
 pub whole-none : (t : Tree) (w : ℤ) → whole_of t ≡ Some w → whole_number t ≡ []
-whole-none t w e = go (is_number (kind_of t)) refl
-  where
-    go : (b : Bool) → is_number (kind_of t) ≡ b → whole_number t ≡ []
-    go true k = rw k (whole-by-none t (decimal_of (spelling t)) w (rw k at e))
-    go false k = absurd (cc (rw k at e))
+whole-none t w e = whole-told (λ w. []) t w e
 
 pub index-none : (t : Tree) (n bound : ℕ) → whole_of t ≡ Some (pos n) → (reason : Reason) (count : Option ℕ)
     → is_outside count (pos n) ≡ not (nat_lt n bound) → n < bound → index reason count t ≡ []

@@ -3,6 +3,7 @@ use Rattle.cj_geometry.proofs.Common.{Bool, Class, DecimalFault, Err, Finding, I
 use Rattle.std.proofs.Common.{unsigned_abs, ◌*ℤ◌, unwrap_or}
 use Rattle.std.proofs.lemmas.Bool.{cond_both, ltb-true}
 use Rattle.std.proofs.lemmas.Int.{to_z-of_z, fits_signed_from_abs}
+use Rattle.cj_geometry.specs.Meaning.Numbers.{of_whole}
 use Rattle.cj_spans.specs.Meaning.Json.{byte}
 use Rattle.cj_decimal.specs.declared.decimal.DecimalFault.TheVariants.{NotANumber, NumberRange as OutOfRange}
 use Rattle.cj_decimal.proofs.Eights.{first_is}
@@ -20,6 +21,16 @@ in-range s t o = ap (value_findings (λ v. []) t) (decimal_is s o.0 o.1 o.2)
 
 -- ---- what reading a whole number answers
 
+-- what is told of a number that was read is told of a whole one, too
+by-class : {X : Type 0} (f : Result DecimalNumber DecimalFault → X) (g : Result (Option ℤ) DecimalFault → X)
+    → ((v : DecimalNumber) → f (Ok v) ≡ g (Ok (as_whole v))) → ((e : DecimalFault) → f (Err e) ≡ g (Err e))
+    → {s : List ℕ} (c : Class s) → f (decimal_of s) ≡ g (whole_answer c)
+by-class f g some none {s} c = by_value (decimal_of s) ∙ ap g (whole_class s c)
+  where
+    by_value : (r : Result DecimalNumber DecimalFault) → f r ≡ g (whole_answer_by r)
+    by_value (Ok v) = some v
+    by_value (Err e) = none e
+
 -- what the rule on an index finds of a number that was read
 abbrev pub IndexFindings : Reason → Option ℕ → Tree → Result DecimalNumber DecimalFault → List Finding
 IndexFindings reason count t r =
@@ -33,17 +44,13 @@ index-by reason count t (Err e) = one (fault_reason e) t
 
 index-class : {s : List ℕ} (reason : Reason) (count : Option ℕ) (t : Tree) (c : Class s)
     → IndexFindings reason count t (decimal_of s) ≡ index-by reason count t (whole_answer c)
-index-class {s} reason count t c = by_value (decimal_of s) ∙ ap (index-by reason count t) (whole_class s c)
+index-class reason count t c =
+    by-class (IndexFindings reason count t) (index-by reason count t) (λ v. by_whole (as_whole v)) (λ e. refl) c
   where
     by_whole : (o : Option ℤ) → whole_findings (λ w. cond (is_outside count w) (one reason t) []) t o
         ≡ index-by reason count t (Ok o)
     by_whole None = refl
     by_whole (Some w) = refl
-
-    by_value : (r : Result DecimalNumber DecimalFault) → IndexFindings reason count t r
-        ≡ index-by reason count t (whole_answer_by r)
-    by_value (Ok v) = by_whole (as_whole v)
-    by_value (Err e) = refl
 
 -- the findings of a number by it
 abbrev pub number-by : Tree → Result (Option ℤ) DecimalFault → List Finding
@@ -52,12 +59,7 @@ number-by t (Err e) = one (fault_reason e) t
 
 number-class : {s : List ℕ} (t : Tree) (c : Class s) → value_findings (λ v. []) t (decimal_of s)
     ≡ number-by t (whole_answer c)
-number-class {s} t c = by_value (decimal_of s) ∙ ap (number-by t) (whole_class s c)
-  where
-    by_value : (r : Result DecimalNumber DecimalFault) → value_findings (λ v. []) t r
-        ≡ number-by t (whole_answer_by r)
-    by_value (Ok v) = refl
-    by_value (Err e) = refl
+number-class t c = by-class (value_findings (λ v. []) t) (number-by t) (λ v. refl) (λ e. refl) c
 
 -- the whole number by it
 abbrev pub whole-if : Result (Option ℤ) DecimalFault → Option ℤ
@@ -66,35 +68,31 @@ whole-if (Err e) = None
 
 whole-class : {s : List ℕ} (c : Class s) → option_and_then as_whole (result_ok (decimal_of s))
     ≡ whole-if (whole_answer c)
-whole-class {s} c = by_value (decimal_of s) ∙ ap whole-if (whole_class s c)
-  where
-    by_value : (r : Result DecimalNumber DecimalFault) → option_and_then as_whole (result_ok r)
-        ≡ whole-if (whole_answer_by r)
-    by_value (Ok v) = refl
-    by_value (Err e) = refl
+whole-class c = by-class (λ r. option_and_then as_whole (result_ok r)) whole-if (λ v. refl) (λ e. refl) c
 
 -- a whole number that went to bits and back
 pub whole-fits : (w : ℤ) → unsigned_abs w < 10 ^ 18 → to_z w64 (of_z w64 w) ≡ w
 whole-fits w small = to_z-of_z w64 w (fits_signed_from_abs w64 w (omega arith))
 
 -- ---- of a tree that has a whole number
-by-whole : (t : Tree) (r : Result DecimalNumber DecimalFault) (w : ℤ) → option_and_then as_whole (result_ok r) ≡ Some w
-    → (reason : Reason) (count : Option ℕ)
-    → IndexFindings reason count t r ≡ cond (is_outside count w) (one reason t) []
-by-whole t (Ok v) w is reason count = ap (whole_findings (λ w. cond (is_outside count w) (one reason t) []) t) is
-by-whole t (Err e) w is reason count = absurd (cc is)
-
-pub index-of-whole : (t : Tree) (w : ℤ) → whole_of t ≡ Some w → (reason : Reason) (count : Option ℕ)
-    → index reason count t ≡ cond (is_outside count w) (one reason t) []
-index-of-whole t w is reason count = go (is_number (kind_of t)) refl
-  where
-    go : (b : Bool) → is_number (kind_of t) ≡ b → index reason count t ≡ cond (is_outside count w) (one reason t) []
-    go true e = rw e (by-whole t (decimal_of (spelling t)) w (rw e at is) reason count)
-    go false e = absurd (cc (rw e at is))
-
 pub whole-kind : (t : Tree) (w : ℤ) → whole_of t ≡ Some w → kind_of t ≡ Number
 whole-kind (scalar Number a) w is = refl
 whole-kind _ w is = absurd (cc is)
+
+by-whole : (rule : ℤ → List Finding) (t : Tree) (r : Result DecimalNumber DecimalFault) (w : ℤ)
+    → option_and_then as_whole (result_ok r) ≡ Some w
+    → value_findings (λ v. whole_findings rule t (as_whole v)) t r ≡ rule w
+by-whole rule t (Ok v) w is = ap (whole_findings rule t) is
+by-whole rule t (Err e) w is = absurd (cc is)
+
+-- a rule on a whole number is that on its value
+pub whole-told : (rule : ℤ → List Finding) (t : Tree) (w : ℤ) → whole_of t ≡ Some w → of_whole rule t ≡ rule w
+whole-told rule t w is = let kind = whole-kind t w is in
+    rw kind (by-whole rule t (decimal_of (spelling t)) w (rw kind at is))
+
+pub index-of-whole : (t : Tree) (w : ℤ) → whole_of t ≡ Some w → (reason : Reason) (count : Option ℕ)
+    → index reason count t ≡ cond (is_outside count w) (one reason t) []
+index-of-whole t w is reason count = whole-told (λ w. cond (is_outside count w) (one reason t) []) t w is
 
 -- an index has no finding but at itself
 pub index-told : {found : Option Finding} (t : Tree) → ((r : Reason) → least found (one r t) ≡ found)

@@ -1,12 +1,15 @@
 -- The table of types, row by row.
-use Rattle.cj_geometry.proofs.Common.{Bool, List, None, Option, Some, Tree, [], ap, bytes_eq-Decides, chars, cond, false, get_or, has_text, length, nat_eq, number_of, refl, row_at, row_numbered, sym, text_of, true, ℕ, ◌&&◌, ◌<◌, ◌∙◌, ◌∷◌, ◌≡◌}
+use Rattle.cj_geometry.proofs.Common.{Bool, List, None, Option, Some, Tree, [], ap, bytes_eq-Decides, chars, cond, false, has_text, length, nat_eq, number_of, refl, row_at, row_numbered, sym, text_of, true, ℕ, ◌&&◌, ◌<◌, ◌∙◌, ◌∷◌, ◌≡◌}
 use Rattle.std.proofs.Common.{nat_le, lit<, eqb-true, bytes_eq}
 use Rattle.std.proofs.lemmas.Bool.{agree_below, agree_below_at, and_parts}
 use Rattle.cj_spans.specs.Meaning.Text.{are_same}
 use Rattle.cj_geometry.proofs.Texts.{text-is}
 use Rattle.cj_geometry.specs.Meaning.ObjectTypes.{ObjectRow, object_types, row_in, row_of}
 use Rattle.cj_geometry.specs.declared.object_type.ObjectType.{ObjectType}
-use Rattle.cj_geometry.specs.declared.object_type.ObjectType.TheVariants.{Bridge, Building, CityFurniture, CityObjectGroup, GenericCityObject, LandUse, OtherConstruction, PlantCover, Railway, Road, SolitaryVegetationObject, TINRelief, TransportSquare, Tunnel, WaterBody, Waterway, BridgeConstructiveElement, BridgeFurniture, BridgeInstallation, BridgePart, BridgeRoom, BuildingConstructiveElement, BuildingFurniture, BuildingInstallation, BuildingPart, BuildingRoom, BuildingStorey, BuildingUnit, TunnelConstructiveElement, TunnelFurniture, TunnelHollowSpace, TunnelInstallation, TunnelPart}
+use Rattle.cj_geometry.specs.contracts.object_type.ObjectType.{the_type}
+use Rattle.cj_geometry.specs.declared.object_type.ObjectType.TheVariants.{Bridge}
+use denote.Enum.Bare.{tag_one}
+use denote.Enum.Declared.{tag_of}
 
 pub count : length object_types ≡ 33
 unfolding object_types
@@ -46,55 +49,14 @@ type-number o = has-number (number_of o) (number-below o)
 pub type-level : (o : ObjectType) → (row_at o).is_second ≡ nat_le 16 (number_of o)
 type-level o = has-level (number_of o) (number-below o)
 
--- the types, each at the place of its number
-types : List ObjectType
-types =
-    Bridge
-    ∷ Building
-    ∷ CityFurniture
-    ∷ CityObjectGroup
-    ∷ GenericCityObject
-    ∷ LandUse
-    ∷ OtherConstruction
-    ∷ PlantCover
-    ∷ Railway
-    ∷ Road
-    ∷ SolitaryVegetationObject
-    ∷ TINRelief
-    ∷ TransportSquare
-    ∷ Tunnel
-    ∷ WaterBody
-    ∷ Waterway
-    ∷ BridgeConstructiveElement
-    ∷ BridgeFurniture
-    ∷ BridgeInstallation
-    ∷ BridgePart
-    ∷ BridgeRoom
-    ∷ BuildingConstructiveElement
-    ∷ BuildingFurniture
-    ∷ BuildingInstallation
-    ∷ BuildingPart
-    ∷ BuildingRoom
-    ∷ BuildingStorey
-    ∷ BuildingUnit
-    ∷ TunnelConstructiveElement
-    ∷ TunnelFurniture
-    ∷ TunnelHollowSpace
-    ∷ TunnelInstallation
-    ∷ TunnelPart
-    ∷ []
-
-type_numbered : ℕ → ObjectType
-type_numbered n = get_or types n Bridge
-
-its-number : (o : ObjectType) → type_numbered (number_of o) ≡ o
-unfolding type_numbered types
-its-number Bridge = refl
-its-number _ = refl
+-- the numbers are those that the compiler gives to the types
+tag-number : (o : ObjectType) → tag_of the_type o ≡ number_of o
+tag-number Bridge = refl
+tag-number _ = refl
 
 -- different types have different numbers, and different rows
 pub same-number : (a b : ObjectType) → number_of a ≡ number_of b → a ≡ b
-same-number a b h = sym (its-number a) ∙ ap type_numbered h ∙ its-number b
+same-number a b h = tag_one the_type tt a b (tag-number a ∙ h ∙ sym (tag-number b))
 
 pub same-row : (a b : ObjectType) → row_at a ≡ row_at b → a ≡ b
 same-row a b h = same-number a b (sym (type-number a) ∙ ap (λ r. r.number) h ∙ type-number b)

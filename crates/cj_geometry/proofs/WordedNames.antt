@@ -7,7 +7,7 @@ use Rattle.std.specs.Cmp.Lexicographic.{nat_list_cmp_total, options_total}
 use Rattle.std.specs.List.Sorted.{IsSplitAroundBy}
 use Rattle.std.specs.Ordering.{ordering_then, ordering_reverse}
 use Rattle.std.specs.Fn.{Called, ComparesAs}
-use Rattle.std.proofs.lemmas.List.Elements.{All-cons, All-head, All-tail, All-nil}
+use Rattle.std.proofs.lemmas.List.Elements.{All-head, All-map, All-tail}
 use Rattle.std.proofs.lemmas.Fn.{always_returns_same}
 use Rattle.cj_spans.specs.Order.{compare_texts, front_word}
 use Rattle.cj_spans.proofs.Words.{less_by_words}
@@ -55,11 +55,8 @@ worded_order s = then_total (on_total word_in nat_cmp_total) (on_total (name_in 
 each_later : (s : Source) (e : WordedName) (es : List WordedName) → IsWorded s e → All (IsWorded s) es
     → ((k : ℕ) (d : WordedName) → k < length es → is_lt (compare_worded s (get_or es k d) e) ≡ false)
     → All (λ u. is_earlier u (name_in s e) ≡ false) (names_in s es)
-each_later s e [] h a f = All-nil (λ u. is_earlier u (name_in s e) ≡ false)
-each_later s e (d ∷ es) h a f =
-    let g = sym (less_as_earlier s d e (All-head (IsWorded s) d es a) h) ∙ f 0 d (omega arith) in
-    let r = each_later s e es h (All-tail (IsWorded s) d es a) (λ k x l. f (suc k) x (omega arith)) in
-    All-cons (λ u. is_earlier u (name_in s e) ≡ false) (name_in s d) (names_in s es) g r
+each_later s e es h a f = All-map (λ u. is_earlier u (name_in s e) ≡ false) (name_in s) es
+    (λ k d l. sym (less_as_earlier s (get_or es k d) e (a k d l) h) ∙ f k d l)
 
 pub ascend_by : (s : Source) (es : List WordedName) → All (IsWorded s) es
     → ((i j : ℕ) (d : WordedName) → i ≤ j → j < length es → is_lt (compare_worded s (get_or es j d) (get_or es i d))
