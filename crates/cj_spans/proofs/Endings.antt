@@ -1,16 +1,18 @@
 -- A prefix is what a text begins with: some bytes more make it one.
 use Rattle.cj_spans.proofs.Common.{◌≡◌, inl, inr, ℕ, zero, suc, ◌+◌, ◌<◌, ◌≤◌, List, [], ◌∷◌, ◌++◌, length, take, drop, get_or, Option, Some, None, Result, Err, refl, sym, ap, subst, arith, ◌∙◌, slice_get, slice_set, length-append, eq-or-lt_of_le, option_map, common_steps, take-append-drop, BoundedList, LineFault, Syntax, TooDeep, Kind, Array, Object, Token, Lex, Zero, InString, StringDone, Mode, Ready, FirstItem, After, FirstName, NextName, AfterName, Tree, nest, byte, Json, JsonPrefix, IsJsonPrefix, SyntaxAt, stuck, short, token_at, flatten, flatten_items, flatten_members, open_kind, State, state, in_atom, step, end_atom, after_token, after_in, still, Reaches, here, on, start, SinksAt, RunAnswers, BeginsValue}
+use Rattle.std.proofs.lemmas.List.{get_or-append-add}
+use Rattle.std.proofs.Math.ListN.{get_or-append}
 use Rattle.cj_spans.specs.Meaning.Begins.{BeginsText, IsFirstFault, IsFirstTooDeep}
-use Rattle.cj_spans.proofs.Spellings.{can_end, text_end}
-use Rattle.cj_spans.proofs.Lists.{slice_get-append, slice_get-seam, rise-nest}
+use Rattle.cj_spans.proofs.Spellings.{can_end}
+use Rattle.cj_spans.proofs.Lists.{slice_get-append, slice_get-seam, get_before, rise-nest}
 use Rattle.cj_spans.proofs.Runs.{IsEnd, colon, bracket, brace, Arrives, arrive_on, arrived, settled, idle, BeginsName}
 use Rattle.cj_spans.proofs.Follows.{run_json}
-use Rattle.cj_spans.proofs.Places.{InAtom, in_text, continues_run, name_34}
+use Rattle.cj_spans.proofs.Places.{continues_run, step_name}
 use Rattle.cj_spans.proofs.Atoms.{continues_reaches}
 use Rattle.cj_spans.proofs.Sound.{with_name, Context, root, in_array, in_member, Inv, ready, first_item, after_tree, first_name, next_name, after_name, in_scalar, in_name, inv_reaches}
 use Rattle.cj_spans.proofs.Facts.{next_place, same_state, lawful_reaches, state_before}
 use Rattle.cj_spans.proofs.Fronts.{front_runs, inv_front}
-use Rattle.cj_spans.proofs.Verdicts.{spells, nest_of, sinks_deep, fronts_below, syntax_within, Cleared, run_syntax}
+use Rattle.cj_spans.proofs.Verdicts.{spells, nest_of, sinks_deep, fronts_below, syntax_within}
 
 -- ---- lines that have the same bytes up to a place
 
@@ -118,10 +120,7 @@ context_containers (in_member e j k l ks ts us n c o m d w) =
 
 -- a token that is written anew leaves those before it as they are
 kind_set : (ts : List Token) (k j : ℕ) (u : Token) → j < k → kind_at (slice_set ts k u) j ≡ kind_at ts j
-kind_set [] k j u l = refl
-kind_set (z ∷ ts) zero j u l = absurd (omega arith)
-kind_set (z ∷ ts) (suc k) zero u l = refl
-kind_set (z ∷ ts) (suc k) (suc j) u l = kind_set ts k j u (omega arith)
+kind_set ts k j u l = ap (option_map open_kind) (get_before ts k j u l)
 
 containers_set : (ks : List ℕ) (ts : List Token) (k : ℕ) (u : Token) → AreBelow k ks → AllContainers ks ts
     → AllContainers ks (slice_set ts k u)
@@ -200,11 +199,11 @@ close_all (k ∷ ks) {c} ts {j} p a all e h =
 -- ---- a value after the front
 
 -- a number after a place where a value may begin
-zero_step : (m : Mode) (ks : List ℕ) (ts : List Token) (j p : ℕ) → BeginsValue m
-    → step 48 (idle m ks ts j p) ≡ Some (state (in_atom After j Zero) ks ts (suc j) p)
-zero_step Ready ks ts j p h = refl
-zero_step FirstItem ks ts j p h = refl
-zero_step _ ks ts j p h = absurd h
+zero_step : {c : ℕ} (m : Mode) (ks : List ℕ) (ts : List Token) (j p : ℕ) → BeginsValue m → c ≡ 48
+    → step c (idle m ks ts j p) ≡ Some (state (in_atom After j Zero) ks ts (suc j) p)
+zero_step Ready ks ts j p h e = ap (λ z. step z (idle Ready ks ts j p)) e
+zero_step FirstItem ks ts j p h e = ap (λ z. step z (idle FirstItem ks ts j p)) e
+zero_step _ ks ts j p h e = absurd h
 
 read_zero : {c : List ℕ} (m : Mode) (ks : List ℕ) (ts : List Token) (j p : ℕ) → BeginsValue m → byte c j ≡ 48
     → Reaches c start (idle m ks ts j p)
@@ -212,7 +211,7 @@ read_zero : {c : List ℕ} (m : Mode) (ks : List ℕ) (ts : List Token) (j p : �
 read_zero m ks ts j p h e r = record {
   at = state (in_atom After j Zero) ks ts (suc j) p;
   reached = on (idle m ks ts j p) (state (in_atom After j Zero) ks ts (suc j) p) r
-      (ap (λ z. step z (idle m ks ts j p)) e ∙ zero_step m ks ts j p h);
+      (zero_step m ks ts j p h e);
   settles = refl;
 }
 
@@ -232,7 +231,7 @@ read_name : {c : List ℕ} (m : Mode) (ks : List ℕ) (ts : List Token) (j p : �
     → Arrives c start (idle AfterName ks (ts ++ token_at j (suc (suc j)) (suc (length ts)) ∷ []) (suc (suc j)) p)
 read_name m ks ts j p h e f r =
     let s = state (in_atom AfterName j InString) ks ts (suc j) p in
-    let q = on (idle m ks ts j p) s r (ap (λ z. step z (idle m ks ts j p)) e ∙ name_34 m ks ts j p h) in
+    let q = on (idle m ks ts j p) s r (step_name m ks ts j p h e) in
     record {
       at = state (in_atom AfterName j StringDone) ks ts (suc (suc j)) p;
       reached = on s (state (in_atom AfterName j StringDone) ks ts (suc (suc j)) p) q (ap (λ z. step z s) f);
@@ -325,21 +324,10 @@ finish_scalar e k p ks ts x all =
       };
     }
 
-seam_byte : (xs ys : List ℕ) (n : ℕ) → get_or (xs ++ ys) (length xs + n) 0 ≡ get_or ys n 0
-seam_byte [] ys n = let e : 0 + n ≡ n = omega arith in ap (λ z. get_or ys z 0) e
-seam_byte (x ∷ xs) ys n = let e : suc (length xs) + n ≡ suc (length xs + n) = omega arith in
-    ap (λ z. get_or (x ∷ (xs ++ ys)) z 0) e ∙ seam_byte xs ys n
-
-front_byte : (xs ys : List ℕ) (n : ℕ) → n < length xs → get_or (xs ++ ys) n 0 ≡ get_or xs n 0
-front_byte [] ys n h = absurd (omega arith)
-front_byte (x ∷ xs) ys zero h = refl
-front_byte (x ∷ xs) ys (suc n) h = front_byte xs ys n (omega arith)
-
-finish_in_name : {b : List ℕ} {l k : ℕ} (p : ℕ) (ks : List ℕ) (ts : List Token) {x : Lex} → InAtom b l k x
-    → byte b l ≡ 34
-    → AllContainers ks ts → Finish (state (in_atom AfterName l x) ks ts k p)
-finish_in_name {l} {k} p ks ts {x} w q all =
-    let z = text_end x (in_text w q) in
+finish_in_name : (l k p : ℕ) (ks : List ℕ) (ts : List Token) (x : Lex) → AllContainers ks ts
+    → Finish (state (in_atom AfterName l x) ks ts k p)
+finish_in_name l k p ks ts x all =
+    let z = can_end x in
     let n = length z.rest in
     let us = with_name ts l (k + n) in
     let w2 = length-append z.rest (58 ∷ 48 ∷ []) in
@@ -349,16 +337,20 @@ finish_in_name {l} {k} p ks ts {x} w q all =
       tokens = us ++ token_at (suc (k + n)) (suc (suc (k + n))) (suc (length us)) ∷ [];
       containers = containers_more ks us _ (containers_more ks ts _ all);
       goes = λ c r b.
-          let f = continues_run z.rest StringDone still z.run
-          (λ i h. b i (omega arith) ∙ front_byte z.rest (58 ∷ 48 ∷ []) i h) in
-          let s = state (in_atom AfterName l StringDone) ks ts (k + n) p in
+          let f = continues_run z.rest z.last still z.run
+          (λ i h. b i (omega arith) ∙ get_or-append z.rest (58 ∷ 48 ∷ []) 0 i h) in
+          let s = state (in_atom AfterName l z.last) ks ts (k + n) p in
           let a : Arrives c start (idle AfterName ks us (k + n) p) =
-          record { at = s; reached = continues_reaches f AfterName l ks ts p r; settles = refl } in
+          record {
+            at = s;
+            reached = continues_reaches f AfterName l ks ts p r;
+            settles = ap (λ o. end_atom AfterName l o s) z.done;
+          } in
           arrives_at ks _ (suc (suc (k + n))) (k + length (z.rest ++ 58 ∷ 48 ∷ [])) p (omega arith)
           (read_value ks us (k + n) p (place_at c (k + n) (k + (n + 0)) (omega arith)
-          (b (n + 0) (omega arith) ∙ seam_byte z.rest (58 ∷ 48 ∷ []) 0))
+          (b (n + 0) (omega arith) ∙ get_or-append-add z.rest (58 ∷ 48 ∷ []) 0 0))
           (place_at c (suc (k + n)) (k + (n + 1)) (omega arith)
-          (b (n + 1) (omega arith) ∙ seam_byte z.rest (58 ∷ 48 ∷ []) 1)) a);
+          (b (n + 1) (omega arith) ∙ get_or-append-add z.rest (58 ∷ 48 ∷ []) 1 0)) a);
     }
 
 finish : {b : List ℕ} {s : State} → Inv b s → Finish s
@@ -381,7 +373,7 @@ finish (after_name e j l m k p ks ts us c o ld w0 wd w) =
 finish (in_scalar e k p ks ts x c w) = finish_scalar e k p ks ts x (context_containers c)
 finish (in_name e j l k p ks ts us x c o ld w0 q w) =
     let t = token_at e 0 1 in let fs = flatten_members (suc (length ts)) us in
-    finish_in_name p (length ts ∷ ks) ((ts ++ t ∷ []) ++ fs) w q (inside ks ts t fs tt (context_containers c))
+    finish_in_name l k p (length ts ∷ ks) ((ts ++ t ∷ []) ++ fs) x (inside ks ts t fs tt (context_containers c))
 
 -- ---- fronts and texts
 
@@ -398,13 +390,13 @@ state_text {b} {i} l {s} reached e =
     let c = take i b ++ rest in
     let r = transfer c i (λ k h. same_byte b rest i k l h) reached (omega arith) in
     let m = length z.rest in
-    let a = z.goes c r (λ n h. ap (λ q. byte c (q + n)) e ∙ rest_byte b rest i n l ∙ front_byte z.rest cs n h) in
+    let a = z.goes c r (λ n h. ap (λ q. byte c (q + n)) e ∙ rest_byte b rest i n l ∙ get_or-append z.rest cs 0 n h) in
     let w1 = length_with b rest i l in
     let w2 = length-append z.rest cs in
     let h : Has c (s.place + m) cs = record {
       whole = omega arith;
       bytes = λ n g. (let q : (s.place + m) + n ≡ i + (m + n) = omega arith in ap (byte c) q)
-          ∙ rest_byte b rest i (m + n) l ∙ seam_byte z.rest cs n;
+          ∙ rest_byte b rest i (m + n) l ∙ get_or-append-add z.rest cs n 0;
     } in
     let d = close_all z.stack z.tokens s.deepest a z.containers refl h in
     let t = spells (inv_reaches d.arrives.reached) d.tokens s.deepest d.arrives.settles in
@@ -477,16 +469,3 @@ first_too_deep {b} {d} {i} a =
         let s = state_before (suc j) a.reached (omega arith) in
         let t = state_text (omega arith) s.reached s.place in
         (t.text, omega arith)
-
--- the clauses of the scan, under the limit that the stack had before it was emptied
-module _ (X : Type 0) (b : List ℕ) (old_stack empty_stack new_stack : BoundedList ℕ) (new : BoundedList Token)
-    (d : Cleared old_stack empty_stack) where
-  pub answers_first_too_deep : {r : Result X LineFault} (i : ℕ) → RunAnswers b empty_stack r new new_stack
-      → r ≡ Err (TooDeep i) → IsFirstTooDeep b old_stack.limit i
-  answers_first_too_deep i a e =
-      subst (λ n. IsFirstTooDeep b n i) d.limit
-      (first_too_deep (subst (λ z. RunAnswers b empty_stack z new new_stack) e a).0)
-
-  pub answers_first_fault : {r : Result X LineFault} (i : ℕ) → RunAnswers b empty_stack r new new_stack
-      → r ≡ Err (Syntax i) → IsFirstFault b i
-  answers_first_fault i a e = first_fault (run_syntax X b empty_stack new new_stack i a e).0

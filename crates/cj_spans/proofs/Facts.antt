@@ -31,19 +31,21 @@ pub record IsLawful (s : State) : Type 0 where
   pub token_count : 2 * length s.tokens ≤ reach s.phase s.place + length s.stack
   pub began : BeganBefore s.phase s.place
 
--- a step from the place i, where at most p containers were open
-pub record Goes (i p : ℕ) (u : State) : Type 0 where
+-- a step from the place i, where n containers were open and before at most p
+pub record Goes (i p n : ℕ) (u : State) : Type 0 where
   pub place : u.place ≡ suc i
   pub deepest : u.deepest ≡ max p (length u.stack)
+  pub climbs : length u.stack ≤ suc n
   pub lawful : IsLawful u
 
-abbrev GoesIf : ℕ → ℕ → Option State → Type 0
-GoesIf i p None = Unit {0}
-GoesIf i p (Some u) = Goes i p u
+abbrev GoesIf : ℕ → ℕ → ℕ → Option State → Type 0
+GoesIf i p n None = Unit {0}
+GoesIf i p n (Some u) = Goes i p n u
 
-goes_cond : (i p : ℕ) (v : Bool) (x y : Option State) → GoesIf i p x → GoesIf i p y → GoesIf i p (cond v x y)
-goes_cond i p true x y g h = g
-goes_cond i p false x y g h = h
+goes_cond : (i p n : ℕ) (v : Bool) (x y : Option State) → GoesIf i p n x → GoesIf i p n y
+    → GoesIf i p n (cond v x y)
+goes_cond i p n true x y g h = g
+goes_cond i p n false x y g h = h
 
 reach_more : (m : Mode) (i : ℕ) → reach_in m i ≤ reach_in m (suc i)
 reach_more Ready i = omega arith
@@ -52,112 +54,116 @@ reach_more _ i = omega arith
 module _ (i p : ℕ) (ts : List Token) where
   -- to a mode at the next place
   goes_to : (m : Mode) (ks : List ℕ) → length ks ≤ i → length ks ≤ p → 2 * length ts ≤ reach_in m (suc i) + length ks
-      → Goes i p (idle m ks ts (suc i) p)
+      → Goes i p (length ks) (idle m ks ts (suc i) p)
   goes_to m ks o d c =
       record {
         place = refl;
         deepest = omega arith;
+        climbs = omega arith;
         lawful = record { open_count = omega arith; deep = d; token_count = c; began = tt };
       }
 
   -- into a scalar or a name
   goes_atom : (m : Mode) (x : Lex) (ks : List ℕ) → EndsAtom m → length ks ≤ i → length ks ≤ p
-      → 2 * length ts ≤ i + length ks → Goes i p (state (in_atom m i x) ks ts (suc i) p)
+      → 2 * length ts ≤ i + length ks → Goes i p (length ks) (state (in_atom m i x) ks ts (suc i) p)
   goes_atom m x ks e o d c =
       record {
         place = refl;
         deepest = omega arith;
+        climbs = omega arith;
         lawful = record { open_count = omega arith; deep = d; token_count = c; began = (omega arith, e) };
       }
 
   -- into a container
   goes_open : (m : Mode) (l : ℕ) (ks : List ℕ) → length ks ≤ i → 2 * length ts ≤ i + length ks
       → 2 * suc (length ts) ≤ reach_in m (suc i) + suc (length ks)
-      → Goes i p (idle m (length ts ∷ ks) (ts ++ token_at i 0 l ∷ []) (suc i) (max p (suc (length ks))))
+      → Goes i p (length ks) (idle m (length ts ∷ ks) (ts ++ token_at i 0 l ∷ []) (suc i) (max p (suc (length ks))))
   goes_open m l ks o c g =
       let e : length (ts ++ token_at i 0 l ∷ []) ≡ length ts + 1 = length-append ts (token_at i 0 l ∷ []) in
       record {
         place = refl;
         deepest = refl;
+        climbs = omega arith;
         lawful = record { open_count = omega arith; deep = omega arith; token_count = omega arith; began = tt };
       }
 
   goes_lex : (ks : List ℕ) (o : Option Lex) → length ks ≤ i → length ks ≤ p → 2 * length ts ≤ i + length ks
-      → GoesIf i p (option_map (λ x. state (in_atom After i x) ks ts (suc i) p) o)
+      → GoesIf i p (length ks) (option_map (λ x. state (in_atom After i x) ks ts (suc i) p) o)
   goes_lex ks None o d c = tt
   goes_lex ks (Some x) o d c = goes_atom After x ks tt o d c
 
   goes_begin : (c : ℕ) (m : Mode) (ks : List ℕ) → length ks ≤ i → length ks ≤ p → 2 * length ts ≤ i + length ks
-      → GoesIf i p (begin_value c (idle m ks ts i p))
+      → GoesIf i p (length ks) (begin_value c (idle m ks ts i p))
   goes_begin c m ks o d n =
-      goes_cond i p (nat_eq c 91) _ _ (goes_open FirstItem 0 ks o n (omega arith))
-      (goes_cond i p (nat_eq c 123) _ _ (goes_open FirstName 1 ks o n (omega arith))
+      goes_cond i p _ (nat_eq c 91) _ _ (goes_open FirstItem 0 ks o n (omega arith))
+      (goes_cond i p _ (nat_eq c 123) _ _ (goes_open FirstName 1 ks o n (omega arith))
       (goes_lex ks (lex_start c) o d n))
 
   goes_name : (c : ℕ) (m : Mode) (ks : List ℕ) → length ks ≤ i → length ks ≤ p → 2 * length ts ≤ i + length ks
-      → GoesIf i p (begin_name c (idle m ks ts i p))
-  goes_name c m ks o d n = goes_cond i p (nat_eq c 34) _ None (goes_atom AfterName _ ks tt o d n) tt
+      → GoesIf i p (length ks) (begin_name c (idle m ks ts i p))
+  goes_name c m ks o d n = goes_cond i p _ (nat_eq c 34) _ None (goes_atom AfterName _ ks tt o d n) tt
 
   -- out of a container
   goes_closed : (m : Mode) (k : ℕ) (ks : List ℕ) (t : Token) → suc (length ks) ≤ i → suc (length ks) ≤ p
       → 2 * length ts ≤ suc i + suc (length ks)
-      → Goes i p (idle After ks (slice_set ts k t) (suc i) p)
+      → Goes i p (suc (length ks)) (idle After ks (slice_set ts k t) (suc i) p)
   goes_closed m k ks t o d n =
       let e : length (slice_set ts k t) ≡ length ts = length-set ts k t in
       record {
         place = refl;
         deepest = omega arith;
+        climbs = omega arith;
         lawful = record { open_count = omega arith; deep = omega arith; token_count = omega arith; began = tt };
       }
 
   goes_in : (kd : Kind) (c k : ℕ) (t : Token) (m : Mode) (ks : List ℕ) → suc (length ks) ≤ i → suc (length ks) ≤ p
-      → 2 * length ts ≤ suc i + suc (length ks) → GoesIf i p (after_in kd c k t (idle m (k ∷ ks) ts i p))
-  goes_in Null c k t m ks o d n = tt
-  goes_in Truth c k t m ks o d n = tt
-  goes_in Number c k t m ks o d n = tt
-  goes_in Text c k t m ks o d n = tt
+      → 2 * length ts ≤ suc i + suc (length ks)
+      → GoesIf i p (suc (length ks)) (after_in kd c k t (idle m (k ∷ ks) ts i p))
   goes_in Array c k t m ks o d n =
-      goes_cond i p (nat_eq c 44) _ _ (goes_to Ready (k ∷ ks) o d n)
-      (goes_cond i p (nat_eq c 93) _ None (goes_closed m k ks _ o d n) tt)
+      goes_cond i p _ (nat_eq c 44) _ _ (goes_to Ready (k ∷ ks) o d n)
+      (goes_cond i p _ (nat_eq c 93) _ None (goes_closed m k ks _ o d n) tt)
   goes_in Object c k t m ks o d n =
-      goes_cond i p (nat_eq c 44) _ _ (goes_to NextName (k ∷ ks) o d n)
-      (goes_cond i p (nat_eq c 125) _ None (goes_closed m k ks _ o d n) tt)
+      goes_cond i p _ (nat_eq c 44) _ _ (goes_to NextName (k ∷ ks) o d n)
+      (goes_cond i p _ (nat_eq c 125) _ None (goes_closed m k ks _ o d n) tt)
+  goes_in _ c k t m ks o d n = tt
 
   goes_token : (c k : ℕ) (z : Option Token) (m : Mode) (ks : List ℕ) → suc (length ks) ≤ i → suc (length ks) ≤ p
-      → 2 * length ts ≤ suc i + suc (length ks) → GoesIf i p (after_token c k z (idle m (k ∷ ks) ts i p))
+      → 2 * length ts ≤ suc i + suc (length ks)
+      → GoesIf i p (suc (length ks)) (after_token c k z (idle m (k ∷ ks) ts i p))
   goes_token c k None m ks o d n = tt
   goes_token c k (Some t) m ks o d n = goes_in (open_kind t) c k t m ks o d n
 
   goes_after : (c : ℕ) (m : Mode) (ks : List ℕ) → length ks ≤ i → length ks ≤ p → 2 * length ts ≤ suc i + length ks
-      → GoesIf i p (after_value c (idle m ks ts i p))
+      → GoesIf i p (length ks) (after_value c (idle m ks ts i p))
   goes_after c m [] o d n = tt
   goes_after c m (k ∷ ks) o d n = goes_token c k (slice_get ts k) m ks o d n
 
   goes_close_token : (k : ℕ) (z : Option Token) (m : Mode) (ks : List ℕ) → suc (length ks) ≤ i → suc (length ks) ≤ p
-      → 2 * length ts ≤ suc i + suc (length ks) → GoesIf i p (close_token k z (idle m (k ∷ ks) ts i p))
+      → 2 * length ts ≤ suc i + suc (length ks)
+      → GoesIf i p (suc (length ks)) (close_token k z (idle m (k ∷ ks) ts i p))
   goes_close_token k None m ks o d n = tt
   goes_close_token k (Some t) m ks o d n = goes_closed m k ks _ o d n
 
   goes_close : (m : Mode) (ks : List ℕ) → length ks ≤ i → length ks ≤ p → 2 * length ts ≤ i + length ks
-      → GoesIf i p (close_empty (idle m ks ts i p))
+      → GoesIf i p (length ks) (close_empty (idle m ks ts i p))
   goes_close m [] o d n = tt
   goes_close m (k ∷ ks) o d n = goes_close_token k (slice_get ts k) m ks o d (omega arith)
 
   goes_read_in : (m : Mode) (c : ℕ) (ks : List ℕ) → length ks ≤ i → length ks ≤ p
-      → 2 * length ts ≤ reach_in m i + length ks → GoesIf i p (read_in m c (idle m ks ts i p))
+      → 2 * length ts ≤ reach_in m i + length ks → GoesIf i p (length ks) (read_in m c (idle m ks ts i p))
   goes_read_in Ready c ks o d n = goes_begin c Ready ks o d n
   goes_read_in FirstItem c ks o d n =
-      goes_cond i p (nat_eq c 93) _ _ (goes_close FirstItem ks o d n) (goes_begin c FirstItem ks o d n)
+      goes_cond i p _ (nat_eq c 93) _ _ (goes_close FirstItem ks o d n) (goes_begin c FirstItem ks o d n)
   goes_read_in After c ks o d n = goes_after c After ks o d n
   goes_read_in FirstName c ks o d n =
-      goes_cond i p (nat_eq c 125) _ _ (goes_close FirstName ks o d n) (goes_name c FirstName ks o d n)
+      goes_cond i p _ (nat_eq c 125) _ _ (goes_close FirstName ks o d n) (goes_name c FirstName ks o d n)
   goes_read_in NextName c ks o d n = goes_name c NextName ks o d n
-  goes_read_in AfterName c ks o d n = goes_cond i p (nat_eq c 58) _ None (goes_to Ready ks o d n) tt
+  goes_read_in AfterName c ks o d n = goes_cond i p _ (nat_eq c 58) _ None (goes_to Ready ks o d n) tt
 
   goes_read : (m : Mode) (c : ℕ) (ks : List ℕ) → length ks ≤ i → length ks ≤ p
-      → 2 * length ts ≤ reach_in m i + length ks → GoesIf i p (read m c (idle m ks ts i p))
+      → 2 * length ts ≤ reach_in m i + length ks → GoesIf i p (length ks) (read m c (idle m ks ts i p))
   goes_read m c ks o d n = let r = reach_more m i in
-      goes_cond i p (is_white_space c) _ _ (goes_to m ks o d (omega arith)) (goes_read_in m c ks o d n)
+      goes_cond i p _ (is_white_space c) _ _ (goes_to m ks o d (omega arith)) (goes_read_in m c ks o d n)
 
 -- one token more, where a scalar or a name ends
 ends_count : (m : Mode) (a i d : ℕ) (ks : List ℕ) (ts : List Token) → EndsAtom m → a < i → 2 * length ts ≤ a + length ks
@@ -170,7 +176,7 @@ ends_count _ a i d ks ts e l n = absurd e
 
 goes_ended : (m : Mode) (a : ℕ) (f : Phase) (r : Option Kind) (c : ℕ) (ks : List ℕ) (ts : List Token) (i p : ℕ)
     → EndsAtom m → a < i → length ks ≤ i → length ks ≤ p → 2 * length ts ≤ a + length ks
-    → GoesIf i p (option_and_then (read m c) (end_atom m a r (state f ks ts i p)))
+    → GoesIf i p (length ks) (option_and_then (read m c) (end_atom m a r (state f ks ts i p)))
 goes_ended m a f None c ks ts i p e l o d n = tt
 goes_ended m a f (Some k) c ks ts i p e l o d n =
     goes_read i p (ts ++ token_at a i (suc (length ts)) ∷ []) m c ks o d
@@ -178,24 +184,26 @@ goes_ended m a f (Some k) c ks ts i p e l o d n =
 
 goes_on : (m : Mode) (a : ℕ) (x : Lex) (z : Option Lex) (c : ℕ) (ks : List ℕ) (ts : List Token) (i p : ℕ) → EndsAtom m
     → a < i → length ks ≤ i → length ks ≤ p → 2 * length ts ≤ a + length ks
-    → GoesIf i p (go_on (λ y. in_atom m a y) z (state (in_atom m a x) ks ts i p)
+    → GoesIf i p (length ks) (go_on (λ y. in_atom m a y) z (state (in_atom m a x) ks ts i p)
     (option_and_then (read m c) (end_atom m a (lex_kind x) (state (in_atom m a x) ks ts i p))))
 goes_on m a x None c ks ts i p e l o d n = goes_ended m a (in_atom m a x) (lex_kind x) c ks ts i p e l o d n
 goes_on m a x (Some y) c ks ts i p e l o d n =
     record {
       place = refl;
       deepest = omega arith;
+      climbs = omega arith;
       lawful = record { open_count = omega arith; deep = d; token_count = n; began = (omega arith, e) };
     }
 
 goes_phase : (f : Phase) (c : ℕ) (ks : List ℕ) (ts : List Token) (i p : ℕ) → IsLawful (state f ks ts i p)
-    → GoesIf i p (step c (state f ks ts i p))
+    → GoesIf i p (length ks) (step c (state f ks ts i p))
 goes_phase (between m) c ks ts i p h = goes_read i p ts m c ks h.open_count h.deep h.token_count
 goes_phase (in_atom m a x) c ks ts i p h =
     goes_on m a x (lex_step x c) c ks ts i p h.began.1 h.began.0 h.open_count h.deep h.token_count
 
-pub goes : {s : State} (u : State) (c : ℕ) → IsLawful s → step c s ≡ Some u → Goes s.place s.deepest u
-goes {s} u c l h = subst (GoesIf s.place s.deepest) h (goes_phase s.phase c s.stack s.tokens s.place s.deepest l)
+pub goes : {s : State} (u : State) (c : ℕ) → IsLawful s → step c s ≡ Some u → Goes s.place s.deepest (length s.stack) u
+goes {s} u c l h =
+    subst (GoesIf s.place s.deepest (length s.stack)) h (goes_phase s.phase c s.stack s.tokens s.place s.deepest l)
 
 pub lawful_reaches : {b : List ℕ} {s : State} → Reaches b start s → IsLawful s
 lawful_reaches here = record { open_count = omega arith; deep = omega arith; token_count = omega arith; began = tt }

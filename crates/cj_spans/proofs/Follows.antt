@@ -9,64 +9,48 @@ is_end e h = subst IsEnd (sym h) e
 
 -- ---- single steps
 
-open_91 : (m : Mode) (ks : List ℕ) (ts : List Token) (i p : ℕ) → BeginsValue m
-    → step 91 (idle m ks ts i p)
-    ≡ Some (idle FirstItem (length ts ∷ ks) (ts ++ token_at i 0 0 ∷ []) (suc i) (max p (suc (length ks))))
-open_91 Ready ks ts i p h = refl
-open_91 FirstItem ks ts i p h = refl
-open_91 _ ks ts i p h = absurd h
-
 pub open_array : (m : Mode) (ks : List ℕ) (ts : List Token) (i p : ℕ) {c : ℕ} → BeginsValue m → c ≡ 91
     → step c (idle m ks ts i p)
     ≡ Some (idle FirstItem (length ts ∷ ks) (ts ++ token_at i 0 0 ∷ []) (suc i) (max p (suc (length ks))))
-open_array m ks ts i p h e = ap (λ x. step x (idle m ks ts i p)) e ∙ open_91 m ks ts i p h
-
-open_123 : (m : Mode) (ks : List ℕ) (ts : List Token) (i p : ℕ) → BeginsValue m
-    → step 123 (idle m ks ts i p)
-    ≡ Some (idle FirstName (length ts ∷ ks) (ts ++ token_at i 0 1 ∷ []) (suc i) (max p (suc (length ks))))
-open_123 Ready ks ts i p h = refl
-open_123 FirstItem ks ts i p h = refl
-open_123 _ ks ts i p h = absurd h
+open_array Ready ks ts i p h e = ap (λ x. step x (idle Ready ks ts i p)) e
+open_array FirstItem ks ts i p h e = ap (λ x. step x (idle FirstItem ks ts i p)) e
+open_array _ ks ts i p h e = absurd h
 
 pub open_object : (m : Mode) (ks : List ℕ) (ts : List Token) (i p : ℕ) {c : ℕ} → BeginsValue m → c ≡ 123
     → step c (idle m ks ts i p)
     ≡ Some (idle FirstName (length ts ∷ ks) (ts ++ token_at i 0 1 ∷ []) (suc i) (max p (suc (length ks))))
-open_object m ks ts i p h e = ap (λ x. step x (idle m ks ts i p)) e ∙ open_123 m ks ts i p h
+open_object Ready ks ts i p h e = ap (λ x. step x (idle Ready ks ts i p)) e
+open_object FirstItem ks ts i p h e = ap (λ x. step x (idle FirstItem ks ts i p)) e
+open_object _ ks ts i p h e = absurd h
 
 module _ (k : ℕ) (ks : List ℕ) (ts : List Token) (j p a : ℕ) {c : ℕ} where
   end_empty_array : c ≡ 93 → slice_get ts k ≡ Some (token_at a 0 0)
       → step c (idle FirstItem (k ∷ ks) ts j p)
       ≡ Some (idle After ks (slice_set ts k (token_at a (suc j) (length ts))) (suc j) p)
-  end_empty_array e h = ap (λ x. step x (idle FirstItem (k ∷ ks) ts j p)) e
-      ∙ ap (λ o. close_token k o (idle FirstItem (k ∷ ks) ts j p)) h
+  end_empty_array e h = rw (e, h)
 
   end_array : c ≡ 93 → slice_get ts k ≡ Some (token_at a 0 0)
       → step c (idle After (k ∷ ks) ts j p)
       ≡ Some (idle After ks (slice_set ts k (token_at a (suc j) (length ts))) (suc j) p)
-  end_array e h = ap (λ x. step x (idle After (k ∷ ks) ts j p)) e
-      ∙ ap (λ o. after_token 93 k o (idle After (k ∷ ks) ts j p)) h
+  end_array e h = rw (e, h)
 
   more_items : c ≡ 44 → slice_get ts k ≡ Some (token_at a 0 0)
       → step c (idle After (k ∷ ks) ts j p) ≡ Some (idle Ready (k ∷ ks) ts (suc j) p)
-  more_items e h = ap (λ x. step x (idle After (k ∷ ks) ts j p)) e
-      ∙ ap (λ o. after_token 44 k o (idle After (k ∷ ks) ts j p)) h
+  more_items e h = rw (e, h)
 
   end_empty_object : c ≡ 125 → slice_get ts k ≡ Some (token_at a 0 1)
       → step c (idle FirstName (k ∷ ks) ts j p)
       ≡ Some (idle After ks (slice_set ts k (token_at a (suc j) (length ts))) (suc j) p)
-  end_empty_object e h = ap (λ x. step x (idle FirstName (k ∷ ks) ts j p)) e
-      ∙ ap (λ o. close_token k o (idle FirstName (k ∷ ks) ts j p)) h
+  end_empty_object e h = rw (e, h)
 
   end_object : c ≡ 125 → slice_get ts k ≡ Some (token_at a 0 1)
       → step c (idle After (k ∷ ks) ts j p)
       ≡ Some (idle After ks (slice_set ts k (token_at a (suc j) (length ts))) (suc j) p)
-  end_object e h = ap (λ x. step x (idle After (k ∷ ks) ts j p)) e
-      ∙ ap (λ o. after_token 125 k o (idle After (k ∷ ks) ts j p)) h
+  end_object e h = rw (e, h)
 
   more_members : c ≡ 44 → slice_get ts k ≡ Some (token_at a 0 1)
       → step c (idle After (k ∷ ks) ts j p) ≡ Some (idle NextName (k ∷ ks) ts (suc j) p)
-  more_members e h = ap (λ x. step x (idle After (k ∷ ks) ts j p)) e
-      ∙ ap (λ o. after_token 44 k o (idle After (k ∷ ks) ts j p)) h
+  more_members e h = rw (e, h)
 
 -- ---- names and values
 

@@ -4,6 +4,7 @@ use Rattle.cj_spans.proofs.Lists.{length-snoc, slice_get-seam, rise}
 use Rattle.cj_spans.proofs.Runs.{Arrives, settled, skip, BeginsName, idle}
 use Rattle.cj_spans.proofs.Runs.{skip_after}
 use Rattle.cj_spans.proofs.Follows.{run_padded, run_led, run_led_members, run_named, open_array, open_object}
+use Rattle.cj_spans.proofs.Spellings.{kind_of_lex}
 use Rattle.cj_spans.proofs.Places.{atom_begun, name_begun, run_begun, run_begun_name, run_name, begun_reading, quote_first}
 use Rattle.cj_spans.proofs.Sound.{Context, root, in_array, in_member, Inv, ready, first_item, after_tree, first_name, next_name, after_name, in_scalar, in_name, no_white}
 
@@ -130,8 +131,8 @@ inv_front {b} (next_name e j k p ks ts us c o l w) =
 inv_front {b} (after_name e j l m k p ks ts us c o ld w0 wd w) =
     front_n _ _ (omega arith)
     (context_front c k 1 (in_object e e j k 0 us (no_white b e) o ld (front_after_name j l m k w0 wd w)))
-inv_front {b} (in_scalar e k p ks ts x c w) = let g = atom_begun w in
-    front_n _ _ (omega arith) (context_front c k 0 (begun e e k g.kind (no_white b e) g.begun))
+inv_front {b} (in_scalar e k p ks ts x c w) =
+    front_n _ _ (omega arith) (context_front c k 0 (begun e e k (kind_of_lex x) (no_white b e) (atom_begun w)))
 inv_front {b} (in_name e j l k p ks ts us x c o ld w0 q w) =
     front_n _ _ (omega arith)
     (context_front c k 1 (in_object e e j k 0 us (no_white b e) o ld (front_name j l k w0 (name_begun w q))))

@@ -1,6 +1,7 @@
 -- What a scan answers to which room was granted, from what the scan in reserved room answers.
 use Rattle.cj_spans.proofs.Common.{◌≡◌, ℕ, List, inl, sym, ap, ◌∙◌, Ok, Err, LineFault, NotUtf8, Syntax, TooDeep, Judgement, spelled, broken, sunk, IsAnswerOf, IsReservedAnswerOf, widened_fault}
-use Rattle.std.specs.Prelude.{Result, IsOk}
+use Rattle.std.specs.Prelude.{Result, IsErrAnd, IsOk}
+use Rattle.std.proofs.lemmas.Result.{err_from_is_err_and}
 use Rattle.cj_spans.specs.declared.fault.ScanFault.{ScanFault}
 
 one_fault : (f g : LineFault) → widened_fault f ≡ widened_fault g → f ≡ g
@@ -27,12 +28,15 @@ pub ok_no_fault : (v : Unit {0}) (f : LineFault) → ◌≡◌ {A = Result (Unit
 ok_no_fault v f h = cc
 
 -- a fault of the line is answered as it is
-module _ {r : Result (Unit {0}) ScanFault} (f : LineFault) (e : r ≡ Err (widened_fault f)) where
+module _ (r : Result (Unit {0}) ScanFault) (f : LineFault) (a : IsErrAnd r (λ g. g ≡ widened_fault f)) where
+  fault_is : r ≡ Err (widened_fault f)
+  fault_is = let p = err_from_is_err_and r a in p.1 ∙ ap Err p.2
+
   pub fault_back : (g : LineFault) → r ≡ Err (widened_fault g) → ◌≡◌ {A = Result (Unit {0}) LineFault} (Err f) (Err g)
-  fault_back g h = ap Err (one_fault f g (err_same _ _ (sym e ∙ h)))
+  fault_back g h = ap Err (one_fault f g (err_same _ _ (sym fault_is ∙ h)))
 
   pub fault_on : (g : LineFault) → ◌≡◌ {A = Result (Unit {0}) LineFault} (Err f) (Err g) → r ≡ Err (widened_fault g)
-  fault_on g h = e ∙ ap (λ k. Err (widened_fault k)) (line_err_same f g h)
+  fault_on g h = fault_is ∙ ap (λ k. Err (widened_fault k)) (line_err_same f g h)
 
   pub fault_judged : {b : List ℕ} {d : ℕ} (j : Judgement b d) → IsReservedAnswerOf j (Err f) → IsAnswerOf j r
   fault_judged (spelled t j n) h = absurd (no_ok f h)

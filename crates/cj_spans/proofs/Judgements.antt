@@ -7,89 +7,6 @@ use Rattle.cj_spans.proofs.Runs.{settled}
 use Rattle.cj_spans.proofs.Sound.{inv_reaches}
 use Rattle.cj_spans.proofs.Verdicts.{spells, nest_of, sticks_syntax, sticks_nowhere, sinks_deep, json_only, one_deep, one_syntax, json_no_syntax, json_nowhere}
 
--- ---- a step opens one container at most
-
-abbrev Climbs : ℕ → Option State → Type 0
-Climbs n None = Unit {0}
-Climbs n (Some u) = length u.stack ≤ suc n
-
-climbs_cond : (n : ℕ) (v : Bool) (x y : Option State) → Climbs n x → Climbs n y → Climbs n (cond v x y)
-climbs_cond n true x y g h = g
-climbs_cond n false x y g h = h
-
-drop_one : (ks : List ℕ) → length (drop 1 ks) ≤ suc (length ks)
-drop_one [] = omega arith
-drop_one (k ∷ ks) = omega arith
-
-module _ (s : State) where
-  climbs_lex : (o : Option Lex) → Climbs (length s.stack) (option_map (λ x. moved (in_atom After s.place x) s) o)
-  climbs_lex None = tt
-  climbs_lex (Some x) = omega arith
-
-  climbs_begin : (c : ℕ) → Climbs (length s.stack) (begin_value c s)
-  climbs_begin c =
-      climbs_cond _ (nat_eq c 91) _ _ (omega arith)
-      (climbs_cond _ (nat_eq c 123) _ _ (omega arith) (climbs_lex (lex_start c)))
-
-  climbs_name : (c : ℕ) → Climbs (length s.stack) (begin_name c s)
-  climbs_name c = climbs_cond _ (nat_eq c 34) _ None (omega arith) tt
-
-  climbs_by : (c d k : ℕ) (t : Token) → Climbs (length s.stack) (close_by c d k t s)
-  climbs_by c d k t = climbs_cond _ (nat_eq c d) _ None (drop_one s.stack) tt
-
-  climbs_in : (kd : Kind) (c k : ℕ) (t : Token) → Climbs (length s.stack) (after_in kd c k t s)
-  climbs_in Null c k t = tt
-  climbs_in Truth c k t = tt
-  climbs_in Number c k t = tt
-  climbs_in Text c k t = tt
-  climbs_in Array c k t = climbs_cond _ (nat_eq c 44) _ _ (omega arith) (climbs_by c 93 k t)
-  climbs_in Object c k t = climbs_cond _ (nat_eq c 44) _ _ (omega arith) (climbs_by c 125 k t)
-
-  climbs_token : (c k : ℕ) (z : Option Token) → Climbs (length s.stack) (after_token c k z s)
-  climbs_token c k None = tt
-  climbs_token c k (Some t) = climbs_in (open_kind t) c k t
-
-  climbs_top : (c : ℕ) (z : Option ℕ) → Climbs (length s.stack) (after_top c z s)
-  climbs_top c None = tt
-  climbs_top c (Some k) = climbs_token c k (slice_get s.tokens k)
-
-  climbs_close_token : (k : ℕ) (z : Option Token) → Climbs (length s.stack) (close_token k z s)
-  climbs_close_token k None = tt
-  climbs_close_token k (Some t) = drop_one s.stack
-
-  climbs_close_top : (z : Option ℕ) → Climbs (length s.stack) (close_top z s)
-  climbs_close_top None = tt
-  climbs_close_top (Some k) = climbs_close_token k (slice_get s.tokens k)
-
-  climbs_read_in : (m : Mode) (c : ℕ) → Climbs (length s.stack) (read_in m c s)
-  climbs_read_in Ready c = climbs_begin c
-  climbs_read_in FirstItem c = climbs_cond _ (nat_eq c 93) _ _ (climbs_close_top (slice_get s.stack 0)) (climbs_begin c)
-  climbs_read_in After c = climbs_top c (slice_get s.stack 0)
-  climbs_read_in FirstName c = climbs_cond _ (nat_eq c 125) _ _ (climbs_close_top (slice_get s.stack 0)) (climbs_name c)
-  climbs_read_in NextName c = climbs_name c
-  climbs_read_in AfterName c = climbs_cond _ (nat_eq c 58) _ None (omega arith) tt
-
-  climbs_read : (m : Mode) (c : ℕ) → Climbs (length s.stack) (read m c s)
-  climbs_read m c = climbs_cond _ (is_white_space c) _ _ (omega arith) (climbs_read_in m c)
-
-climbs_ended : (m : Mode) (i c : ℕ) (r : Option Kind) (s : State)
-    → Climbs (length s.stack) (option_and_then (read m c) (end_atom m i r s))
-climbs_ended m i c None s = tt
-climbs_ended m i c (Some k) s = climbs_read _ m c
-
-climbs_on : (m : Mode) (i c : ℕ) (x : Lex) (z : Option Lex) (s : State)
-    → Climbs (length s.stack)
-    (go_on (λ y. in_atom m i y) z s (option_and_then (read m c) (end_atom m i (lex_kind x) s)))
-climbs_on m i c x None s = climbs_ended m i c (lex_kind x) s
-climbs_on m i c x (Some y) s = omega arith
-
-climbs_phase : (f : Phase) (c : ℕ) (s : State) → Climbs (length s.stack) (step_by f c s)
-climbs_phase (between m) c s = climbs_read s m c
-climbs_phase (in_atom m i x) c s = climbs_on m i c x (lex_step x c) s
-
-pub climbs : (c : ℕ) (s u : State) → step c s ≡ Some u → length u.stack ≤ suc (length s.stack)
-climbs c s u h = subst (Climbs (length s.stack)) h (climbs_phase s.phase c s)
-
 -- ---- the machine over a whole line
 
 module _ (b : List ℕ) (d : ℕ) where
@@ -165,8 +82,8 @@ module _ (b : List ℕ) (d : ℕ) where
         → Judgement b d
     sinks u k lt deep =
         let lawful = lawful_reaches r in
-        let g = (goes u (byte b s.place) lawful k).deepest in
-        let c = climbs (byte b s.place) s u k in
+        let g = goes u (byte b s.place) lawful k in
+        let e = g.deepest in let c = g.climbs in
         let o = lawful.deep in
         let count : length u.stack ≡ suc d = omega arith in
         sunk s.place (sinks_deep {b = b} {d = d} {i = s.place} (record {

@@ -1,6 +1,6 @@
 -- Calls that leave the stack: where the pass stands behind them, in whatever container is innermost.
 use Rattle.cj_spans.proofs.Common.{◌≡◌, ℕ, ◌+◌, ◌<◌, List, [], ◌∷◌, ◌++◌, length, max, zero, suc, ◌≤◌, refl, subst, sym, ap, ◌∙◌, inl, inr, true, false, arith, Some, Ok, Err, slice_get, slice_set, BoundedList, Becomes, IsWithin, TooDeep, Kind, Array, Token, Mode, Ready, FirstItem, After, Open, Next, byte, token_at, state, between, start, with_opened, read, after_in, after_token, ComesTo, ReadsByte, Grown, BeginsValue, InArray, IsInnermost, IsNumberUpTo, EndsItem, FitsToken, Standing, Stands, StandsIn, LeadsIn, GoesOn, KeepsTokens, ReadsNumbers, slice_get_within}
-use Rattle.cj_spans.proofs.Lists.{slice_get-append}
+use Rattle.cj_spans.proofs.Lists.{slice_get-append, get_before}
 use Rattle.std.specs.Prelude.{IsTrue}
 use Rattle.cj_spans.specs.declared.arrays.Numbers.{Numbers}
 use Rattle.cj_spans.proofs.Nested.{stands_on, stands_small, stands_room, stands_within, standing_number, standing_comma, standing_opened, standing_closed, standing_refused, opened_in, opens_array}
@@ -213,13 +213,6 @@ standing_stack {b} {ts} ks ks1 k {m} {i} e s = record {
   stack_room = λ r. e.room (s.stack_room r);
   stack_within = e.within;
 }
-
--- a token before the one that is set
-get_before : (ts : List Token) (k j : ℕ) (u : Token) → j < k → slice_get (slice_set ts k u) j ≡ slice_get ts j
-get_before [] k j u l = refl
-get_before (z ∷ ts) zero j u l = absurd (omega arith)
-get_before (z ∷ ts) (suc k) zero u l = refl
-get_before (z ∷ ts) (suc k) (suc j) u l = get_before ts k j u (omega arith)
 
 -- an array stays the innermost, when tokens come behind it and the first of these is set
 pub outer_stays : (ks : List ℕ) (ts us : List Token) {vs : List Token} (k : ℕ) (t : Token) → InArray ks ts

@@ -1,6 +1,7 @@
 -- Letters beyond ASCII: what the marks of a vector say of its bytes, and UTF-8 past ASCII and past a letter.
 use Rattle.cj_spans.proofs.Common.{◌≡◌, ℕ, ◌+◌, ◌-◌, ◌%◌, ◌^◌, ◌<◌, ◌≤◌, List, [], ◌∷◌, length, map, take, drop, inr, Bool, false, cond, not, ltb, replicate, sym, ap, subst, arith, ◌∙◌, w8, take-add, IsUtf8, nat_tests, length-map, drop_more, prefix_len, count_trailing_zeros, IsAscii, byte}
-use Rattle.std.proofs.lemmas.Simd.{get_or-chunk, tops_compared, zip2_splat_left, mask_l-mod, length-chunk, none_from_empty_mask, trailing_mask_l, run_in_chunk_le, run_in_chunk_fails}
+use Rattle.std.proofs.lemmas.Simd.{get_or-chunk, length-chunk}
+use Rattle.cj_spans.proofs.Vectors.{marks_over, none_marked, marks_within, not_marked}
 use Rattle.std.proofs.lemmas.Str.{IsUtf8-append, IsUtf8-from_ascii}
 use Rattle.std.proofs.lemmas.Str.Ascii.{IsAscii-from_reads}
 use Rattle.std.specs.Simd.Lanes.{zip2, mask_l, top, chunk}
@@ -21,39 +22,21 @@ letter_marks m b i =
 
 letter_marks_are : (m : ℕ) (b : List ℕ) (i : ℕ) → m ≤ 64 → i + m ≤ length b
     → letter_marks m b i ≡ mask_l (map beyond (chunk i m b))
-letter_marks_are m b i few room =
-    let v = chunk i m b in
-    let long : length v ≡ m = length-chunk i m b room in
-    ap (λ ms. mask_l ms % 2 ^ 64) (tops_compared w8 ltb (replicate m 127) v ∙ zip2_splat_left ltb 127 m v long)
-    ∙ mask_l-mod (map beyond v) 64 (omega (arith, length-map v beyond))
+letter_marks_are m b i few room = marks_over 127 (chunk i m b) (length-chunk i m b room) few
 
 pub all_ascii : (m : ℕ) (b : List ℕ) (i : ℕ) → m ≤ 64 → i + m ≤ length b → letter_marks m b i ≡ 0 → (k : ℕ)
     → i ≤ k → k < i + m → byte b k < 128
 all_ascii m b i few room e k l h =
-    ascii_from (byte b k)
-    (none_from_empty_mask beyond b i m 0 room (sym (letter_marks_are m b i few room) ∙ e) k l h)
-
-letters_counted : (m : ℕ) (b : List ℕ) (i : ℕ) → m ≤ 64 → i + m ≤ length b → (letter_marks m b i ≡ 0 → ⊥)
-    → count_trailing_zeros 64 (letter_marks m b i) ≡ prefix_len (λ x. not (beyond x)) (chunk i m b)
-letters_counted m b i few room n =
-    let e = letter_marks_are m b i few room in
-    let long = length-chunk i m b room in
-    let some : 0 < letter_marks m b i = omega arith in
-    ap (count_trailing_zeros 64) e
-    ∙ trailing_mask_l beyond 64 (chunk i m b) (omega arith) (subst (λ x. 0 < x) e some)
+    ascii_from (byte b k) (none_marked beyond b i m few room (letter_marks_are m b i few room) e k l h)
 
 pub letter_within : (m : ℕ) (b : List ℕ) (i : ℕ) → m ≤ 64 → i + m ≤ length b → (letter_marks m b i ≡ 0 → ⊥)
     → count_trailing_zeros 64 (letter_marks m b i) ≤ m
-letter_within m b i few room n =
-    run_in_chunk_le beyond b i m (count_trailing_zeros 64 (letter_marks m b i)) 0 room
-    (letters_counted m b i few room n)
+letter_within m b i few room n = marks_within beyond b i m few room (letter_marks_are m b i few room) n
 
 pub ascii_before : (m : ℕ) (b : List ℕ) (i : ℕ) → m ≤ 64 → i + m ≤ length b → (letter_marks m b i ≡ 0 → ⊥)
     → (k : ℕ) → i ≤ k → k < i + count_trailing_zeros 64 (letter_marks m b i) → byte b k < 128
 ascii_before m b i few room n k l h =
-    ascii_from (byte b k)
-    (run_in_chunk_fails beyond b i m (count_trailing_zeros 64 (letter_marks m b i)) 0 room
-    (letters_counted m b i few room n) k l h)
+    ascii_from (byte b k) (not_marked beyond b i m few room (letter_marks_are m b i few room) n k l h)
 
 -- ---- UTF-8
 

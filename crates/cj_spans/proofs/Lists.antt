@@ -1,5 +1,5 @@
 -- Lists of tokens, and the nest of a tree as the most containers that are open.
-use Rattle.cj_spans.proofs.Common.{◌≡◌, ℕ, zero, suc, ◌+◌, ◌≤◌, List, [], ◌∷◌, ◌++◌, length, max, Some, refl, sym, ap, arith, ◌∙◌, append_assoc, slice_get, slice_set, length-append, append-nil, set-append_seam, Token, Atom, Tree, scalar, array, object, Items, no_items, item, Members, no_members, member, add_item, add_member, size, items_size, members_size, nest, items_nest, members_nest, span_at, preorder, items_preorder, members_preorder, flatten, flatten_items, flatten_members, token_at, spans_of}
+use Rattle.cj_spans.proofs.Common.{◌≡◌, ℕ, zero, suc, ◌+◌, ◌<◌, ◌≤◌, List, [], ◌∷◌, ◌++◌, length, max, Some, refl, sym, ap, arith, ◌∙◌, append_assoc, slice_get, slice_set, length-append, append-nil, set-append_seam, Token, Atom, Tree, scalar, array, object, Items, no_items, item, Members, no_members, member, add_item, add_member, size, items_size, members_size, nest, items_nest, members_nest, span_at, preorder, items_preorder, members_preorder, flatten, flatten_items, flatten_members, token_at, spans_of}
 
 -- ---- one more part at the end
 
@@ -100,6 +100,13 @@ slice_get-append (z ∷ xs) ys (suc i) x h = slice_get-append xs ys i x h
 pub slice_get-seam : {A : Type 0} (xs ys : List A) (x : A) → slice_get (xs ++ x ∷ ys) (length xs) ≡ Some x
 slice_get-seam [] ys x = refl
 slice_get-seam (z ∷ xs) ys x = slice_get-seam xs ys x
+
+-- a token before the one that is set
+pub get_before : (ts : List Token) (k j : ℕ) (u : Token) → j < k → slice_get (slice_set ts k u) j ≡ slice_get ts j
+get_before [] k j u l = refl
+get_before (z ∷ ts) zero j u l = absurd (omega arith)
+get_before (z ∷ ts) (suc k) zero u l = refl
+get_before (z ∷ ts) (suc k) (suc j) u l = get_before ts k j u (omega arith)
 
 -- ---- the tokens of an open container, whose first part is at the index k
 

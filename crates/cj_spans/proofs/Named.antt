@@ -39,7 +39,7 @@ module _ (b : List ℕ) (ts : BoundedList Token) where
       → Becomes ts (ts.elements ++ token_at i k (length ts.elements + 1) ∷ []) us → LeadsIn Object b ts m i us n k
   leads_string us m n {k} v q e = λ t0 s0 ks a s. (
     innermost_more _ a e.elements,
-    standing_with {tokens1 = us} n k s (grown_more ts us _ s.kept.within e) q.within
+    standing_with s {tokens1 = us} n k (grown_more ts us _ s.kept.within e) q.within
         (λ p. string_read start m n ks.elements ts.elements p q v e.elements),
   )
 
@@ -47,7 +47,7 @@ module _ (b : List ℕ) (ts : BoundedList Token) where
   leads_colon k h = λ t0 s0 ks a s.
       let l = h.0 in (
         a,
-        standing_with Ready (k + 1) s (grown_same ts s.kept.within) (omega arith)
+        standing_with s Ready (k + 1) (grown_same ts s.kept.within) (omega arith)
             (λ p. colon_read b start ks.elements ts.elements k p h.0 h.1),
       )
 
@@ -55,7 +55,7 @@ module _ (b : List ℕ) (ts : BoundedList Token) where
   leads_comma k h = λ t0 s0 ks a s.
       let l = h.0 in (
         a,
-        standing_with NextName (k + 1) s (grown_same ts s.kept.within) (omega arith)
+        standing_with s NextName (k + 1) (grown_same ts s.kept.within) (omega arith)
             (λ p. comma_read b start NextName k p (λ _ _ _. refl) a h.0 h.1),
       )
 

@@ -40,8 +40,8 @@ module _ {b : List ℕ} {t0 : BoundedList Token} {s0 : BoundedList ℕ} where
       ≡ Some (state (phase_after m i v) ks1.elements ts1.elements (suc i)
       (deepest_after v p (length ks1.elements)))) → Standing b t0 s0 ts1 ks1 n (i + 1)
   standing_moved {ts1} {ks1} {m} n {i} v s l g k e h =
-      let r = standing_step v s l g k h in
-      stepped_on (record { mode = n; place = i + 1 }) r (grown_same ts1 r.kept.within)
+      let r = standing_step s v l g k h in
+      stepped_on r (record { mode = n; place = i + 1 }) (grown_same ts1 r.kept.within)
       (λ p. (
         settles_at b m n i (i + 1) p {v = v} {w = v} ks1.elements ts1.elements refl e refl,
         omega arith,
@@ -61,7 +61,7 @@ module _ {b : List ℕ} {t0 : BoundedList Token} {s0 : BoundedList ℕ} where
   pub standing_comma : {ts : BoundedList Token} {ks : BoundedList ℕ} (i : ℕ) → Standing b t0 s0 ts ks After i
       → i < length b → byte b i ≡ 44 → InArray ks.elements ts.elements → Standing b t0 s0 ts ks Ready (i + 1)
   standing_comma {ts} i s l c a =
-      standing_with Ready (i + 1) s (grown_same ts s.kept.within) (omega arith)
+      standing_with s Ready (i + 1) (grown_same ts s.kept.within) (omega arith)
       (λ p. comma_read b start Ready i p (λ _ _ _. refl) a l c)
 
   -- behind a number
@@ -70,7 +70,7 @@ module _ {b : List ℕ} {t0 : BoundedList Token} {s0 : BoundedList ℕ} where
       → Becomes ts (ts.elements ++ token_at i k (length ts.elements + 1) ∷ []) ts1 → Standing b t0 s0 ts1 ks After k
   standing_number {ts} ts1 {ks} {m} {k} s v n w e =
       let inside = n.within in
-      standing_with After k s (grown_more ts ts1 _ s.kept.within e) (omega arith)
+      standing_with s After k (grown_more ts ts1 _ s.kept.within e) (omega arith)
       (λ p. number_read start m ks.elements ts.elements p n w v e.elements)
 
 -- the bracket c opens a container of the kind d where a value may begin, and the mode n comes in it
@@ -127,7 +127,7 @@ module _ {d : Kind} {n : Mode} {c : ℕ} (h : Opens d n c) where
       → {t0 : BoundedList Token} {s0 : BoundedList ℕ} → Standing b t0 s0 ts ks m i
       → GoesOn b t0 s0 (Err f) ts1 ks1
   standing_refused {b} {m} {i} {f} {ts} {ts1} {ks} {ks1} r w l e s = (
-    standing_fault (Unit {0}) ts1 f s l (λ p. subst (λ o. Answers o m i p ks.limit (Err f) ks1.elements ts1.elements)
+    standing_fault s (Unit {0}) ts1 f l (λ p. subst (λ o. Answers o m i p ks.limit (Err f) ks1.elements ts1.elements)
         (sym (bracket_at h b m i (idle m ks.elements ts.elements i p) w e)) (r.answer m p)) r.err.1,
     standing_law s r.tokens r.stack r.err.0 r.err.1,
   )

@@ -3,7 +3,7 @@ use Rattle.cj_spans.proofs.Common.{◌≡◌, ◌⊎◌, inl, inr, ℕ, ◌≤�
 use Rattle.cj_spans.proofs.Sound.{inv_reaches, no_white}
 use Rattle.cj_spans.proofs.Facts.{goes, lawful_reaches}
 use Rattle.cj_spans.proofs.Fronts.{inv_front}
-use Rattle.cj_spans.proofs.Verdicts.{Cleared, not_deeper}
+use Rattle.cj_spans.proofs.Verdicts.{Ran, ran_sinks, ran_sticks, not_deeper}
 
 -- behind some of the bytes that the machine has read, as many containers are open as it tells
 record DeepestFront (b : List ℕ) (s : State) : Type 0 where
@@ -53,18 +53,19 @@ deepest_at r e =
     }
 
 -- the clause of the scan, with the peak that the stack had before it was emptied
-module _ (X : Type 0) (b : List ℕ) (old empty new : BoundedList ℕ) (tokens : BoundedList Token)
-    (c : Cleared old empty) where
-  pub answers_peak : (r : Result X LineFault) (i : ℕ) → RunAnswers b empty r tokens new
-      → (r ≡ Err (Syntax i)) ⊎ (r ≡ Err (TooDeep i)) → HasPeakAt b i old new
-  answers_peak r i a (inl e) =
-      let h = subst (λ z. RunAnswers b empty z tokens new) e a in
-      let s = h.0.sticks in let p = h.1 in let q = c.peak in
-      record { deepest = s.last.deepest; counted = deepest_at s.reached s.at; peak = omega arith }
-  answers_peak r i a (inr e) =
-      let h = subst (λ z. RunAnswers b empty z tokens new) e a in
-      let s = h.0 in let p = h.1 in let q = c.peak in
-      record { deepest = s.last.deepest; counted = deepest_at s.reached s.at; peak = omega arith }
+pub ran_peak : {b : List ℕ} {old new : BoundedList Token} {old_stack new_stack : BoundedList ℕ}
+    {r : Result (Unit {0}) LineFault} (h : Ran b old new old_stack new_stack r) (i : ℕ)
+    → (r ≡ Err (Syntax i)) ⊎ (r ≡ Err (TooDeep i)) → HasPeakAt b i old_stack new_stack
+ran_peak h i (inl e) =
+    let s = ran_sticks h i e in let p = s.1 in let q = h.cleared_stack.peak in
+    record {
+      deepest = s.0.sticks.last.deepest;
+      counted = deepest_at s.0.sticks.reached s.0.sticks.at;
+      peak = omega arith;
+    }
+ran_peak h i (inr e) =
+    let s = ran_sinks h i e in let p = s.1 in let q = h.cleared_stack.peak in
+    record { deepest = s.0.last.deepest; counted = deepest_at s.0.reached s.0.at; peak = omega arith }
 
 -- the same from a peak that is no other
 pub peak_from : {b : List ℕ} {i : ℕ} (old empty : BoundedList ℕ) {new : BoundedList ℕ} → empty.peak ≡ old.peak

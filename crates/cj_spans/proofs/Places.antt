@@ -1,7 +1,7 @@
 -- Scalars and names by their places.
 use Rattle.cj_spans.proofs.Common.{◌≡◌, ℕ, suc, ◌+◌, ◌-◌, ◌<◌, ◌≤◌, List, [], ◌∷◌, ◌++◌, length, take, drop, get_or, slice_range, Bool, true, false, cond, nat_eq, Option, Some, None, refl, sym, ap, subst, arith, ◌∙◌, inl, inr, option_and_then, option_map, common_steps, take-suc, get_or-drop, length-drop, length-take, get_or-take, append-nil, Kind, Text, Token, Lex, AfterN, AfterNu, AfterNul, NullDone, AfterT, AfterTr, AfterTru, AfterF, AfterFa, AfterFal, AfterFals, TruthDone, Minus, Zero, Whole, Point, Fraction, Mark, MarkSign, Exponent, InString, Escape, Hex4, Hex3, Hex2, Hex1, StringDone, Mode, Ready, FirstItem, After, FirstName, NextName, AfterName, is_white_space, IsScalar, byte, IsAtom, Begun, token_at, State, state, in_atom, step, begin_value, lex_start, lex_step, lex_kind, Continues, still, further, Reaches, on, end_atom, BeginsValue}
 use Rattle.std.proofs.lemmas.Bool.{eqb-true, cases_lt}
-use Rattle.cj_spans.proofs.Spellings.{none_some, some_same, lex_run, reading, reading_sound, reading_whole, reading-more, reading-append, reading-prefix, can_end, IsOfText, TextOption, of_text_step, text_kind, text_end}
+use Rattle.cj_spans.proofs.Spellings.{none_some, some_same, lex_run, reading, reading_sound, reading_whole, reading-more, reading-append, reading-prefix, stepped, kind_of_lex, kind_done, run_kind, can_end}
 use Rattle.cj_spans.proofs.Atoms.{continues_reaches}
 use Rattle.cj_spans.proofs.Runs.{IsEnd, space, tab, feed, «return», comma, colon, bracket, brace, white_end, Arrives, BeginsName, idle}
 
@@ -82,33 +82,19 @@ pub atom_sound : {b : List ℕ} {i k : ℕ} {x : Lex} → InAtom b i k x → (kd
 atom_sound {b} {i} {k} {x} r kd h =
     record { order = r.order; within = r.within; spelled = reading_sound (slice_range b i k) x kd r.run h }
 
--- some scalar begins so
-pub record SomeBegun (b : List ℕ) (i k : ℕ) : Type 0 where
-  pub kind : Kind
-  pub begun : Begun b kind i k
-
-pub atom_begun : {b : List ℕ} {i k : ℕ} {x : Lex} → InAtom b i k x → SomeBegun b i k
+-- a scalar of the reading's kind begins so
+pub atom_begun : {b : List ℕ} {i k : ℕ} {x : Lex} → InAtom b i k x → Begun b (kind_of_lex x) i k
 atom_begun {b} {i} {k} {x} r =
     let c = can_end x in
     record {
-      kind = c.kind;
-      begun =
-          record {
-            order = r.order;
-            within = r.within;
-            rest = c.rest;
-            spelled = reading_sound (slice_range b i k ++ c.rest) c.last c.kind
-                (reading-append (slice_range b i k) c.rest x r.run ∙ c.run) c.done;
-          };
+      order = r.order;
+      within = r.within;
+      rest = c.rest;
+      spelled = reading_sound (slice_range b i k ++ c.rest) c.last (kind_of_lex x)
+          (reading-append (slice_range b i k) c.rest x r.run ∙ c.run) c.done;
     }
 
 -- ---- names
-
--- a reading that began with a quote is one of a string
-of_text : (s : List ℕ) (o : Option Lex) (y : Lex) → TextOption o → option_and_then (lex_run s) o ≡ Some y → IsOfText y
-of_text s None y t e = none_some y e
-of_text [] (Some x) y t e = subst IsOfText (some_same x y e) t
-of_text (c ∷ s) (Some x) y t e = of_text s (lex_step x c) y (of_text_step x c t) e
 
 pub slice_has : (b : List ℕ) (i j n : ℕ) → n < length (slice_range b i j)
     → byte b (i + n) ≡ get_or (slice_range b i j) n 0
@@ -123,28 +109,21 @@ pub first_byte : (b : List ℕ) (i k : ℕ) → i < k → k ≤ length b → byt
 first_byte b i k o l = let e = slice-length b i k (omega arith) l in
     ap (byte b) (plus_zero i) ∙ slice_has b i k 0 (omega arith)
 
-pub in_text : {b : List ℕ} {i k : ℕ} {x : Lex} → InAtom b i k x → byte b i ≡ 34 → IsOfText x
+-- a reading that began with a quote is one of a string
+pub in_text : {b : List ℕ} {i k : ℕ} {x : Lex} → InAtom b i k x → byte b i ≡ 34 → kind_of_lex x ≡ Text
 in_text {b} {i} {k} {x} r q = by_first (slice_range b i k) (sym (first_byte b i k r.order r.within) ∙ q) r.run
   where
-    by_first : (s : List ℕ) → get_or s 0 0 ≡ 34 → reading s ≡ Some x → IsOfText x
+    by_first : (s : List ℕ) → get_or s 0 0 ≡ 34 → reading s ≡ Some x → kind_of_lex x ≡ Text
     by_first [] e h = none_some x h
-    by_first (c ∷ s) e h =
-        of_text s (Some InString) x tt (sym (ap (λ d. option_and_then (lex_run s) (lex_start d)) e) ∙ h)
+    by_first (c ∷ s) e h = let w = stepped (lex_run s) (lex_start c) x h in
+        run_kind s w.0 x w.2 ∙ ap kind_of_lex (sym (some_same InString w.0 (sym (ap lex_start e) ∙ w.1)))
 
 pub name_kind : {b : List ℕ} {i k : ℕ} {x : Lex} → InAtom b i k x → byte b i ≡ 34 → (kd : Kind) → lex_kind x ≡ Some kd
     → kd ≡ Text
-name_kind {x = x} r q kd h = text_kind x kd (in_text r q) h
+name_kind {x = x} r q kd h = sym (kind_done x kd h) ∙ in_text r q
 
 pub name_begun : {b : List ℕ} {i k : ℕ} {x : Lex} → InAtom b i k x → byte b i ≡ 34 → Begun b Text i k
-name_begun {b} {i} {k} {x} r q =
-    let c = text_end x (in_text r q) in
-    record {
-      order = r.order;
-      within = r.within;
-      rest = c.rest;
-      spelled = reading_sound (slice_range b i k ++ c.rest) StringDone Text
-          (reading-append (slice_range b i k) c.rest x r.run ∙ c.run) refl;
-    }
+name_begun {b} {i} {k} r q = subst (λ j. Begun b j i k) (in_text r q) (atom_begun r)
 
 -- ---- the machine over a scalar
 
@@ -168,7 +147,7 @@ begin_atom c x m ks ts i p h =
     cond_not (nat_eq c 91) _ _ (starts_not c 91 x h refl) ∙ cond_not (nat_eq c 123) _ _ (starts_not c 123 x h refl)
     ∙ ap (option_map (λ y. state (in_atom After i y) ks ts (suc i) p)) h
 
-step_atom : (c : ℕ) (x : Lex) (m : Mode) (ks : List ℕ) (ts : List Token) (i p : ℕ) → BeginsValue m
+pub step_atom : (c : ℕ) (x : Lex) (m : Mode) (ks : List ℕ) (ts : List Token) (i p : ℕ) → BeginsValue m
     → lex_start c ≡ Some x → step c (idle m ks ts i p) ≡ Some (state (in_atom After i x) ks ts (suc i) p)
 step_atom c x Ready ks ts i p b h = cond_not (is_white_space c) _ _ (starts_not_white c x h)
     ∙ begin_atom c x Ready ks ts i p h
@@ -176,20 +155,11 @@ step_atom c x FirstItem ks ts i p b h = cond_not (is_white_space c) _ _ (starts_
     ∙ cond_not (nat_eq c 93) _ _ (starts_not c 93 x h refl) ∙ begin_atom c x FirstItem ks ts i p h
 step_atom c x _ ks ts i p b h = absurd b
 
-pub name_34 : (m : Mode) (ks : List ℕ) (ts : List Token) (i p : ℕ) → BeginsName m
-    → step 34 (idle m ks ts i p) ≡ Some (state (in_atom AfterName i InString) ks ts (suc i) p)
-name_34 FirstName ks ts i p g = refl
-name_34 NextName ks ts i p g = refl
-name_34 _ ks ts i p g = absurd g
-
-step_name : {c : ℕ} (m : Mode) (ks : List ℕ) (ts : List Token) (i p : ℕ) → BeginsName m → c ≡ 34
+pub step_name : {c : ℕ} (m : Mode) (ks : List ℕ) (ts : List Token) (i p : ℕ) → BeginsName m → c ≡ 34
     → step c (idle m ks ts i p) ≡ Some (state (in_atom AfterName i InString) ks ts (suc i) p)
-step_name m ks ts i p g q = ap (λ d. step d (idle m ks ts i p)) q ∙ name_34 m ks ts i p g
-
-stepped : (f : Lex → Option Lex) (o : Option Lex) (y : Lex) → option_and_then f o ≡ Some y → (z : Lex) × (o ≡ Some z)
-    × (f z ≡ Some y)
-stepped f None y h = none_some y h
-stepped f (Some z) y h = (z, refl, h)
+step_name FirstName ks ts i p g q = ap (λ d. step d (idle FirstName ks ts i p)) q
+step_name NextName ks ts i p g q = ap (λ d. step d (idle NextName ks ts i p)) q
+step_name _ ks ts i p g q = absurd g
 
 shift : (k n : ℕ) → suc k + n ≡ k + suc n
 shift k n = omega arith

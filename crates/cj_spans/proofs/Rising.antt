@@ -43,26 +43,26 @@ shown_rise line tokens k n w =
     (All-take (λ (s : Span). s.start < s.stop) (n - k) (drop k (spans_of tokens))
     (All-drop (λ (s : Span). s.start < s.stop) k (spans_of tokens) (spans_filled (length line) tokens w)))
 
-names_among : (n : ℕ) (ts : List Tree) → All (λ u. n < start_of u) ts
-    → All (λ (m : Tree × Tree). n < start_of m.0) (pairs_of ts)
-names_among n (t ∷ u ∷ ts) a =
-    All-cons (λ (m : Tree × Tree). n < start_of m.0) (t, u) (pairs_of ts) (All-head (λ u. n < start_of u) t (u ∷ ts) a)
-    (names_among n ts (All-tail (λ u. n < start_of u) u ts (All-tail (λ u. n < start_of u) t (u ∷ ts) a)))
-names_among n _ a = All-nil (λ (m : Tree × Tree). n < start_of m.0)
+-- what holds of all trees holds of each pair of them
+pairs_all : (P : Tree → Type 0) (Q : Tree × Tree → Type 0) → ((t u : Tree) → P t → P u → Q (t, u)) → (ts : List Tree)
+    → All P ts → All Q (pairs_of ts)
+pairs_all P Q f (t ∷ u ∷ ts) a =
+    let later = All-tail P t (u ∷ ts) a in
+    All-cons Q (t, u) (pairs_of ts) (f t u (All-head P t (u ∷ ts) a) (All-head P u ts later))
+    (pairs_all P Q f ts (All-tail P u ts later))
+pairs_all P Q f _ a = All-nil Q
 
 pub pairs_rise : (ts : List Tree) → Rise ts → AreNamesInOrder (pairs_of ts)
-pairs_rise (t ∷ u ∷ ts) r =
-    (names_among (start_of t) ts (All-tail (λ v. start_of t < start_of v) u ts r.0), pairs_rise ts r.1.1)
+pairs_rise (t ∷ u ∷ ts) r = (
+  pairs_all (λ v. start_of t < start_of v) (λ m. start_of t < start_of m.0) (λ v w h g. h) ts
+      (All-tail (λ v. start_of t < start_of v) u ts r.0),
+  pairs_rise ts r.1.1,
+)
 pairs_rise _ r = tt
 
-values_among : (n : ℕ) (ts : List Tree) → All (λ u. n < start_of u) ts
-    → All (λ (m : Tree × Tree). n < start_of m.1) (pairs_of ts)
-values_among n (t ∷ u ∷ ts) a =
-    let later = All-tail (λ u. n < start_of u) t (u ∷ ts) a in
-    All-cons (λ (m : Tree × Tree). n < start_of m.1) (t, u) (pairs_of ts) (All-head (λ u. n < start_of u) u ts later)
-    (values_among n ts (All-tail (λ u. n < start_of u) u ts later))
-values_among n _ a = All-nil (λ (m : Tree × Tree). n < start_of m.1)
-
 pub values_rise : (ts : List Tree) → Rise ts → AreValuesInOrder (pairs_of ts)
-values_rise (t ∷ u ∷ ts) r = (values_among (start_of u) ts r.1.0, values_rise ts r.1.1)
+values_rise (t ∷ u ∷ ts) r = (
+  pairs_all (λ v. start_of u < start_of v) (λ m. start_of u < start_of m.1) (λ v w h g. g) ts r.1.0,
+  values_rise ts r.1.1,
+)
 values_rise _ r = tt

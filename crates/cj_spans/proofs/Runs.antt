@@ -1,7 +1,7 @@
 -- Runs of the machine: bytes that end a scalar, and white space.
 use Rattle.cj_spans.proofs.Common.{◌≡◌, ℕ, zero, suc, ◌+◌, ◌-◌, ◌<◌, ◌≤◌, List, true, false, ◌||◌, nat_eq, Option, Some, None, refl, sym, ap, subst, arith, ◌∙◌, inl, inr, eq-or-lt_of_le, option_and_then, Kind, Token, Lex, AfterN, AfterNu, AfterNul, NullDone, AfterT, AfterTr, AfterTru, AfterF, AfterFa, AfterFal, AfterFals, TruthDone, Minus, Zero, Whole, Point, Fraction, Mark, MarkSign, Exponent, InString, Escape, Hex4, Hex3, Hex2, Hex1, StringDone, Mode, FirstName, NextName, is_white_space, byte, White, is_digit, Phase, State, state, between, in_atom, read, end_atom, go_on, step, settle, lex_step, lex_kind, point_or_mark, Reaches, on}
-use Rattle.std.proofs.lemmas.Bool.{eqb-true, cond-true, cond-false}
-use Rattle.cj_spans.proofs.Spellings.{none_some, some_same, either}
+use Rattle.std.proofs.lemmas.Bool.{eqb-true, cond-true, cond-false, or_cases}
+use Rattle.cj_spans.proofs.Spellings.{none_some, some_same}
 
 -- between scalars and names
 abbrev pub idle : Mode → List ℕ → List Token → ℕ → ℕ → State
@@ -40,37 +40,18 @@ atom_ends Whole {c} k h e = cond-false (is_digit c) _ _ (digit_end e) ∙ point_
 atom_ends Fraction k h e = fraction_end e
 atom_ends Exponent {c} k h e = cond-false (is_digit c) _ _ (digit_end e)
 atom_ends StringDone k h e = refl
-atom_ends AfterN k h e = cc
-atom_ends AfterNu k h e = cc
-atom_ends AfterNul k h e = cc
-atom_ends AfterT k h e = cc
-atom_ends AfterTr k h e = cc
-atom_ends AfterTru k h e = cc
-atom_ends AfterF k h e = cc
-atom_ends AfterFa k h e = cc
-atom_ends AfterFal k h e = cc
-atom_ends AfterFals k h e = cc
-atom_ends Minus k h e = cc
-atom_ends Point k h e = cc
-atom_ends Mark k h e = cc
-atom_ends MarkSign k h e = cc
-atom_ends InString k h e = cc
-atom_ends Escape k h e = cc
-atom_ends Hex4 k h e = cc
-atom_ends Hex3 k h e = cc
-atom_ends Hex2 k h e = cc
-atom_ends Hex1 k h e = cc
+atom_ends _ k h e = cc
 
 end_at : (c : ℕ) {d : ℕ} → IsEnd d → nat_eq c d ≡ true → IsEnd c
 end_at c {d} e h = subst IsEnd (sym (eqb-true c d h)) e
 
 pub white_end : (c : ℕ) → is_white_space c ≡ true → IsEnd c
 white_end c h =
-    elim (either (nat_eq c 32 || nat_eq c 9 || nat_eq c 10) (nat_eq c 13) h) [
+    elim (or_cases (nat_eq c 32 || nat_eq c 9 || nat_eq c 10) (nat_eq c 13) h) [
       | inr q ↦ end_at c {d = 13} «return» q
-      | inl p ↦ elim (either (nat_eq c 32 || nat_eq c 9) (nat_eq c 10) p) [
+      | inl p ↦ elim (or_cases (nat_eq c 32 || nat_eq c 9) (nat_eq c 10) p) [
         | inr q ↦ end_at c feed q
-        | inl o ↦ elim (either (nat_eq c 32) (nat_eq c 9) o) [ inl q ↦ end_at c space q | inr q ↦ end_at c tab q ]
+        | inl o ↦ elim (or_cases (nat_eq c 32) (nat_eq c 9) o) [ inl q ↦ end_at c space q | inr q ↦ end_at c tab q ]
       ]
     ]
 

@@ -104,10 +104,7 @@ module _ (d : Kind) (n : Mode) (inside : kind_in (between n) ≡ Some d) (ks ls 
   after_kind c k t Object e f g h =
       after_byte Object NextName (nat_eq c 44) (nat_eq c 125) k t refl
       (record { top = k; token = t; innermost = g; there = f; kind = e }) h
-  after_kind c k t Null e f g h = none_some _ h
-  after_kind c k t Truth e f g h = none_some _ h
-  after_kind c k t Number e f g h = none_some _ h
-  after_kind c k t Text e f g h = none_some _ h
+  after_kind c k t _ e f g h = none_some _ h
 
   after_found : (c k : ℕ) (o : Option Token) → slice_get ts k ≡ o → slice_get ks 0 ≡ Some k
       → after_token c k o (idle After ks ts i p) ≡ Some (idle n ls us j q) → IsInnermost d ls us
@@ -121,11 +118,7 @@ module _ (d : Kind) (n : Mode) (inside : kind_in (between n) ≡ Some d) (ks ls 
 
   behind_comma : (m : Mode) → read m 44 (idle m ks ts i p) ≡ Some (idle n ls us j q) → IsInnermost d ls us
   behind_comma After h = after_part 44 (slice_get ks 0) refl h
-  behind_comma Ready h = none_some _ h
-  behind_comma FirstItem h = none_some _ h
-  behind_comma FirstName h = none_some _ h
-  behind_comma NextName h = none_some _ h
-  behind_comma AfterName h = none_some _ h
+  behind_comma _ h = none_some _ h
 
   behind_bracket : (m : Mode) → read m 91 (idle m ks ts i p) ≡ Some (idle n ls us j q) → IsInnermost d ls us
   behind_bracket After h = after_part 91 (slice_get ks 0) refl h
@@ -133,9 +126,7 @@ module _ (d : Kind) (n : Mode) (inside : kind_in (between n) ≡ Some d) (ks ls 
       comes_in FirstItem (suc i) (max p (suc (length ks))) refl (innermost_opened Array ks ts i refl) h
   behind_bracket FirstItem h =
       comes_in FirstItem (suc i) (max p (suc (length ks))) refl (innermost_opened Array ks ts i refl) h
-  behind_bracket FirstName h = none_some _ h
-  behind_bracket NextName h = none_some _ h
-  behind_bracket AfterName h = none_some _ h
+  behind_bracket _ h = none_some _ h
 
   behind_brace : (m : Mode) → read m 123 (idle m ks ts i p) ≡ Some (idle n ls us j q) → IsInnermost d ls us
   behind_brace After h = after_part 123 (slice_get ks 0) refl h
@@ -143,9 +134,7 @@ module _ (d : Kind) (n : Mode) (inside : kind_in (between n) ≡ Some d) (ks ls 
       comes_in FirstName (suc i) (max p (suc (length ks))) refl (innermost_opened Object ks ts i refl) h
   behind_brace FirstItem h =
       comes_in FirstName (suc i) (max p (suc (length ks))) refl (innermost_opened Object ks ts i refl) h
-  behind_brace FirstName h = none_some _ h
-  behind_brace NextName h = none_some _ h
-  behind_brace AfterName h = none_some _ h
+  behind_brace _ h = none_some _ h
 
 module _ (ks ls : List ℕ) (ts us : List Token) (i p j q : ℕ) (m : Mode) where
   abbrev reads : ℕ → Mode → Type 0

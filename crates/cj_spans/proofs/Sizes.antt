@@ -2,6 +2,7 @@
 use Rattle.cj_spans.proofs.Common.{◌≡◌, ℕ, zero, suc, ◌+◌, ◌<◌, ◌≤◌, List, [], ◌∷◌, length, drop, slice_get, Some, Result, Ok, Err, refl, sym, ap, subst, arith, rules, ◌∙◌, OnOk, length-drop, slice_get_within, BoundedList, Token, LineFault, Atom, Tree, Items, no_items, item, Members, no_members, member, add_item, add_member, size, items_size, members_size, total_size, held, past, forest, kind_by, node, byte, Value, atom, empty_array, full_array, empty_object, full_object, Padded, padded, LedItems, no_led, led, LedMembers, no_led_members, led_member, Named, named, Span, spans_of, AreOf, AreFull, AreNested, AreLinked, before, AreSized, IsScanOf, tree_at}
 use Rattle.cj_spans.proofs.Links.{before_length, before_one, before_zero}
 use Rattle.cj_spans.proofs.Scanned.{node_small, forest_small, held_sizes, known, length-spans_of}
+use Rattle.cj_spans.proofs.Verdicts.{Ran, ran_tree}
 use Rattle.cj_spans.proofs.Views.{link_past}
 
 -- ---- where all spans show something, so do those further on
@@ -86,11 +87,10 @@ scan_sized {b} {new} s =
     are_sized b new.elements
     (record { tree = s.0; json = s.1.json; shown = s.1.shown; count = s.1.count; linked = s.1.linked })
 
-pub sized_on : (X : Type 0) (b : List ℕ) (old new : BoundedList Token) (old_stack new_stack : BoundedList ℕ)
-    (r : Result X LineFault) → OnOk r ((t : Tree) × IsScanOf b t old new old_stack new_stack)
-    → OnOk r (AreSized b new.elements)
-sized_on X b old new old_stack new_stack (Ok v) h = scan_sized h
-sized_on X b old new old_stack new_stack (Err e) h = search rules
+pub ran_sized : {b : List ℕ} {old new : BoundedList Token} {old_stack new_stack : BoundedList ℕ}
+    (r : Result (Unit {0}) LineFault) → Ran b old new old_stack new_stack r → OnOk r (AreSized b new.elements)
+ran_sized (Ok v) h = scan_sized (ran_tree (Ok v) h)
+ran_sized (Err e) h = search rules
 
 -- ---- a tree has no more values and names than bytes
 

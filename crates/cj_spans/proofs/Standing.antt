@@ -2,7 +2,7 @@
 use Rattle.cj_spans.proofs.Common.{◌≡◌, ℕ, suc, ◌+◌, ◌*◌, ◌/◌, ◌^◌, ◌<◌, ◌≤◌, List, [], ◌∷◌, ◌++◌, length, length-append, max, Bool, true, false, IsTrue, rules, Option, Some, None, Err, refl, sym, ap, subst, arith, ◌∙◌, inl, inr, IsSomeAnd, BoundedList, IsWithin, Becomes, LineFault, NotUtf8, Syntax, TooDeep, Token, Mode, Ready, FirstItem, After, FirstName, NextName, AfterName, Move, Next, byte, KeepsLaw, State, state, step, read, Reaches, here, on, start, ComesTo, Sticks, phase_after, deepest_after, Answers, EndAnswers, Kept, Grown, BeginsValue, BeginsName, BeginsAtom, SticksAt, RunAnswers, Standing}
 use Rattle.cj_spans.specs.declared.step.Move.TheVariants.{Stay, To, Open, Atom}
 use Rattle.cj_spans.proofs.Spellings.{some_same}
-use Rattle.cj_spans.proofs.Runs.{idle, settled, same_mode}
+use Rattle.cj_spans.proofs.Runs.{idle, Settled, settled, same_mode}
 use Rattle.cj_spans.proofs.Facts.{IsLawful, goes, lawful_reaches, lawful_settles, reaches_both}
 
 -- ---- the beginning
@@ -27,11 +27,6 @@ standing_first b tokens stack w v e f = record {
   stack_within = v;
 }
 
-module _ {b : List ℕ} {tokens0 : BoundedList Token} {stack0 : BoundedList ℕ} {tokens : BoundedList Token}
-    {stack : BoundedList ℕ} {m : Mode} {i : ℕ} (s : Standing b tokens0 stack0 tokens stack m i) where
-  pub standing_lawful : IsLawful (idle m stack.elements tokens.elements i s.deepest)
-  standing_lawful = lawful_settles _ (lawful_reaches s.settles.reached) s.settles.settles
-
 -- ---- what the calls need
 
 count_of : (m : Mode) (ks : List ℕ) (ts : List Token) (i p : ℕ) → IsLawful (idle m ks ts i p)
@@ -46,48 +41,25 @@ count_before Ready ks ts i p l h = l.token_count
 count_before FirstItem ks ts i p l h = l.token_count
 count_before _ ks ts i p l h = absurd h
 
-half_room : (t i n o d limit : ℕ) → 2 * t ≤ i + o → i < n → o ≤ d → (n + d + 1) / 2 ≤ limit → t < limit
-half_room t i n o d limit h l g r = omega arith
-
-pub standing_small : {b : List ℕ} {tokens0 : BoundedList Token} {stack0 : BoundedList ℕ} {tokens : BoundedList Token}
-    {stack : BoundedList ℕ} {m : Mode} {i : ℕ} → Standing b tokens0 stack0 tokens stack m i → length b ≤ 1073741824
-    → i < length b
-    → (i < 2 ^ 31) × (length tokens.elements < 2 ^ 31)
-standing_small {tokens} {stack} {m} {i} s h l =
-    let w = standing_lawful s in
-    let c = count_of m stack.elements tokens.elements i s.deepest w in
-    (omega arith, omega arith)
-
-room_left : {b : List ℕ} {tokens0 : BoundedList Token} {stack0 : BoundedList ℕ} {tokens : BoundedList Token}
-    {stack : BoundedList ℕ} {m : Mode} {i : ℕ} → Standing b tokens0 stack0 tokens stack m i
-    → (length b + stack0.limit + 1) / 2 ≤ tokens0.limit → i < length b
-    → 2 * length tokens.elements ≤ i + length stack.elements → length tokens.elements < tokens.limit
-room_left {b} {tokens0} {stack0} {tokens} {stack} {i} s r l c =
-    let g : length stack.elements ≤ stack0.limit = let p = s.stack_within.below_peak in
-    let q = s.stack_within.below_limit in let e = s.stack_limit in omega arith in
-    let e = s.kept.limit in
-    subst (λ n. length tokens.elements < n) (sym e)
-    (half_room (length tokens.elements) i (length b) (length stack.elements) stack0.limit tokens0.limit c l g r)
-
-pub standing_room : {b : List ℕ} {tokens0 : BoundedList Token} {stack0 : BoundedList ℕ} {tokens : BoundedList Token}
-    {stack : BoundedList ℕ} {m : Mode} {i : ℕ} → Standing b tokens0 stack0 tokens stack m i
-    → (length b + stack0.limit + 1) / 2 ≤ tokens0.limit → i < length b
-    → BeginsValue m → length tokens.elements < tokens.limit
-standing_room {tokens} {stack} {m} {i} s r l h =
-    room_left s r l (count_before m stack.elements tokens.elements i s.deepest (standing_lawful s) h)
-
 count_name : (m : Mode) (ks : List ℕ) (ts : List Token) (i p : ℕ) → IsLawful (idle m ks ts i p) → BeginsName m
     → 2 * length ts ≤ i + length ks
 count_name FirstName ks ts i p l h = l.token_count
 count_name NextName ks ts i p l h = l.token_count
 count_name _ ks ts i p l h = absurd h
 
-pub standing_name_room : {b : List ℕ} {tokens0 : BoundedList Token} {stack0 : BoundedList ℕ}
-    {tokens : BoundedList Token} {stack : BoundedList ℕ} {m : Mode} {i : ℕ} → Standing b tokens0 stack0 tokens stack m i
+half_room : (t i n o d limit : ℕ) → 2 * t ≤ i + o → i < n → o ≤ d → (n + d + 1) / 2 ≤ limit → t < limit
+half_room t i n o d limit h l g r = omega arith
+
+-- the room that is left in lists that were kept
+room_left : (b : List ℕ) {tokens0 tokens : BoundedList Token} (stack0 stack : BoundedList ℕ) (i : ℕ)
+    → Kept tokens0 tokens → stack.limit ≡ stack0.limit → IsWithin stack
     → (length b + stack0.limit + 1) / 2 ≤ tokens0.limit → i < length b
-    → BeginsName m → length tokens.elements < tokens.limit
-standing_name_room {tokens} {stack} {m} {i} s r l h =
-    room_left s r l (count_name m stack.elements tokens.elements i s.deepest (standing_lawful s) h)
+    → 2 * length tokens.elements ≤ i + length stack.elements → length tokens.elements < tokens.limit
+room_left b {tokens0} {tokens} stack0 stack i k e w r l c =
+    let p = w.below_peak in let q = w.below_limit in
+    subst (λ n. length tokens.elements < n) (sym k.limit)
+    (half_room (length tokens.elements) i (length b) (length stack.elements) stack0.limit tokens0.limit c l
+    (omega arith) r)
 
 pub kept_both : {x y z : BoundedList Token} → Kept x y → Grown y z → Kept x z
 kept_both k g =
@@ -98,25 +70,6 @@ kept_both k g =
       room = λ r. g.kept.room (k.room r);
       within = g.kept.within;
     }
-
--- what goes on over the tokens alone
-pub standing_with : {b : List ℕ} {tokens0 : BoundedList Token} {stack0 : BoundedList ℕ}
-    {tokens tokens1 : BoundedList Token} {stack : BoundedList ℕ} {m : Mode} (n : Mode) {i : ℕ} (j : ℕ)
-    → Standing b tokens0 stack0 tokens stack m i → Grown tokens tokens1 → j ≤ length b
-    → ((p : ℕ) → ComesTo b start (idle m stack.elements tokens.elements i p)
-    → ComesTo b start (idle n stack.elements tokens1.elements j p)) → Standing b tokens0 stack0 tokens1 stack n j
-standing_with n j s g l h = record {
-  deepest = s.deepest;
-  settles = h s.deepest s.settles;
-  place = l;
-  kept = kept_both s.kept g;
-  stack_limit = s.stack_limit;
-  stack_peak = s.stack_peak;
-  stack_room = s.stack_room;
-  stack_within = s.stack_within;
-}
-
--- ---- one byte
 
 -- the machine after a byte, with the lists that the code then has
 pub record Stepped (b : List ℕ) (tokens0 : BoundedList Token) (stack0 : BoundedList ℕ) (tokens : BoundedList Token)
@@ -129,50 +82,10 @@ pub record Stepped (b : List ℕ) (tokens0 : BoundedList Token) (stack0 : Bounde
   pub stack_room : IsTrue stack0.reserved → IsTrue stack.reserved
   pub stack_within : IsWithin stack
 
-pub standing_step : {b : List ℕ} {tokens0 : BoundedList Token} {stack0 : BoundedList ℕ}
-    {tokens tokens1 : BoundedList Token} {stack stack1 : BoundedList ℕ} {m : Mode} {i : ℕ} (v : Move)
-    → Standing b tokens0 stack0 tokens stack m i → i < length b → Grown tokens tokens1 → Kept stack stack1
-    → ((p : ℕ) → read m (byte b i) (idle m stack.elements tokens.elements i p)
-    ≡ Some (state (phase_after m i v) stack1.elements tokens1.elements (suc i)
-    (deepest_after v p (length stack1.elements))))
-    → Stepped b tokens0 stack0 tokens1 stack1 m i v
-standing_step {b} {tokens} {tokens1} {stack} {stack1} {m} {i} v s l g k h =
-    let t = idle m stack.elements tokens.elements i s.deepest in
-    let u = state (phase_after m i v) stack1.elements tokens1.elements (suc i)
-    (deepest_after v s.deepest (length stack1.elements)) in
-    let w = standing_lawful s in
-    let e : s.settles.last.place ≡ i = (settled s.settles.last t s.settles.settles).place in
-    let q : step (byte b s.settles.last.place) s.settles.last ≡ Some u = ap (λ n. step (byte b n) s.settles.last) e
-    ∙ s.settles.same l ∙ h s.deepest in
-    let d = (goes u (byte b i) w (h s.deepest)).deepest in
-    let a = s.stack_peak in let c = k.peak in
-    record {
-      deepest = deepest_after v s.deepest (length stack1.elements);
-      reached = on s.settles.last u s.settles.reached q;
-      kept = kept_both s.kept g;
-      stack_limit = k.limit ∙ s.stack_limit;
-      stack_peak = omega arith;
-      stack_room = λ r. k.room (s.stack_room r);
-      stack_within = k.within;
-    }
-
--- ---- the rest of a scalar or a name
-
-atom_count : (m n : Mode) (i p : ℕ) (v : Move) (ks : List ℕ) (ts : List Token)
+atom_count : (m : Mode) (i p : ℕ) (v : Move) (ks : List ℕ) (ts : List Token)
     → IsLawful (state (phase_after m i v) ks ts (suc i) p) → BeginsAtom v → 2 * length ts ≤ i + length ks
-atom_count m n i p (Atom k x) ks ts l h = l.token_count
-atom_count m n i p _ ks ts l h = absurd h
-
-pub stepped_room : {b : List ℕ} {tokens0 : BoundedList Token} {stack0 : BoundedList ℕ} {tokens : BoundedList Token}
-    {stack : BoundedList ℕ} {m : Mode} {i : ℕ} {v : Move} → Stepped b tokens0 stack0 tokens stack m i v
-    → (length b + stack0.limit + 1) / 2 ≤ tokens0.limit → i < length b
-    → BeginsAtom v → length tokens.elements < tokens.limit
-stepped_room {b} {tokens0} {stack0} {tokens} {stack} {m} {i} {v} s r l h =
-    let c = atom_count m m i s.deepest v stack.elements tokens.elements (lawful_reaches s.reached) h in
-    let g : length stack.elements ≤ stack0.limit = let p = s.stack_within.below_peak in
-    let q = s.stack_within.below_limit in let e = s.stack_limit in omega arith in
-    subst (λ n. length tokens.elements < n) (sym s.kept.limit)
-    (half_room (length tokens.elements) i (length b) (length stack.elements) stack0.limit tokens0.limit c l g r)
+atom_count m i p (Atom k x) ks ts l h = l.token_count
+atom_count m i p _ ks ts l h = absurd h
 
 count_after : (m : Mode) (i p : ℕ) (v : Move) (ks : List ℕ) (ts : List Token)
     → IsLawful (state (phase_after m i v) ks ts (suc i) p) → 2 * length ts ≤ suc (suc i) + length ks
@@ -181,15 +94,6 @@ count_after m i p (To n) ks ts l = count_of n ks ts (suc i) p l
 count_after m i p (Open n) ks ts l = count_of n ks ts (suc i) p l
 count_after m i p (Atom n x) ks ts l = let c = l.token_count in omega arith
 
-pub stepped_small : {b : List ℕ} {tokens0 : BoundedList Token} {stack0 : BoundedList ℕ} {tokens : BoundedList Token}
-    {stack : BoundedList ℕ} {m : Mode} {i : ℕ} {v : Move} → Stepped b tokens0 stack0 tokens stack m i v
-    → length b ≤ 1073741824 → i < length b
-    → (length stack.elements < 2 ^ 31) × (length tokens.elements < 2 ^ 31)
-stepped_small {tokens} {stack} {m} {i} {v} s h l =
-    let w = lawful_reaches s.reached in
-    let c = count_after m i s.deepest v stack.elements tokens.elements w in
-    (omega arith, omega arith)
-
 -- a run goes on
 pub settles_both : {b : List ℕ} {s t u : State} → Reaches b s t → ComesTo b t u → ComesTo b s u
 settles_both r h = record { last = h.last; reached = reaches_both r h.reached; settles = h.settles; same = h.same }
@@ -197,61 +101,6 @@ settles_both r h = record { last = h.last; reached = reaches_both r h.reached; s
 abbrev sticks_both : {b : List ℕ} {s t : State} {i : ℕ} → Reaches b s t → Sticks b t i → Sticks b s i
 sticks_both r h =
     record { last = h.last; reached = reaches_both r h.reached; at = h.at; within = h.within; stuck = h.stuck }
-
-pub stepped_on : {b : List ℕ} {tokens0 : BoundedList Token} {stack0 : BoundedList ℕ}
-    {tokens tokens1 : BoundedList Token} {stack : BoundedList ℕ} {m : Mode} {i : ℕ} {v : Move} (n : Next)
-    → Stepped b tokens0 stack0 tokens stack m i v → Grown tokens tokens1
-    → ((p : ℕ) → ComesTo b (state (phase_after m i v) stack.elements tokens.elements (suc i) p)
-    (idle n.mode stack.elements tokens1.elements n.place p) × (suc i ≤ n.place) × (n.place ≤ length b))
-    → Standing b tokens0 stack0 tokens1 stack n.mode n.place
-stepped_on n s g h = record {
-  deepest = s.deepest;
-  settles = settles_both s.reached (h s.deepest).0;
-  place = (h s.deepest).2;
-  kept = kept_both s.kept g;
-  stack_limit = s.stack_limit;
-  stack_peak = s.stack_peak;
-  stack_room = s.stack_room;
-  stack_within = s.stack_within;
-}
-
--- the same after the byte that made the move
-pub followed : {b : List ℕ} {tokens0 : BoundedList Token} {stack0 : BoundedList ℕ}
-    {tokens tokens1 tokens2 : BoundedList Token} {stack stack1 : BoundedList ℕ} {m : Mode} {i : ℕ} (v : Move) (n : Next)
-    → Standing b tokens0 stack0 tokens stack m i → i < length b → Grown tokens tokens1 → Kept stack stack1
-    → ((p : ℕ) → read m (byte b i) (idle m stack.elements tokens.elements i p)
-    ≡ Some (state (phase_after m i v) stack1.elements tokens1.elements (suc i)
-    (deepest_after v p (length stack1.elements)))) → Grown tokens1 tokens2
-    → ((p : ℕ) → ComesTo b (state (phase_after m i v) stack1.elements tokens1.elements (suc i) p)
-    (idle n.mode stack1.elements tokens2.elements n.place p) × (suc i ≤ n.place) × (n.place ≤ length b))
-    → Standing b tokens0 stack0 tokens2 stack1 n.mode n.place
-followed v n s l g k h f c =
-    stepped_on n (standing_step v s l g k h) f c
-
--- ---- the law at every exit
-
-pub standing_law : {b : List ℕ} {tokens0 : BoundedList Token} {stack0 : BoundedList ℕ}
-    {tokens tokens1 : BoundedList Token} {stack stack1 : BoundedList ℕ} {m : Mode} {i : ℕ}
-    → Standing b tokens0 stack0 tokens stack m i
-    → Grown tokens tokens1 → Kept stack stack1 → tokens1 ≡ tokens → stack1 ≡ stack
-    → KeepsLaw b tokens0 tokens1 stack0 stack1
-standing_law {tokens} {tokens1} {stack} {stack1} {m} {i} s g k e x =
-    let l : length stack1.elements ≡ length stack.elements = ap (λ z. length z.elements) x in
-    let c = count_of m stack.elements tokens.elements i s.deepest (standing_lawful s) in
-    let z = kept_both s.kept g in
-    let f : length tokens1.elements ≡ length tokens.elements = ap (λ t. length t.elements) e in
-    let a = s.stack_peak in let d = k.peak in
-    record {
-      law = omega arith;
-      token_limit = z.limit;
-      token_peak = z.peak;
-      token_room = z.room;
-      tokens_within = z.within;
-      stack_limit = k.limit ∙ s.stack_limit;
-      stack_peak = omega arith;
-      stack_room = λ r. k.room (s.stack_room r);
-      stack_within = k.within;
-    }
 
 pub kept_same : (x : BoundedList ℕ) → IsWithin x → Kept x x
 kept_same x w = let g = w.below_peak in record { limit = refl; peak = omega arith; room = λ r. r; within = w }
@@ -271,136 +120,237 @@ grown_more x z t w e =
       longer = omega arith;
     }
 
-pub ended_law : {b : List ℕ} {tokens0 : BoundedList Token} {stack0 : BoundedList ℕ} {tokens : BoundedList Token}
-    {stack : BoundedList ℕ} {m : Mode} {i : ℕ} → Standing b tokens0 stack0 tokens stack m i
-    → KeepsLaw b tokens0 tokens stack0 stack
-ended_law {tokens} {stack} s =
-    standing_law s (grown_same tokens s.kept.within) (kept_same stack s.stack_within) refl refl
-
-pub stepped_law : {b : List ℕ} {tokens0 : BoundedList Token} {stack0 : BoundedList ℕ}
-    {tokens tokens1 : BoundedList Token} {stack : BoundedList ℕ} {m : Mode} {i : ℕ} {v : Move}
-    → Stepped b tokens0 stack0 tokens stack m i v
-    → i < length b → Grown tokens tokens1 → tokens1 ≡ tokens → KeepsLaw b tokens0 tokens1 stack0 stack
-stepped_law {tokens} {tokens1} {stack} {m} {i} {v} s l g e =
-    let c = count_after m i s.deepest v stack.elements tokens.elements (lawful_reaches s.reached) in
-    let z = kept_both s.kept g in
-    let f : length tokens1.elements ≡ length tokens.elements = ap (λ t. length t.elements) e in
-    let a = s.stack_peak in
-    record {
-      law = omega arith;
-      token_limit = z.limit;
-      token_peak = z.peak;
-      token_room = z.room;
-      tokens_within = z.within;
-      stack_limit = s.stack_limit;
-      stack_peak = omega arith;
-      stack_room = s.stack_room;
-      stack_within = s.stack_within;
-    }
-
--- ---- faults
-
 shallow_at : (deepest : ℕ) {peak limit : ℕ} (peak0 : ℕ) {limit0 : ℕ} → peak ≡ max peak0 deepest → peak ≤ limit
     → limit ≡ limit0
     → deepest ≤ limit0
 shallow_at deepest peak0 e h q = omega arith
 
-pub standing_fault : (X : Type 0) {b : List ℕ} {tokens0 : BoundedList Token} {stack0 : BoundedList ℕ}
-    {tokens : BoundedList Token} (tokens1 : BoundedList Token) {stack stack1 : BoundedList ℕ} {m : Mode} {i : ℕ}
-    (f : LineFault)
-    → Standing b tokens0 stack0 tokens stack m i → i < length b
-    → ((p : ℕ) → Answers (read m (byte b i) (idle m stack.elements tokens.elements i p)) m i p stack.limit
-    (Err f) stack1.elements tokens1.elements)
-    → stack1 ≡ stack → RunAnswers {X = X} b stack0 (Err f) tokens1 stack1
-standing_fault X tokens1 (NotUtf8 j) s l h x = h 0
-standing_fault X {b} {stack0} {tokens} tokens1 {stack} {stack1} {m} {i} (Syntax j) s l h x =
-    let t = idle m stack.elements tokens.elements i s.deepest in
-    let e = settled s.settles.last t s.settles.settles in
-    let a = h s.deepest in
-    let q : step (byte b j) s.settles.last ≡ None = ap (λ n. step (byte b n) s.settles.last) a.0 ∙ s.settles.same l
-    ∙ a.1 in
-    let r = shallow_at s.deepest stack0.peak s.stack_peak s.stack_within.below_limit s.stack_limit in
-    let ji = a.0 in
-    let same : stack1.peak ≡ stack.peak = ap (λ z. z.peak) x in let c = s.stack_peak in (
+-- ---- from where a pass stands
+
+module _ {b : List ℕ} {tokens0 : BoundedList Token} {stack0 : BoundedList ℕ} {tokens : BoundedList Token}
+    {stack : BoundedList ℕ} {m : Mode} {i : ℕ} (s : Standing b tokens0 stack0 tokens stack m i) where
+  standing_lawful : IsLawful (idle m stack.elements tokens.elements i s.deepest)
+  standing_lawful = lawful_settles _ (lawful_reaches s.settles.reached) s.settles.settles
+
+  standing_last : Settled s.settles.last (idle m stack.elements tokens.elements i s.deepest)
+  standing_last = settled s.settles.last _ s.settles.settles
+
+  standing_shallow : s.deepest ≤ stack0.limit
+  standing_shallow = shallow_at s.deepest stack0.peak s.stack_peak s.stack_within.below_limit s.stack_limit
+
+  pub standing_small : length b ≤ 1073741824 → i < length b → (i < 2 ^ 31) × (length tokens.elements < 2 ^ 31)
+  standing_small h l =
+      let w = standing_lawful in
+      let c = count_of m stack.elements tokens.elements i s.deepest w in
+      (omega arith, omega arith)
+
+  pub standing_room : (length b + stack0.limit + 1) / 2 ≤ tokens0.limit → i < length b → BeginsValue m
+      → length tokens.elements < tokens.limit
+  standing_room r l h =
+      room_left b stack0 stack i s.kept s.stack_limit s.stack_within r l
+      (count_before m stack.elements tokens.elements i s.deepest standing_lawful h)
+
+  pub standing_name_room : (length b + stack0.limit + 1) / 2 ≤ tokens0.limit → i < length b → BeginsName m
+      → length tokens.elements < tokens.limit
+  standing_name_room r l h =
+      room_left b stack0 stack i s.kept s.stack_limit s.stack_within r l
+      (count_name m stack.elements tokens.elements i s.deepest standing_lawful h)
+
+  -- what goes on over the tokens alone
+  pub standing_with : {tokens1 : BoundedList Token} (n : Mode) (j : ℕ) → Grown tokens tokens1 → j ≤ length b
+      → ((p : ℕ) → ComesTo b start (idle m stack.elements tokens.elements i p)
+      → ComesTo b start (idle n stack.elements tokens1.elements j p)) → Standing b tokens0 stack0 tokens1 stack n j
+  standing_with n j g l h = record {
+    deepest = s.deepest;
+    settles = h s.deepest s.settles;
+    place = l;
+    kept = kept_both s.kept g;
+    stack_limit = s.stack_limit;
+    stack_peak = s.stack_peak;
+    stack_room = s.stack_room;
+    stack_within = s.stack_within;
+  }
+
+  -- over one byte
+  pub standing_step : {tokens1 : BoundedList Token} {stack1 : BoundedList ℕ} (v : Move) → i < length b
+      → Grown tokens tokens1 → Kept stack stack1
+      → ((p : ℕ) → read m (byte b i) (idle m stack.elements tokens.elements i p)
+      ≡ Some (state (phase_after m i v) stack1.elements tokens1.elements (suc i)
+      (deepest_after v p (length stack1.elements)))) → Stepped b tokens0 stack0 tokens1 stack1 m i v
+  standing_step {tokens1} {stack1} v l g k h =
+      let u = state (phase_after m i v) stack1.elements tokens1.elements (suc i)
+      (deepest_after v s.deepest (length stack1.elements)) in
+      let q : step (byte b s.settles.last.place) s.settles.last ≡ Some u =
+      ap (λ n. step (byte b n) s.settles.last) standing_last.place ∙ s.settles.same l ∙ h s.deepest in
+      let d = (goes u (byte b i) standing_lawful (h s.deepest)).deepest in
+      let a = s.stack_peak in let c = k.peak in
       record {
-        sticks = record {
+        deepest = deepest_after v s.deepest (length stack1.elements);
+        reached = on s.settles.last u s.settles.reached q;
+        kept = kept_both s.kept g;
+        stack_limit = k.limit ∙ s.stack_limit;
+        stack_peak = omega arith;
+        stack_room = λ r. k.room (s.stack_room r);
+        stack_within = k.within;
+      }
+
+  -- the law at an exit
+  pub standing_law : {tokens1 : BoundedList Token} {stack1 : BoundedList ℕ} → Grown tokens tokens1 → Kept stack stack1
+      → tokens1 ≡ tokens → stack1 ≡ stack → KeepsLaw b tokens0 tokens1 stack0 stack1
+  standing_law {tokens1} {stack1} g k e x =
+      let l : length stack1.elements ≡ length stack.elements = ap (λ z. length z.elements) x in
+      let c = count_of m stack.elements tokens.elements i s.deepest standing_lawful in
+      let z = kept_both s.kept g in
+      let f : length tokens1.elements ≡ length tokens.elements = ap (λ t. length t.elements) e in
+      let a = s.stack_peak in let d = k.peak in
+      record {
+        law = omega arith;
+        token_limit = z.limit;
+        token_peak = z.peak;
+        token_room = z.room;
+        tokens_within = z.within;
+        stack_limit = k.limit ∙ s.stack_limit;
+        stack_peak = omega arith;
+        stack_room = λ r. k.room (s.stack_room r);
+        stack_within = k.within;
+      }
+
+  pub ended_law : KeepsLaw b tokens0 tokens stack0 stack
+  ended_law = standing_law (grown_same tokens s.kept.within) (kept_same stack s.stack_within) refl refl
+
+  pub standing_fault : (X : Type 0) (tokens1 : BoundedList Token) {stack1 : BoundedList ℕ} (f : LineFault)
+      → i < length b
+      → ((p : ℕ) → Answers (read m (byte b i) (idle m stack.elements tokens.elements i p)) m i p stack.limit
+      (Err f) stack1.elements tokens1.elements)
+      → stack1 ≡ stack → RunAnswers {X = X} b stack0 (Err f) tokens1 stack1
+  standing_fault X tokens1 (NotUtf8 j) l h x = h 0
+  standing_fault X tokens1 {stack1} (Syntax j) l h x =
+      let a = h s.deepest in
+      let q : step (byte b j) s.settles.last ≡ None = ap (λ n. step (byte b n) s.settles.last) a.0 ∙ s.settles.same l
+      ∙ a.1 in
+      let ji = a.0 in let e = standing_last in let r = standing_shallow in
+      let same : stack1.peak ≡ stack.peak = ap (λ z. z.peak) x in let c = s.stack_peak in (
+        record {
+          sticks = record {
+            last = s.settles.last;
+            reached = s.settles.reached;
+            at = standing_last.place ∙ sym a.0;
+            within = omega arith;
+            stuck = inl (omega arith, q);
+          };
+          shallow = omega arith;
+        },
+        omega arith,
+      )
+  standing_fault X tokens1 {stack1} (TooDeep j) l h x =
+      let t = idle m stack.elements tokens.elements i s.deepest in
+      let a = h s.deepest in
+      let q : step (byte b j) s.settles.last ≡ read m (byte b i) t = ap (λ n. step (byte b n) s.settles.last) a.0
+      ∙ s.settles.same l in
+      let ji = a.0 in let e = standing_last in let r = standing_shallow in
+      let same : stack1.peak ≡ stack.peak = ap (λ z. z.peak) x in let c = s.stack_peak in
+      let P : ℕ → Type 0 = λ n. IsSomeAnd (read m (byte b i) t) (λ u. length u.stack ≡ suc n) in
+      let Q : Option State → Type 0 = λ o. IsSomeAnd o (λ u. length u.stack ≡ suc stack0.limit) in (
+        record {
           last = s.settles.last;
           reached = s.settles.reached;
-          at = e.place ∙ sym a.0;
+          at = standing_last.place ∙ sym a.0;
           within = omega arith;
-          stuck = inl (omega arith, q);
-        };
-        shallow = omega arith;
-      },
-      omega arith,
-    )
-standing_fault X {b} {stack0} {tokens} tokens1 {stack} {stack1} {m} {i} (TooDeep j) s l h x =
-    let t = idle m stack.elements tokens.elements i s.deepest in
-    let e = settled s.settles.last t s.settles.settles in
-    let a = h s.deepest in
-    let q : step (byte b j) s.settles.last ≡ read m (byte b i) t = ap (λ n. step (byte b n) s.settles.last) a.0
-    ∙ s.settles.same l in
-    let r = shallow_at s.deepest stack0.peak s.stack_peak s.stack_within.below_limit s.stack_limit in
-    let ji = a.0 in
-    let same : stack1.peak ≡ stack.peak = ap (λ z. z.peak) x in let c = s.stack_peak in
-    let P : ℕ → Type 0 = λ n. IsSomeAnd (read m (byte b i) t) (λ u. length u.stack ≡ suc n) in
-    let Q : Option State → Type 0 = λ o. IsSomeAnd o (λ u. length u.stack ≡ suc stack0.limit) in (
+          shallow = omega arith;
+          deep = subst Q (sym q) (subst P s.stack_limit a.1);
+        },
+        omega arith,
+      )
+
+  -- the end of the line
+  pub ended_fault : length b ≤ i → ((m ≡ After) × (stack.elements ≡ []) → ⊥)
+      → (k : SticksAt b stack0.limit i) × (stack.peak ≡ max stack0.peak k.sticks.last.deepest)
+  ended_fault l n =
+      let t = idle m stack.elements tokens.elements i s.deepest in
+      let e = standing_last in let r = standing_shallow in
+      let c = s.stack_peak in
+      let w = s.place in (
+        record {
+          sticks = record {
+            last = s.settles.last;
+            reached = s.settles.reached;
+            at = e.place;
+            within = w;
+            stuck = inr (
+              omega arith,
+              λ ts p h.
+                  let q = some_same t (idle After [] ts (length b) p) (sym s.settles.settles ∙ h) in
+                  n (same_mode m After (ap (λ u. u.phase) q), ap (λ u. u.stack) q),
+            );
+          };
+          shallow = omega arith;
+        },
+        omega arith,
+      )
+
+-- ---- from where it stands after a byte
+
+module _ {b : List ℕ} {tokens0 : BoundedList Token} {stack0 : BoundedList ℕ} {tokens : BoundedList Token}
+    {stack : BoundedList ℕ} {m : Mode} {i : ℕ} {v : Move} (s : Stepped b tokens0 stack0 tokens stack m i v) where
+  pub stepped_room : (length b + stack0.limit + 1) / 2 ≤ tokens0.limit → i < length b → BeginsAtom v
+      → length tokens.elements < tokens.limit
+  stepped_room r l h =
+      room_left b stack0 stack i s.kept s.stack_limit s.stack_within r l
+      (atom_count m i s.deepest v stack.elements tokens.elements (lawful_reaches s.reached) h)
+
+  stepped_count : 2 * length tokens.elements ≤ suc (suc i) + length stack.elements
+  stepped_count = count_after m i s.deepest v stack.elements tokens.elements (lawful_reaches s.reached)
+
+  pub stepped_small : length b ≤ 1073741824 → i < length b
+      → (length stack.elements < 2 ^ 31) × (length tokens.elements < 2 ^ 31)
+  stepped_small h l = let w = (lawful_reaches s.reached).open_count in
+      (omega (arith, w), omega (arith, stepped_count, w))
+
+  pub stepped_on : {tokens1 : BoundedList Token} (n : Next) → Grown tokens tokens1
+      → ((p : ℕ) → ComesTo b (state (phase_after m i v) stack.elements tokens.elements (suc i) p)
+      (idle n.mode stack.elements tokens1.elements n.place p) × (suc i ≤ n.place) × (n.place ≤ length b))
+      → Standing b tokens0 stack0 tokens1 stack n.mode n.place
+  stepped_on n g h = record {
+    deepest = s.deepest;
+    settles = settles_both s.reached (h s.deepest).0;
+    place = (h s.deepest).2;
+    kept = kept_both s.kept g;
+    stack_limit = s.stack_limit;
+    stack_peak = s.stack_peak;
+    stack_room = s.stack_room;
+    stack_within = s.stack_within;
+  }
+
+  pub stepped_law : {tokens1 : BoundedList Token} → i < length b → Grown tokens tokens1 → tokens1 ≡ tokens
+      → KeepsLaw b tokens0 tokens1 stack0 stack
+  stepped_law {tokens1} l g e =
+      let c = stepped_count in
+      let z = kept_both s.kept g in
+      let f : length tokens1.elements ≡ length tokens.elements = ap (λ t. length t.elements) e in
+      let a = s.stack_peak in
       record {
-        last = s.settles.last;
-        reached = s.settles.reached;
-        at = e.place ∙ sym a.0;
-        within = omega arith;
-        shallow = omega arith;
-        deep = subst Q (sym q) (subst P s.stack_limit a.1);
-      },
-      omega arith,
-    )
+        law = omega arith;
+        token_limit = z.limit;
+        token_peak = z.peak;
+        token_room = z.room;
+        tokens_within = z.within;
+        stack_limit = s.stack_limit;
+        stack_peak = omega arith;
+        stack_room = s.stack_room;
+        stack_within = s.stack_within;
+      }
 
-pub stepped_fault : (X : Type 0) {b : List ℕ} {tokens0 : BoundedList Token} {stack0 : BoundedList ℕ}
-    {tokens : BoundedList Token} (tokens1 : BoundedList Token) {stack : BoundedList ℕ} {m : Mode} {i : ℕ} {v : Move}
-    (f : LineFault)
-    → Stepped b tokens0 stack0 tokens stack m i v
-    → ((p : ℕ) → EndAnswers b (state (phase_after m i v) stack.elements tokens.elements (suc i) p)
-    (Err f) tokens1.elements)
-    → RunAnswers {X = X} b stack0 (Err f) tokens1 stack
-stepped_fault X tokens1 (NotUtf8 j) s h = h 0
-stepped_fault X tokens1 (TooDeep j) s h = absurd (h 0)
-stepped_fault X {stack0} tokens1 {stack} (Syntax j) s h =
-    let a = h s.deepest in
-    let r = shallow_at s.deepest stack0.peak s.stack_peak s.stack_within.below_limit s.stack_limit in (
-      record { sticks = sticks_both s.reached a.sticks; shallow = subst (λ n. n ≤ stack0.limit) (sym a.flat) r },
-      subst (λ n. stack.peak ≡ max stack0.peak n) (sym a.flat) s.stack_peak,
-    )
-
--- ---- the end of the line
-
-pub ended_fault : {b : List ℕ} {tokens0 : BoundedList Token} {stack0 : BoundedList ℕ} {tokens : BoundedList Token}
-    {stack : BoundedList ℕ} {m : Mode} {i : ℕ} → Standing b tokens0 stack0 tokens stack m i → length b ≤ i
-    → ((m ≡ After) × (stack.elements ≡ []) → ⊥)
-    → (k : SticksAt b stack0.limit i) × (stack.peak ≡ max stack0.peak k.sticks.last.deepest)
-ended_fault {b} {stack0} {tokens} {stack} {m} {i} s l n =
-    let t = idle m stack.elements tokens.elements i s.deepest in
-    let e = settled s.settles.last t s.settles.settles in
-    let c = s.stack_peak in
-    let w = s.place in
-    let r = shallow_at s.deepest stack0.peak s.stack_peak s.stack_within.below_limit s.stack_limit in (
-      record {
-        sticks = record {
-          last = s.settles.last;
-          reached = s.settles.reached;
-          at = e.place;
-          within = w;
-          stuck = inr (
-            omega arith,
-            λ ts p h.
-                let q = some_same t (idle After [] ts (length b) p) (sym s.settles.settles ∙ h) in
-                n (same_mode m After (ap (λ u. u.phase) q), ap (λ u. u.stack) q),
-          );
-        };
-        shallow = omega arith;
-      },
-      omega arith,
-    )
+  pub stepped_fault : (X : Type 0) (tokens1 : BoundedList Token) (f : LineFault)
+      → ((p : ℕ) → EndAnswers b (state (phase_after m i v) stack.elements tokens.elements (suc i) p)
+      (Err f) tokens1.elements) → RunAnswers {X = X} b stack0 (Err f) tokens1 stack
+  stepped_fault X tokens1 (NotUtf8 j) h = h 0
+  stepped_fault X tokens1 (TooDeep j) h = absurd (h 0)
+  stepped_fault X tokens1 (Syntax j) h =
+      let a = h s.deepest in
+      let r = shallow_at s.deepest stack0.peak s.stack_peak s.stack_within.below_limit s.stack_limit in (
+        record { sticks = sticks_both s.reached a.sticks; shallow = subst (λ n. n ≤ stack0.limit) (sym a.flat) r },
+        subst (λ n. stack.peak ≡ max stack0.peak n) (sym a.flat) s.stack_peak,
+      )
 
 -- a test that failed
 pub not_so : {r : Bool} (P : Type 0) → (IsTrue r → P) × (P → IsTrue r) → r ≡ false → P → ⊥

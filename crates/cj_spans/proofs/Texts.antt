@@ -1,5 +1,6 @@
 -- Characters and code points, read one at a time.
-use Rattle.cj_spans.proofs.Common.{◌≡◌, ℕ, zero, suc, ◌+◌, ◌-◌, ◌*◌, ◌<◌, ◌≤◌, List, [], ◌∷◌, ◌++◌, length, take, drop, get_or, Bool, true, false, cond, ◌&&◌, nat_eq, nat_lt, Option, Some, inl, inr, refl, sym, ap, subst, arith, ◌∙◌, add-one, drop-cons, length-append, both_true, cases_lt, drop-drop, drop-take, length-take, nat_tests, common_steps, left, after_read, ReadsCodePoint, code_points_from, AreAlike, StartAlike, compare, nat_cmp, ordering_then, Less, Equal, Greater, char_of, four_digits, unit, is_unicode, is_escaped, is_pair, escaped, first_code_point, first_width, code_points_after, text, are_same, chars, chars_after, continuation_len, lead_bits}
+use Rattle.cj_spans.proofs.Common.{◌≡◌, ℕ, zero, suc, ◌+◌, ◌-◌, ◌*◌, ◌<◌, ◌≤◌, List, [], ◌∷◌, ◌++◌, length, take, drop, get_or, Bool, true, false, cond, ◌&&◌, nat_eq, nat_lt, Option, Some, inl, inr, refl, sym, ap, subst, arith, ◌∙◌, add-one, drop-cons, length-append, both_true, cases_lt, drop-drop, drop-take, get_or-take, length-take, nat_tests, common_steps, left, after_read, ReadsCodePoint, code_points_from, AreAlike, StartAlike, compare, nat_cmp, ordering_then, Less, Equal, Greater, char_of, four_digits, unit, is_unicode, is_escaped, is_pair, escaped, first_code_point, first_width, code_points_after, text, are_same, chars, chars_after, continuation_len, lead_bits}
+use Rattle.std.proofs.lemmas.Bool.{and_left, and_right}
 use Rattle.cj_spans.specs.declared.text.decode.CodePoint.{CodePoint}
 use Rattle.cj_spans.specs.Meaning.StandFor.{StandFor, done, plain, letter, single, pair}
 use Rattle.std.specs.Char.{digit_value}
@@ -23,32 +24,30 @@ chars_past bs i h = let e : drop i bs ≡ [] = grind (arith, common_steps) in ap
 at_drop : (bs : List ℕ) (i : ℕ) → i < length bs → drop i bs ≡ get_or bs i 0 ∷ drop (i + 1) bs
 at_drop bs i h = rw (add-one, drop-cons bs i 0)
 
-lead_after : (b n c : ℕ) (bs : List ℕ) → continuation_len b ≡ n → lead_bits b ≡ c → chars (b ∷ bs) ≡ chars_after n c bs
-lead_after b n c bs e f = first_of b bs ∙ ap (λ m. chars_after m (lead_bits b) bs) e ∙ ap (λ d. chars_after n d bs) f
+-- the first byte says how many more come, and has the first bits
+lead : (bs : List ℕ) (i n c : ℕ) → i < length bs → continuation_len (get_or bs i 0) ≡ n → lead_bits (get_or bs i 0) ≡ c
+    → chars (drop i bs) ≡ chars_after n c (drop (i + 1) bs)
+lead bs i n c h e f = ap chars (at_drop bs i h) ∙ first_of (get_or bs i 0) (drop (i + 1) bs)
+    ∙ (λ k. chars_after (e k) (f k) (drop (i + 1) bs))
 
 pub lead_one : (bs : List ℕ) (i : ℕ) → i < length bs → get_or bs i 0 < 128
     → chars (drop i bs) ≡ chars_after 0 (get_or bs i 0) (drop (i + 1) bs)
-lead_one bs i h l = ap chars (at_drop bs i h)
-    ∙ lead_after (get_or bs i 0) 0 (get_or bs i 0) (drop (i + 1) bs) (grind (arith, nat_tests))
-    (grind (arith, nat_tests))
+lead_one bs i h l = lead bs i 0 (get_or bs i 0) h (grind (arith, nat_tests)) (grind (arith, nat_tests))
 
 pub lead_two : (bs : List ℕ) (i : ℕ) {c : ℕ} (o : Option CodePoint) → i < length bs → 128 ≤ get_or bs i 0
     → get_or bs i 0 < 224 → c ≡ get_or bs i 0 - 192 → chars_after 1 c (drop (i + 1) bs) ≡ after_read bs 0 o
     → chars (drop i bs) ≡ after_read bs 0 o
-lead_two bs i {c} o h l g e f = ap chars (at_drop bs i h)
-    ∙ lead_after (get_or bs i 0) 1 c (drop (i + 1) bs) (grind (arith, nat_tests)) (grind (arith, nat_tests)) ∙ f
+lead_two bs i {c} o h l g e f = lead bs i 1 c h (grind (arith, nat_tests)) (grind (arith, nat_tests)) ∙ f
 
 pub lead_three : (bs : List ℕ) (i c : ℕ) (o : Option CodePoint) → i < length bs → 224 ≤ get_or bs i 0
     → get_or bs i 0 < 240 → c ≡ get_or bs i 0 - 224 → chars_after 2 c (drop (i + 1) bs) ≡ after_read bs 0 o
     → chars (drop i bs) ≡ after_read bs 0 o
-lead_three bs i c o h l g e f = ap chars (at_drop bs i h)
-    ∙ lead_after (get_or bs i 0) 2 c (drop (i + 1) bs) (grind (arith, nat_tests)) (grind (arith, nat_tests)) ∙ f
+lead_three bs i c o h l g e f = lead bs i 2 c h (grind (arith, nat_tests)) (grind (arith, nat_tests)) ∙ f
 
 pub lead_four : (bs : List ℕ) (i c : ℕ) (o : Option CodePoint) → i < length bs → 240 ≤ get_or bs i 0
     → c ≡ get_or bs i 0 - 240 → chars_after 3 c (drop (i + 1) bs) ≡ after_read bs 0 o
     → chars (drop i bs) ≡ after_read bs 0 o
-lead_four bs i c o h l e f = ap chars (at_drop bs i h)
-    ∙ lead_after (get_or bs i 0) 3 c (drop (i + 1) bs) (grind (arith, nat_tests)) (grind (arith, nat_tests)) ∙ f
+lead_four bs i c o h l e f = lead bs i 3 c h (grind (arith, nat_tests)) (grind (arith, nat_tests)) ∙ f
 
 -- ---- steps over characters
 
@@ -71,19 +70,10 @@ pub char_none : (bs : List ℕ) {cs : List ℕ} (i : ℕ) (p : CodePoint) → le
 char_none bs {cs} i p h e z s = char_nil bs cs p (sym h ∙ e) z (ap (left bs) s
     ∙ chars_past bs (length bs) (omega arith))
 
-at_next : (cs : List ℕ) (k : ℕ) → char_of (drop 1 cs) k ≡ char_of cs (suc k)
-at_next [] k = refl
-at_next (c ∷ cs) k = refl
-
-at_second : (cs : List ℕ) → char_of (drop 1 cs) 0 ≡ char_of cs 1
-at_second cs = at_next cs 0
-
-at_third : (cs : List ℕ) → char_of (drop 2 cs) 0 ≡ char_of cs 2
-at_third cs = ap (λ xs. char_of xs 0) (sym (drop-drop 1 1 cs)) ∙ at_next (drop 1 cs) 0 ∙ at_next cs 1
-
-at_fourth : (cs : List ℕ) → char_of (drop 3 cs) 0 ≡ char_of cs 3
-at_fourth cs = ap (λ xs. char_of xs 0) (sym (drop-drop 1 2 cs)) ∙ at_next (drop 2 cs) 0
-    ∙ ap (λ xs. char_of xs 1) (sym (drop-drop 1 1 cs)) ∙ at_next (drop 1 cs) 1 ∙ at_next cs 2
+at_later : (k : ℕ) (cs : List ℕ) → char_of (drop k cs) 0 ≡ char_of cs k
+at_later zero cs = refl
+at_later (suc k) [] = refl
+at_later (suc k) (c ∷ cs) = at_later k cs
 
 -- what comes after two steps
 pub takes_on : {bs cs : List ℕ} (x n m : ℕ) (p : CodePoint) → ReadsCodePoint bs cs x n p → {y : ℕ} {q : CodePoint}
@@ -105,8 +95,8 @@ pub digits_read : {bs cs : List ℕ} {p q r s : CodePoint} {a b c d : ℕ} → R
     → a ≡ digit_value p.code → b ≡ digit_value q.code → c ≡ digit_value r.code → d ≡ digit_value s.code
     → ReadsCodePoint bs cs (four_digits cs) 4 (record { code = (a * 16 + b) * 256 + (c * 16 + d); stop = s.stop })
 digits_read {cs} t u v w i j k l = record {
-  code = digits_by (i ∙ ap digit_value t.code) (j ∙ ap digit_value (u.code ∙ at_second cs))
-      (k ∙ ap digit_value (v.code ∙ at_third cs)) (l ∙ ap digit_value (w.code ∙ at_fourth cs));
+  code = digits_by (i ∙ ap digit_value t.code) (j ∙ ap digit_value (u.code ∙ at_later 1 cs))
+      (k ∙ ap digit_value (v.code ∙ at_later 2 cs)) (l ∙ ap digit_value (w.code ∙ at_later 3 cs));
   rest = w.rest ∙ drop-drop 1 3 cs;
 }
 
@@ -124,101 +114,52 @@ pub pair_shown : (cs : List ℕ) → is_unicode cs ≡ true → is_high_surrogat
     → is_unicode (drop 6 cs) ≡ true → is_low_surrogate (unit (drop 6 cs)) ≡ true → is_pair cs ≡ true
 pair_shown cs a b c d = both_true (both_true (both_true a b) c) d
 
-first_not : (a : Bool) {b : Bool} (c d : Bool) → b ≡ false → a && b && c && d ≡ false
-first_not a c d h = grind (arith)
+-- one of its four tests fails
+not_high : (cs : List ℕ) → is_high_surrogate (unit cs) ≡ false → is_pair cs ≡ false
+not_high cs h = and_left _ _ (and_left _ _ (and_right (is_unicode cs) _ h))
 
-pub not_high : (cs : List ℕ) → is_high_surrogate (unit cs) ≡ false → is_pair cs ≡ false
-not_high cs h =
-    first_not (is_unicode cs) (is_unicode (drop 6 cs)) (is_low_surrogate (unit (drop 6 cs))) h
+not_followed : (cs : List ℕ) → is_unicode (drop 6 cs) ≡ false → is_pair cs ≡ false
+not_followed cs h = and_left _ _ (and_right (is_unicode cs && is_high_surrogate (unit cs)) _ h)
 
-third_not : (a b : Bool) {c : Bool} (d : Bool) → c ≡ false → a && b && c && d ≡ false
-third_not a b d h = grind (arith)
-
-pub not_followed : (cs : List ℕ) → is_unicode (drop 6 cs) ≡ false → is_pair cs ≡ false
-not_followed cs h =
-    third_not (is_unicode cs) (is_high_surrogate (unit cs)) (is_low_surrogate (unit (drop 6 cs))) h
-
-fourth_not : (a b c : Bool) {d : Bool} → d ≡ false → a && b && c && d ≡ false
-fourth_not a b c h = grind (arith)
-
-pub not_low : (cs : List ℕ) → is_low_surrogate (unit (drop 6 cs)) ≡ false → is_pair cs ≡ false
-not_low cs h =
-    fourth_not (is_unicode cs) (is_high_surrogate (unit cs)) (is_unicode (drop 6 cs)) h
-
-zeroth_not : {a : Bool} (b c d : Bool) → a ≡ false → a && b && c && d ≡ false
-zeroth_not b c d h = grind (arith)
+not_low : (cs : List ℕ) → is_low_surrogate (unit (drop 6 cs)) ≡ false → is_pair cs ≡ false
+not_low cs h = and_right (is_unicode cs && is_high_surrogate (unit cs) && is_unicode (drop 6 cs)) _ h
 
 not_unicode : (cs : List ℕ) → is_unicode cs ≡ false → is_pair cs ≡ false
-not_unicode cs h =
-    zeroth_not (is_high_surrogate (unit cs)) (is_unicode (drop 6 cs)) (is_low_surrogate (unit (drop 6 cs))) h
+not_unicode cs h = and_left _ _ (and_left _ _ (and_left _ _ h))
 
 not_escaped : (cs : List ℕ) → is_escaped cs ≡ false → is_unicode cs ≡ false
-not_escaped cs h = ap (λ v. v && nat_eq (char_of cs 1) 117) h
+not_escaped cs h = and_left _ _ h
 
 -- the point and the width, by cases
+by_tests : (cs : List ℕ) {p u e : Bool} → is_pair cs ≡ p → is_unicode cs ≡ u → is_escaped cs ≡ e
+    → (first_code_point cs ≡ cond p (surrogate_pair_char (unit cs) (unit (drop 6 cs)))
+    (cond u (unit cs) (cond e (escaped (char_of cs 1)) (char_of cs 0))))
+    × (first_width cs ≡ cond p 12 (cond u 6 (cond e 2 1)))
+unfolding first_code_point first_width
+by_tests cs h g a = (
+  λ k. cond (h k) (surrogate_pair_char (unit cs) (unit (drop 6 cs)))
+      (cond (g k) (unit cs) (cond (a k) (escaped (char_of cs 1)) (char_of cs 0))),
+  λ k. cond (h k) 12 (cond (g k) 6 (cond (a k) 2 1)),
+)
+
 first_pair : (cs : List ℕ) → is_pair cs ≡ true
     → (first_code_point cs ≡ surrogate_pair_char (unit cs) (unit (drop 6 cs))) × (first_width cs ≡ 12)
-unfolding first_code_point first_width
-first_pair cs h = (
-  ap (λ v. cond v (surrogate_pair_char (unit cs) (unit (drop 6 cs)))
-      (cond (is_unicode cs) (unit cs) (cond (is_escaped cs) (escaped (char_of cs 1)) (char_of cs 0)))) h,
-  ap (λ v. cond v 12 (cond (is_unicode cs) 6 (cond (is_escaped cs) 2 1))) h,
-)
+first_pair cs h = by_tests cs h refl refl
 
 first_unit : (cs : List ℕ) → is_pair cs ≡ false → is_unicode cs ≡ true → (first_code_point cs ≡ unit cs)
     × (first_width cs ≡ 6)
-unfolding first_code_point first_width
-first_unit cs h g = (
-  ap (λ v. cond v (surrogate_pair_char (unit cs) (unit (drop 6 cs)))
-      (cond (is_unicode cs) (unit cs) (cond (is_escaped cs) (escaped (char_of cs 1)) (char_of cs 0)))) h
-      ∙ ap (λ v. cond v (unit cs) (cond (is_escaped cs) (escaped (char_of cs 1)) (char_of cs 0))) g,
-  ap (λ v. cond v 12 (cond (is_unicode cs) 6 (cond (is_escaped cs) 2 1))) h
-      ∙ ap (λ v. cond v 6 (cond (is_escaped cs) 2 1)) g,
-)
-
--- where no unit is at the front
-no_unit : (cs : List ℕ) → is_unicode cs ≡ false
-    → (first_code_point cs ≡ cond (is_escaped cs) (escaped (char_of cs 1)) (char_of cs 0))
-    × (first_width cs ≡ cond (is_escaped cs) 2 1)
-unfolding first_code_point first_width
-no_unit cs g =
-    let h = not_unicode cs g in (
-      ap (λ v. cond v (surrogate_pair_char (unit cs) (unit (drop 6 cs)))
-          (cond (is_unicode cs) (unit cs) (cond (is_escaped cs) (escaped (char_of cs 1)) (char_of cs 0)))) h
-          ∙ ap (λ v. cond v (unit cs) (cond (is_escaped cs) (escaped (char_of cs 1)) (char_of cs 0))) g,
-      ap (λ v. cond v 12 (cond (is_unicode cs) 6 (cond (is_escaped cs) 2 1))) h
-          ∙ ap (λ v. cond v 6 (cond (is_escaped cs) 2 1)) g,
-    )
+first_unit cs h g = by_tests cs h g refl
 
 first_letter : (cs : List ℕ) → is_unicode cs ≡ false → is_escaped cs ≡ true
     → (first_code_point cs ≡ escaped (char_of cs 1)) × (first_width cs ≡ 2)
-first_letter cs g a = let e = no_unit cs g in
-    (e.0 ∙ ap (λ v. cond v (escaped (char_of cs 1)) (char_of cs 0)) a, e.1 ∙ ap (λ v. cond v 2 1) a)
+first_letter cs g a = by_tests cs (not_unicode cs g) g a
 
 first_plain : (cs : List ℕ) → is_escaped cs ≡ false → (first_code_point cs ≡ char_of cs 0) × (first_width cs ≡ 1)
-first_plain cs a = let e = no_unit cs (not_escaped cs a) in
-    (e.0 ∙ ap (λ v. cond v (escaped (char_of cs 1)) (char_of cs 0)) a, e.1 ∙ ap (λ v. cond v 2 1) a)
+first_plain cs a = let g = not_escaped cs a in by_tests cs (not_unicode cs g) g a
 
 taken : {bs cs : List ℕ} {p : CodePoint} {x n : ℕ} → (first_code_point cs ≡ x) × (first_width cs ≡ n)
     → ReadsCodePoint bs cs x n p → ReadsCodePoint bs cs (first_code_point cs) (first_width cs) p
 taken {cs} e t = record { code = t.code ∙ sym e.0; rest = t.rest ∙ ap (λ m. drop m cs) (sym e.1) }
-
-pub pair_taken : {bs cs : List ℕ} {p : CodePoint} → is_pair cs ≡ true
-    → ReadsCodePoint bs cs (surrogate_pair_char (unit cs) (unit (drop 6 cs))) 12 p
-    → ReadsCodePoint bs cs (first_code_point cs) (first_width cs) p
-pair_taken {cs} h t = taken (first_pair cs h) t
-
-pub unit_taken : {bs cs : List ℕ} {p : CodePoint} → is_pair cs ≡ false → is_unicode cs ≡ true
-    → ReadsCodePoint bs cs (unit cs) 6 p → ReadsCodePoint bs cs (first_code_point cs) (first_width cs) p
-unit_taken {cs} h g t = taken (first_unit cs h g) t
-
-pub letter_taken : {bs cs : List ℕ} {p : CodePoint} → is_unicode cs ≡ false → is_escaped cs ≡ true
-    → ReadsCodePoint bs cs (escaped (char_of cs 1)) 2 p → ReadsCodePoint bs cs (first_code_point cs) (first_width cs) p
-letter_taken {cs} g a t = taken (first_letter cs g a) t
-
-pub plain_taken : {bs cs : List ℕ} {p : CodePoint} → is_escaped cs ≡ false → ReadsCodePoint bs cs (char_of cs 0) 1 p
-    → ReadsCodePoint bs cs (first_code_point cs) (first_width cs) p
-plain_taken {cs} a t = taken (first_plain cs a) t
 
 -- the text goes on after its first point
 points_drop : (n : ℕ) (cs : List ℕ) → code_points_after n cs ≡ code_points_after 0 (drop n cs)
@@ -226,29 +167,27 @@ unfolding code_points_after
 points_drop (suc n) (c ∷ cs) = points_drop n cs
 points_drop _ _ = refl
 
-width_some : (cs : List ℕ) → (n : ℕ) × (first_width cs ≡ suc n)
-unfolding first_width
-width_some cs =
-    elim (is_pair cs) as (λ v. (n : ℕ) × (cond v 12 (cond (is_unicode cs) 6 (cond (is_escaped cs) 2 1)) ≡ suc n)) [
-      | true ↦ (11, refl)
-      | false ↦ elim (is_unicode cs) as (λ v. (n : ℕ) × (cond v 6 (cond (is_escaped cs) 2 1) ≡ suc n)) [
-        | true ↦ (5, refl)
-        | false ↦ elim (is_escaped cs) as (λ v. (n : ℕ) × (cond v 2 1 ≡ suc n)) [ true ↦ (1, refl) | false ↦ (0, refl) ]
-      ]
-    ]
+width_some : (cs : List ℕ) → 0 < first_width cs
+width_some cs = by_bools (is_pair cs) (is_unicode cs) (is_escaped cs) refl refl refl
+  where
+    by_bools : (p u e : Bool) → is_pair cs ≡ p → is_unicode cs ≡ u → is_escaped cs ≡ e → 0 < first_width cs
+    by_bools true u e h g a = let w = (by_tests cs h g a).1 in omega arith
+    by_bools false true e h g a = let w = (by_tests cs h g a).1 in omega arith
+    by_bools false false true h g a = let w = (by_tests cs h g a).1 in omega arith
+    by_bools false false false h g a = let w = (by_tests cs h g a).1 in omega arith
 
-drop_width : (c : ℕ) (cs : List ℕ) {w : ℕ} (n : ℕ) → w ≡ suc n
+drop_width : (c : ℕ) (cs : List ℕ) (w : ℕ) → 0 < w
     → code_points_after (w - 1) cs ≡ code_points_after 0 (drop w (c ∷ cs))
-drop_width c cs {w} n h =
-    let k : w - 1 ≡ n = omega arith in
-    ap (λ m. code_points_after m cs) k ∙ points_drop n cs ∙ ap (λ m. code_points_after 0 (drop m (c ∷ cs))) (sym h)
+drop_width c cs zero h = absurd (omega arith)
+drop_width c cs (suc n) h =
+    let k : suc n - 1 ≡ n = omega arith in ap (λ m. code_points_after m cs) k ∙ points_drop n cs
 
 pub points_cons : (c : ℕ) (cs : List ℕ)
     → code_points_after 0 (c ∷ cs) ≡ first_code_point (c ∷ cs) ∷ code_points_after 0
     (drop (first_width (c ∷ cs)) (c ∷ cs))
 unfolding code_points_after
-points_cons c cs = let w = width_some (c ∷ cs) in
-    ap (λ ps. first_code_point (c ∷ cs) ∷ ps) (drop_width c cs w.0 w.1)
+points_cons c cs =
+    ap (λ ps. first_code_point (c ∷ cs) ∷ ps) (drop_width c cs (first_width (c ∷ cs)) (width_some (c ∷ cs)))
 
 pub points_nil : code_points_after 0 [] ≡ []
 unfolding code_points_after
@@ -258,16 +197,16 @@ points_nil = refl
 
 pub join_lone : {bs cs : List ℕ} {h : CodePoint} → is_high_surrogate h.code ≡ false → is_unicode cs ≡ true
     → ReadsCodePoint bs cs (unit cs) 6 h → ReadsCodePoint bs cs (first_code_point cs) (first_width cs) h
-join_lone {cs} n u t = unit_taken (not_high cs (ap is_high_surrogate (sym t.code) ∙ n)) u t
+join_lone {cs} n u t = taken (first_unit cs (not_high cs (ap is_high_surrogate (sym t.code) ∙ n)) u) t
 
 pub join_other : {bs cs : List ℕ} {h : CodePoint} → is_unicode (drop 6 cs) ≡ false → is_unicode cs ≡ true
     → ReadsCodePoint bs cs (unit cs) 6 h → ReadsCodePoint bs cs (first_code_point cs) (first_width cs) h
-join_other {cs} n u t = unit_taken (not_followed cs n) u t
+join_other {cs} n u t = taken (first_unit cs (not_followed cs n) u) t
 
 pub join_not_low : {bs cs : List ℕ} {h l : CodePoint} → ReadsCodePoint bs (drop 6 cs) (unit (drop 6 cs)) 6 l
     → is_low_surrogate l.code ≡ false → is_unicode cs ≡ true → ReadsCodePoint bs cs (unit cs) 6 h
     → ReadsCodePoint bs cs (first_code_point cs) (first_width cs) h
-join_not_low {cs} s n u t = unit_taken (not_low cs (ap is_low_surrogate (sym s.code) ∙ n)) u t
+join_not_low {cs} s n u t = taken (first_unit cs (not_low cs (ap is_low_surrogate (sym s.code) ∙ n)) u) t
 
 pub join_pair : {bs cs : List ℕ} {h l : CodePoint} → is_high_surrogate h.code ≡ true → is_unicode (drop 6 cs) ≡ true
     → ReadsCodePoint bs (drop 6 cs) (unit (drop 6 cs)) 6 l → is_low_surrogate l.code ≡ true → is_unicode cs ≡ true
@@ -275,8 +214,8 @@ pub join_pair : {bs cs : List ℕ} {h l : CodePoint} → is_high_surrogate h.cod
     → ReadsCodePoint bs cs (first_code_point cs) (first_width cs)
     (record { code = surrogate_pair_char h.code l.code; stop = l.stop })
 join_pair {cs} {l} m f s n u t =
-    pair_taken (pair_shown cs u (ap is_high_surrogate (sym t.code) ∙ m) f (ap is_low_surrogate (sym s.code) ∙ n))
-    (record {
+    taken (first_pair cs
+    (pair_shown cs u (ap is_high_surrogate (sym t.code) ∙ m) f (ap is_low_surrogate (sym s.code) ∙ n))) (record {
       code = ap (λ x. surrogate_pair_char x l.code) t.code ∙ ap (surrogate_pair_char (unit cs)) s.code;
       rest = s.rest ∙ drop-drop 6 6 cs;
     })
@@ -286,7 +225,7 @@ pub letter_read : {bs cs : List ℕ} {p q : CodePoint} {x : ℕ} → is_unicode 
     → x ≡ escaped q.code → ReadsCodePoint bs cs (first_code_point cs) (first_width cs)
     (record { code = x; stop = q.stop })
 letter_read {cs} n a t u e =
-    letter_taken n a (record { code = e ∙ ap escaped (u.code ∙ at_second cs); rest = rest_two t u })
+    taken (first_letter cs n a) (record { code = e ∙ ap escaped (u.code ∙ at_later 1 cs); rest = rest_two t u })
 
 -- ---- walks over characters and code points
 
@@ -298,7 +237,7 @@ pub plain_point : (bs : List ℕ) (i : ℕ) (f : CodePoint) → left bs i ≡ af
     → nat_eq f.code 92 ≡ false
     → ReadsCodePoint bs (left bs i) (first_code_point (left bs i)) (first_width (left bs i)) f
 plain_point bs i f h n = let t = char_first bs i f h in
-    plain_taken (ap (λ x. nat_eq x 92) (sym t.code) ∙ n) t
+    taken (first_plain (left bs i) (ap (λ x. nat_eq x 92) (sym t.code) ∙ n)) t
 
 pub escaped_point : (bs : List ℕ) (i : ℕ) (f : CodePoint) → left bs i ≡ after_read bs 0 (Some f)
     → nat_eq f.code 92 ≡ true → is_escaped (left bs i) ≡ true
@@ -393,20 +332,13 @@ code_points_between s = ap (λ bs. code_points_after 0 (chars bs)) (body_place s
 
 -- ---- the first byte between the quotes
 
-second_taken : (s : List ℕ) (n : ℕ) → 1 < n → get_or (take n s) 1 0 ≡ get_or s 1 0
-second_taken s zero h = absurd (omega arith)
-second_taken s (suc zero) h = absurd (omega arith)
-second_taken [] (suc (suc n)) h = refl
-second_taken (a ∷ []) (suc (suc n)) h = refl
-second_taken (a ∷ c ∷ s) (suc (suc n)) h = refl
-
 -- of a string that is not empty it is the first point, where it stands for itself
 text_front : (s : List ℕ) → 2 < length s → get_or s 1 0 < 128 → nat_eq (get_or s 1 0) 92 ≡ false → (ps : List ℕ)
     × (text s ≡ get_or s 1 0 ∷ ps)
 text_front s h l n =
     let m = length s - 1 in
     let bs = take m s in
-    let e : get_or bs 1 0 ≡ get_or s 1 0 = second_taken s m (omega arith) in
+    let e : get_or bs 1 0 ≡ get_or s 1 0 = get_or-take m s 1 0 (omega arith) in
     let k = length-take m s in
     let p = plain_code bs 1 (omega arith) (omega arith) (ap (λ c. nat_eq c 92) e ∙ n) in
     (code_points_from bs 2, sym (code_points_between s) ∙ p ∙ ap (λ c. c ∷ code_points_from bs 2) e)
@@ -458,19 +390,23 @@ stands_once (pair h i j k l m n o cs ps e f s) =
 
 -- ---- bytes that two strings share
 
+abbrev IsShared : ℕ → ℕ → Type 0
+IsShared x y = (x ≡ y) × (x < 128) × (nat_eq x 92 ≡ false)
+
+-- the same at places that are equal
+shared_at : (bs : List ℕ) (k i : ℕ) (ds : List ℕ) (l j : ℕ) → k ≡ i → l ≡ j → IsShared (get_or bs k 0) (get_or ds l 0)
+    → IsShared (get_or bs i 0) (get_or ds j 0)
+shared_at bs k i ds l j x y s =
+    subst (λ v. IsShared (get_or bs v 0) (get_or ds j 0)) x (subst (λ v. IsShared (get_or bs k 0) (get_or ds v 0)) y s)
+
 alike_on : (bs : List ℕ) (i : ℕ) (ds : List ℕ) (j n last m : ℕ) → AreAlike bs i ds j n → last ≤ n
     → AreAlike bs (i + last) ds (j + last) m → AreAlike bs i ds j (last + m)
 alike_on bs i ds j n last m a c b k l =
     elim (cases_lt k n) [
       | inl h ↦ a k h
       | inr g ↦
-          let e : i + last + (k - last) ≡ i + k = omega arith in
-          let f : j + last + (k - last) ≡ j + k = omega arith in
-          let s = b (k - last) (omega arith) in (
-            ap (λ x. get_or bs x 0) (sym e) ∙ s.0 ∙ ap (λ x. get_or ds x 0) f,
-            subst (λ x. get_or bs x 0 < 128) e s.1,
-            ap (λ x. nat_eq (get_or bs x 0) 92) (sym e) ∙ s.2,
-          )
+          shared_at bs (i + last + (k - last)) (i + k) ds (j + last + (k - last)) (j + k) (omega arith) (omega arith)
+          (b (k - last) (omega arith))
     ]
 
 pub alike_none : (bs : List ℕ) (i : ℕ) (ds : List ℕ) (j : ℕ) → StartAlike bs i ds j 0
@@ -497,24 +433,18 @@ pub alike_one_more : {bs : List ℕ} {i : ℕ} {ds : List ℕ} {j n : ℕ} → S
 alike_one_more {bs} {i} {ds} {j} {n} s h k same low other =
     alike_more n 1 s (omega arith) refl (omega arith) (omega arith) (λ l m.
     let z : l ≡ 0 = omega arith in
-    let x : i + n + l ≡ i + n = omega arith in
-    let y : j + n + l ≡ j + n = omega arith in (
-      ap (λ v. get_or bs v 0) x ∙ same ∙ ap (λ v. get_or ds v 0) (sym y),
-      subst (λ v. get_or bs v 0 < 128) (sym x) low,
-      ap (λ v. nat_eq (get_or bs v 0) 92) x ∙ other,
-    ))
+    shared_at bs (i + n) (i + n + l) ds (j + n) (j + n + l) (omega arith) (omega arith) (same, low, other))
 
 -- those behind the first one are alike too
 alike_behind : (bs : List ℕ) (i : ℕ) (ds : List ℕ) (j n : ℕ) → AreAlike bs i ds j (suc n)
     → AreAlike bs (i + 1) ds (j + 1) n
 alike_behind bs i ds j n a l m =
-    let e : i + suc l ≡ i + 1 + l = omega arith in
-    let f : j + suc l ≡ j + 1 + l = omega arith in
-    let s = a (suc l) (omega arith) in (
-      ap (λ v. get_or bs v 0) (sym e) ∙ s.0 ∙ ap (λ v. get_or ds v 0) f,
-      subst (λ v. get_or bs v 0 < 128) e s.1,
-      ap (λ v. nat_eq (get_or bs v 0) 92) (sym e) ∙ s.2,
-    )
+    shared_at bs (i + suc l) (i + 1 + l) ds (j + suc l) (j + 1 + l) (omega arith) (omega arith)
+    (a (suc l) (omega arith))
+
+alike_here : (bs : List ℕ) (i : ℕ) (ds : List ℕ) (j n : ℕ) → AreAlike bs i ds j (suc n)
+    → IsShared (get_or bs i 0) (get_or ds j 0)
+alike_here bs i ds j n a = shared_at bs (i + 0) i ds (j + 0) j (omega arith) (omega arith) (a 0 (omega arith))
 
 -- the code points that they share
 pub shared_front : (n : ℕ) (bs : List ℕ) (i : ℕ) (ds : List ℕ) (j : ℕ) → n ≤ length bs - i → n ≤ length ds - j
@@ -522,22 +452,15 @@ pub shared_front : (n : ℕ) (bs : List ℕ) (i : ℕ) (ds : List ℕ) (j : ℕ)
     × (code_points_from ds j ≡ f ++ code_points_from ds (j + n))
 shared_front zero bs i ds j h k a = ([], ap (code_points_from bs) (omega arith), ap (code_points_from ds) (omega arith))
 shared_front (suc n) bs i ds j h k a =
-    let x : i + 0 ≡ i = omega arith in
-    let y : j + 0 ≡ j = omega arith in
-    let s = a 0 (omega arith) in
-    let same : get_or bs i 0 ≡ get_or ds j 0 = ap (λ v. get_or bs v 0) (sym x) ∙ s.0 ∙ ap (λ v. get_or ds v 0) y in
-    let low : get_or bs i 0 < 128 = subst (λ v. get_or bs v 0 < 128) x s.1 in
-    let plain : nat_eq (get_or bs i 0) 92 ≡ false = ap (λ v. nat_eq (get_or bs v 0) 92) (sym x) ∙ s.2 in
-    let p = plain_code bs i (omega arith) low plain in
-    let q = plain_code ds j (omega arith) (subst (λ v. v < 128) same low) (ap (λ v. nat_eq v 92) (sym same) ∙ plain) in
+    let s = alike_here bs i ds j n a in
+    let p = plain_code bs i (omega arith) s.1 s.2 in
+    let q = plain_code ds j (omega arith) (subst (λ v. v < 128) s.0 s.1) (ap (λ v. nat_eq v 92) (sym s.0) ∙ s.2) in
     let r = shared_front n bs (i + 1) ds (j + 1) (omega arith) (omega arith) (alike_behind bs i ds j n a) in
     let e : i + 1 + n ≡ i + suc n = omega arith in
     let f : j + 1 + n ≡ j + suc n = omega arith in (
       get_or bs i 0 ∷ r.0,
       p ∙ ap (λ cs. get_or bs i 0 ∷ cs) (r.1 ∙ ap (λ v. r.0 ++ code_points_from bs v) e),
-      q
-          ∙ ap (λ cs. get_or ds j 0 ∷ cs) (r.2 ∙ ap (λ v. r.0 ++ code_points_from ds v) f)
-          ∙ ap (λ c. c ∷ r.0 ++ code_points_from ds (j + suc n)) (sym same),
+      q ∙ (λ k. sym s.0 k ∷ (r.2 ∙ ap (λ v. r.0 ++ code_points_from ds v) f) k),
     )
 
 -- plain bytes up to the ends of a string and of a text: they are the same
@@ -545,14 +468,10 @@ pub same_alike : (n : ℕ) (ws : List ℕ) (i : ℕ) (bs : List ℕ) (j : ℕ) �
     → AreAlike ws i bs j n → are_same (code_points_from bs j) (left ws i) ≡ true
 same_alike zero ws i bs j h k a = text_ends bs ws j i (omega arith) (omega arith)
 same_alike (suc n) ws i bs j h k a =
-    let x : i + 0 ≡ i = omega arith in
-    let y : j + 0 ≡ j = omega arith in
-    let s = a 0 (omega arith) in
-    let same : get_or ws i 0 ≡ get_or bs j 0 = ap (λ v. get_or ws v 0) (sym x) ∙ s.0 ∙ ap (λ v. get_or bs v 0) y in
-    let low : get_or ws i 0 < 128 = subst (λ v. get_or ws v 0 < 128) x s.1 in
-    let plain : nat_eq (get_or ws i 0) 92 ≡ false = ap (λ v. nat_eq (get_or ws v 0) 92) (sym x) ∙ s.2 in
-    let p = plain_character ws i (omega arith) low in
-    let q = plain_code bs j (omega arith) (subst (λ v. v < 128) same low) (ap (λ v. nat_eq v 92) (sym same) ∙ plain) in
+    let s = alike_here ws i bs j n a in
+    let same = s.0 in
+    let p = plain_character ws i (omega arith) s.1 in
+    let q = plain_code bs j (omega arith) (subst (λ v. v < 128) same s.1) (ap (λ v. nat_eq v 92) (sym same) ∙ s.2) in
     let one : nat_eq (get_or bs j 0) (get_or ws i 0) ≡ true = grind (arith, nat_tests, same) in
     let rest = same_alike n ws (i + 1) bs (j + 1) (omega arith) (omega arith) (alike_behind ws i bs j n a) in
     (λ l. are_same (q l) (p l)) ∙ ap (λ b. b && are_same (code_points_from bs (j + 1)) (left ws (i + 1))) one ∙ rest

@@ -5,6 +5,27 @@ use Rattle.std.proofs.lemmas.List.Sums.{prefix_len-le-length, prefix_len_passes}
 use Rattle.std.proofs.lemmas.Simd.{bit_mask_l, mask_l-lt, get_or-chunk, leading_from_mask_l, tops_compared, bitmask_splat, zip2_splat, zip2_splat_left, mask_l-mod, map-map, length-chunk, none_from_empty_mask, trailing_mask_l, run_in_chunk_le, run_in_chunk_fails}
 use Rattle.std.proofs.Math.Pow.{pow_mono}
 
+-- ---- where a mask marks those that p holds of, among the n bytes from i on
+
+module _ (p : ℕ → Bool) (b : List ℕ) (i n : ℕ) {m : ℕ} (few : n ≤ 64) (room : i + n ≤ length b)
+    (e : m ≡ mask_l (map p (chunk i n b))) where
+  pub none_marked : m ≡ 0 → (k : ℕ) → i ≤ k → k < i + n → p (byte b k) ≡ false
+  none_marked z = none_from_empty_mask p b i n 0 room (sym e ∙ z)
+
+  marks_counted : (m ≡ 0 → ⊥) → count_trailing_zeros 64 m ≡ prefix_len (λ x. not (p x)) (chunk i n b)
+  marks_counted s =
+      let some : 0 < m = omega arith in
+      ap (count_trailing_zeros 64) e
+      ∙ trailing_mask_l p 64 (chunk i n b) (omega (arith, length-chunk i n b room)) (subst (λ x. 0 < x) e some)
+
+  pub marks_within : (m ≡ 0 → ⊥) → count_trailing_zeros 64 m ≤ n
+  marks_within s = run_in_chunk_le p b i n (count_trailing_zeros 64 m) 0 room (marks_counted s)
+
+  pub not_marked : (m ≡ 0 → ⊥) → (k : ℕ) → i ≤ k → k < i + count_trailing_zeros 64 m → p (byte b k) ≡ false
+  not_marked s = run_in_chunk_fails p b i n (count_trailing_zeros 64 m) 0 room (marks_counted s)
+
+-- ---- digits
+
 -- how far a byte is above `0`, where bytes below it come last
 abbrev above : ℕ → ℕ
 above x = (x + 208) % 256
@@ -20,7 +41,7 @@ digit_from x l h = let e : (x + 208) % 256 ≤ 9 = grind (arith, nat_tests) in t
     test x a b = grind (arith, nat_tests)
 
 -- the marks of the m lanes above n
-marks_over : {m : ℕ} (n : ℕ) (v : List ℕ) → length v ≡ m → m ≤ 64
+pub marks_over : {m : ℕ} (n : ℕ) (v : List ℕ) → length v ≡ m → m ≤ 64
     → mask_l (map (top 7) (zip2 (λ a c. cond (ltb a c) 255 0) (replicate m n) v)) % 2 ^ 64
     ≡ mask_l (map (λ y. ltb n y) v)
 marks_over {m} n v long few =
@@ -77,31 +98,19 @@ block_marked b i room small =
           (sym (bit_mask_l (map other v) k) ∙ ap (λ n. n / 2 ^ k % 2) (sym e) ∙ h));
     }
 
-pub all_digits : (b : List ℕ) (i : ℕ) → i + 16 ≤ length b → ((k : ℕ) → byte b k < 256) → digit_marks b i ≡ 0 → (k : ℕ)
-    → i ≤ k → k < i + 16 → is_digit (byte b k) ≡ true
+pub all_digits : (b : List ℕ) (i : ℕ) → i + 16 ≤ length b → ((k : ℕ) → byte b k < 256) → digit_marks b i ≡ 0
+    → (k : ℕ) → i ≤ k → k < i + 16 → is_digit (byte b k) ≡ true
 all_digits b i room small e k l h =
-    digit_from (byte b k) (small k)
-    (none_from_empty_mask other b i 16 0 room (sym (digit_marks_are b i room) ∙ e) k l h)
-
-digits_counted : (b : List ℕ) (i : ℕ) → i + 16 ≤ length b → (digit_marks b i ≡ 0 → ⊥)
-    → count_trailing_zeros 64 (digit_marks b i) ≡ prefix_len (λ x. not (other x)) (chunk i 16 b)
-digits_counted b i room n =
-    let e = digit_marks_are b i room in
-    let long = length-chunk i 16 b room in
-    let some : 0 < digit_marks b i = omega arith in
-    ap (count_trailing_zeros 64) e ∙ trailing_mask_l other 64 (chunk i 16 b) (omega arith) (subst (λ m. 0 < m) e some)
+    digit_from (byte b k) (small k) (none_marked other b i 16 (omega arith) room (digit_marks_are b i room) e k l h)
 
 pub digits_within : (b : List ℕ) (i : ℕ) → i + 16 ≤ length b → (digit_marks b i ≡ 0 → ⊥)
     → count_trailing_zeros 64 (digit_marks b i) ≤ 16
-digits_within b i room n =
-    run_in_chunk_le other b i 16 (count_trailing_zeros 64 (digit_marks b i)) 0 room (digits_counted b i room n)
+digits_within b i room n = marks_within other b i 16 (omega arith) room (digit_marks_are b i room) n
 
 pub digits_before : (b : List ℕ) (i : ℕ) → i + 16 ≤ length b → ((k : ℕ) → byte b k < 256) → (digit_marks b i ≡ 0 → ⊥)
     → (k : ℕ) → i ≤ k → k < i + count_trailing_zeros 64 (digit_marks b i) → is_digit (byte b k) ≡ true
 digits_before b i room small n k l h =
-    digit_from (byte b k) (small k)
-    (run_in_chunk_fails other b i 16 (count_trailing_zeros 64 (digit_marks b i)) 0 room (digits_counted b i room n)
-    k l h)
+    digit_from (byte b k) (small k) (not_marked other b i 16 (omega arith) room (digit_marks_are b i room) n k l h)
 
 -- ---- bytes of a string
 
@@ -165,26 +174,16 @@ plain_marks_are b i room =
 pub all_plain : (b : List ℕ) (i : ℕ) → i + 16 ≤ length b → plain_marks b i ≡ 0 → (k : ℕ) → i ≤ k → k < i + 16
     → is_plain (byte b k) ≡ true
 all_plain b i room e k l h =
-    plain_from (byte b k) (none_from_empty_mask special b i 16 0 room (sym (plain_marks_are b i room) ∙ e) k l h)
-
-plain_counted : (b : List ℕ) (i : ℕ) → i + 16 ≤ length b → (plain_marks b i ≡ 0 → ⊥)
-    → count_trailing_zeros 64 (plain_marks b i) ≡ prefix_len (λ x. not (special x)) (chunk i 16 b)
-plain_counted b i room n =
-    let e = plain_marks_are b i room in
-    let long = length-chunk i 16 b room in
-    let some : 0 < plain_marks b i = omega arith in
-    ap (count_trailing_zeros 64) e ∙ trailing_mask_l special 64 (chunk i 16 b) (omega arith) (subst (λ m. 0 < m) e some)
+    plain_from (byte b k) (none_marked special b i 16 (omega arith) room (plain_marks_are b i room) e k l h)
 
 pub plain_within : (b : List ℕ) (i : ℕ) → i + 16 ≤ length b → (plain_marks b i ≡ 0 → ⊥)
     → count_trailing_zeros 64 (plain_marks b i) ≤ 16
-plain_within b i room n =
-    run_in_chunk_le special b i 16 (count_trailing_zeros 64 (plain_marks b i)) 0 room (plain_counted b i room n)
+plain_within b i room n = marks_within special b i 16 (omega arith) room (plain_marks_are b i room) n
 
 pub plain_before : (b : List ℕ) (i : ℕ) → i + 16 ≤ length b → (plain_marks b i ≡ 0 → ⊥) → (k : ℕ) → i ≤ k
     → k < i + count_trailing_zeros 64 (plain_marks b i) → is_plain (byte b k) ≡ true
 plain_before b i room n k l h =
-    plain_from (byte b k) (run_in_chunk_fails special b i 16 (count_trailing_zeros 64 (plain_marks b i)) 0 room
-    (plain_counted b i room n) k l h)
+    plain_from (byte b k) (not_marked special b i 16 (omega arith) room (plain_marks_are b i room) n k l h)
 
 -- ---- bytes of whole numbers and of commas
 

@@ -1,5 +1,5 @@
 -- What the pass over a line says of the line.
-use Rattle.cj_spans.proofs.Common.{◌≡◌, ℕ, suc, ◌+◌, ◌^◌, ◌<◌, ◌≤◌, List, [], ◌++◌, length, IsTrue, Option, Some, None, Result, Ok, Err, refl, sym, ap, subst, arith, rules, ◌∙◌, ◌⊎◌, inl, inr, take-length, eq-or-lt_of_le, cases_lt, cases_order, IsValidUpTo, BoundedList, Becomes, LineFault, NotUtf8, Syntax, TooDeep, Kind, Token, Mode, Ready, FirstItem, After, FirstName, NextName, AfterName, Tree, scalar, size, nest, byte, atom_at, White, Value, atom, Padded, padded, Json, JsonPrefix, IsJsonPrefix, SyntaxAt, stuck, short, DeepAt, NowhereDeep, flatten, spans_of, forest, IsScanOf, KeepsLaw, AreUnmarked, State, state, in_atom, step, settle, end_atom, lex_kind, Reaches, here, on, start, Sticks, SticksAt, SinksAt, Accepts, RunAnswers, AreLinked}
+use Rattle.cj_spans.proofs.Common.{◌≡◌, ℕ, suc, ◌+◌, ◌^◌, ◌<◌, ◌≤◌, List, [], ◌++◌, length, max, IsTrue, Option, Some, None, Result, Ok, Err, refl, sym, ap, subst, arith, rules, ◌∙◌, ◌⊎◌, inl, inr, take-length, eq-or-lt_of_le, cases_lt, cases_order, IsValidUpTo, BoundedList, Becomes, LineFault, NotUtf8, Syntax, TooDeep, Kind, Token, Mode, Ready, FirstItem, After, FirstName, NextName, AfterName, Tree, scalar, size, nest, byte, atom_at, White, Value, atom, Padded, padded, Json, JsonPrefix, IsJsonPrefix, SyntaxAt, stuck, short, DeepAt, NowhereDeep, flatten, spans_of, forest, IsScanOf, KeepsLaw, AreUnmarked, State, state, in_atom, step, settle, end_atom, lex_kind, Reaches, here, on, start, Sticks, SticksAt, SinksAt, Accepts, RunAnswers, AreLinked}
 use Rattle.std.specs.Prelude.{IsSomeAnd, OnOk, IsErrOf, IsOk, IsUtf8}
 use Rattle.std.proofs.lemmas.Str.{utf8_valid_len-IsValidUpTo}
 use Rattle.cj_spans.proofs.Spellings.{none_some, some_same}
@@ -280,80 +280,81 @@ scan_unmarked {b} {new} k few_bytes a =
     let few : size t < 2 ^ 31 = let o = ap (λ (ns : List ℕ). length ns) a.closed in omega arith in
     subst AreUnmarked (sym s.tokens) (json_unmarked b t s.json few)
 
-module _ (X : Type 0) (b : List ℕ) (old : BoundedList ℕ) (tokens : BoundedList Token) (new : BoundedList ℕ) where
-  pub run_unmarked : {empty : BoundedList Token} (r : Result X LineFault) → RunAnswers b old r tokens new
-      → KeepsLaw b empty tokens old new → length b ≤ 1073741824 → OnOk r (AreUnmarked tokens.elements)
-  run_unmarked (Ok v) a k few_bytes = scan_unmarked k few_bytes a
-  run_unmarked (Err e) a k few_bytes = search rules
+-- a pass over the line, which began with lists that were cleared
+pub record Ran (b : List ℕ) (old new : BoundedList Token) (old_stack new_stack : BoundedList ℕ)
+    (r : Result (Unit {0}) LineFault) : Type 0 where
+  pub empty : BoundedList Token
+  pub empty_stack : BoundedList ℕ
+  pub cleared : Cleared old empty
+  pub cleared_stack : Cleared old_stack empty_stack
+  pub answer : RunAnswers b empty_stack r new new_stack
+  pub law : KeepsLaw b empty new empty_stack new_stack
+  pub short : length b ≤ 1073741824
 
-  pub run_deep : {r : Result X LineFault} (i : ℕ) → RunAnswers b old r tokens new → r ≡ Err (TooDeep i)
-      → DeepAt b old.limit i
-  run_deep i a e = sinks_deep (subst (λ z. RunAnswers b old z tokens new) e a).0
-
-  pub run_syntax : {r : Result X LineFault} (i : ℕ) → RunAnswers b old r tokens new → r ≡ Err (Syntax i) → SyntaxAt b i
-      × NowhereDeep b old.limit
-  run_syntax i a e = let s : SticksAt b old.limit i = (subst (λ z. RunAnswers b old z tokens new) e a).0 in
-      (sticks_syntax s.sticks, sticks_nowhere b i s)
-
-  pub run_utf8 : {r : Result X LineFault} (i : ℕ) → RunAnswers b old r tokens new → r ≡ Err (NotUtf8 i) → ⊥
-  run_utf8 i a e = subst (λ z. RunAnswers b old z tokens new) e a
-
-  pub finds_deep : (r : Result X LineFault) (i : ℕ) → RunAnswers b old r tokens new → DeepAt b old.limit i
-      → r ≡ Err (TooDeep i)
-  finds_deep (Ok v) i a d = absurd (accepts_nowhere a i d)
-  finds_deep (Err (NotUtf8 j)) i a d = absurd a
-  finds_deep (Err (Syntax j)) i a d = absurd (sticks_nowhere b j a.0 i d)
-  finds_deep (Err (TooDeep j)) i a d =
-      ap (λ n. Err (TooDeep n)) (one_deep (sinks_deep a.0) d)
-
-  pub finds_syntax : (r : Result X LineFault) {i : ℕ} → RunAnswers b old r tokens new → NowhereDeep b old.limit
-      → SyntaxAt b i → r ≡ Err (Syntax i)
-  finds_syntax (Ok v) a n s =
-      let z = spells (inv_reaches a.settles.reached) tokens.elements a.deepest a.settles.settles in
-      absurd (json_no_syntax z.tree z.json s)
-  finds_syntax (Err (NotUtf8 j)) a n s = absurd a
-  finds_syntax (Err (Syntax j)) a n s = ap (λ k. Err (Syntax k)) (one_syntax (sticks_syntax a.0.sticks) s)
-  finds_syntax (Err (TooDeep j)) a n s = absurd (n j (sinks_deep a.0))
-
-  pub finds_tree : (r : Result X LineFault) (t : Tree) → RunAnswers b old r tokens new → Json b t → nest t ≤ old.limit
-      → IsOk r
-  finds_tree (Ok v) t a j h = search rules
-  finds_tree (Err (NotUtf8 i)) t a j h = absurd a
-  finds_tree (Err (Syntax i)) t a j h = absurd (json_no_syntax t j (sticks_syntax a.0.sticks))
-  finds_tree (Err (TooDeep i)) t a j h = absurd (json_nowhere b old.limit t j h i (sinks_deep a.0))
-
--- the same under the limit that the stack had before it was emptied
-module _ (X : Type 0) (b : List ℕ) (old empty new : BoundedList Token) (old_stack empty_stack new_stack : BoundedList ℕ)
-    (c : Cleared old empty) (d : Cleared old_stack empty_stack) where
-  pub answers_tree : (r : Result X LineFault) → RunAnswers b empty_stack r new new_stack
-      → KeepsLaw b empty new empty_stack new_stack → length b ≤ 1073741824
+module _ {b : List ℕ} {old new : BoundedList Token} {old_stack new_stack : BoundedList ℕ} where
+  pub ran_tree : (r : Result (Unit {0}) LineFault) → Ran b old new old_stack new_stack r
       → OnOk r ((t : Tree) × IsScanOf b t old new old_stack new_stack)
-  answers_tree (Ok v) a k few_bytes = scan_of c d k few_bytes a
-  answers_tree (Err e) a k few_bytes = search rules
+  ran_tree (Ok v) h = scan_of h.cleared h.cleared_stack h.law h.short h.answer
+  ran_tree (Err e) h = search rules
 
-  pub answers_deep : {r : Result X LineFault} (i : ℕ) → RunAnswers b empty_stack r new new_stack → r ≡ Err (TooDeep i)
-      → DeepAt b old_stack.limit i
-  answers_deep i a e = subst (λ n. DeepAt b n i) d.limit (run_deep X b empty_stack new new_stack i a e)
+  pub ran_unmarked : (r : Result (Unit {0}) LineFault) → Ran b old new old_stack new_stack r
+      → OnOk r (AreUnmarked new.elements)
+  ran_unmarked (Ok v) h = scan_unmarked h.law h.short h.answer
+  ran_unmarked (Err e) h = search rules
 
-  pub answers_syntax : {r : Result X LineFault} (i : ℕ) → RunAnswers b empty_stack r new new_stack → r ≡ Err (Syntax i)
-      → SyntaxAt b i × NowhereDeep b old_stack.limit
-  answers_syntax i a e =
-      subst (λ n. SyntaxAt b i × NowhereDeep b n) d.limit (run_syntax X b empty_stack new new_stack i a e)
-
-  pub answers_finds_deep : (r : Result X LineFault) {i : ℕ} → RunAnswers b empty_stack r new new_stack
+  pub finds_deep : (r : Result (Unit {0}) LineFault) {i : ℕ} → Ran b old new old_stack new_stack r
       → DeepAt b old_stack.limit i → r ≡ Err (TooDeep i)
-  answers_finds_deep r {i} a h =
-      finds_deep X b empty_stack new new_stack r i a (subst (λ n. DeepAt b n i) (sym d.limit) h)
+  finds_deep r {i} h d = by_answer r h.empty_stack h.answer (subst (λ n. DeepAt b n i) (sym h.cleared_stack.limit) d)
+    where
+      by_answer : (r : Result (Unit {0}) LineFault) (ks : BoundedList ℕ) → RunAnswers b ks r new new_stack
+          → DeepAt b ks.limit i → r ≡ Err (TooDeep i)
+      by_answer (Ok v) ks a d = absurd (accepts_nowhere a i d)
+      by_answer (Err (NotUtf8 j)) ks a d = absurd a
+      by_answer (Err (Syntax j)) ks a d = absurd (sticks_nowhere b j a.0 i d)
+      by_answer (Err (TooDeep j)) ks a d = ap (λ n. Err (TooDeep n)) (one_deep (sinks_deep a.0) d)
 
-  pub answers_finds_syntax : (r : Result X LineFault) {i : ℕ} → RunAnswers b empty_stack r new new_stack
+  pub finds_syntax : (r : Result (Unit {0}) LineFault) {i : ℕ} → Ran b old new old_stack new_stack r
       → NowhereDeep b old_stack.limit → SyntaxAt b i → r ≡ Err (Syntax i)
-  answers_finds_syntax r a n s =
-      finds_syntax X b empty_stack new new_stack r a (subst (λ n. NowhereDeep b n) (sym d.limit) n) s
+  finds_syntax r {i} h n s = by_answer r h.empty_stack h.answer (subst (NowhereDeep b) (sym h.cleared_stack.limit) n)
+    where
+      by_answer : (r : Result (Unit {0}) LineFault) (ks : BoundedList ℕ) → RunAnswers b ks r new new_stack
+          → NowhereDeep b ks.limit → r ≡ Err (Syntax i)
+      by_answer (Ok v) ks a n =
+          let z = spells (inv_reaches a.settles.reached) new.elements a.deepest a.settles.settles in
+          absurd (json_no_syntax z.tree z.json s)
+      by_answer (Err (NotUtf8 j)) ks a n = absurd a
+      by_answer (Err (Syntax j)) ks a n = ap (λ k. Err (Syntax k)) (one_syntax (sticks_syntax a.0.sticks) s)
+      by_answer (Err (TooDeep j)) ks a n = absurd (n j (sinks_deep a.0))
 
-  pub answers_finds_tree : (r : Result X LineFault) (t : Tree) → RunAnswers b empty_stack r new new_stack → Json b t
+  pub finds_tree : (r : Result (Unit {0}) LineFault) (t : Tree) → Ran b old new old_stack new_stack r → Json b t
       → nest t ≤ old_stack.limit → IsOk r
-  answers_finds_tree r t a j h =
-      finds_tree X b empty_stack new new_stack r t a j (subst (λ n. nest t ≤ n) (sym d.limit) h)
+  finds_tree r t h j l = by_answer r h.empty_stack h.answer (subst (λ n. nest t ≤ n) (sym h.cleared_stack.limit) l)
+    where
+      by_answer : (r : Result (Unit {0}) LineFault) (ks : BoundedList ℕ) → RunAnswers b ks r new new_stack
+          → nest t ≤ ks.limit → IsOk r
+      by_answer (Ok v) ks a l = search rules
+      by_answer (Err (NotUtf8 i)) ks a l = absurd a
+      by_answer (Err (Syntax i)) ks a l = absurd (json_no_syntax t j (sticks_syntax a.0.sticks))
+      by_answer (Err (TooDeep i)) ks a l = absurd (json_nowhere b ks.limit t j l i (sinks_deep a.0))
+
+  module _ {r : Result (Unit {0}) LineFault} (h : Ran b old new old_stack new_stack r) (i : ℕ) where
+    pub ran_sinks : r ≡ Err (TooDeep i) → (s : SinksAt b old_stack.limit i)
+        × (new_stack.peak ≡ max h.empty_stack.peak s.last.deepest)
+    ran_sinks e =
+        subst (λ n. (s : SinksAt b n i) × (new_stack.peak ≡ max h.empty_stack.peak s.last.deepest))
+        h.cleared_stack.limit (subst (λ z. RunAnswers b h.empty_stack z new new_stack) e h.answer)
+
+    pub ran_sticks : r ≡ Err (Syntax i) → (s : SticksAt b old_stack.limit i)
+        × (new_stack.peak ≡ max h.empty_stack.peak s.sticks.last.deepest)
+    ran_sticks e =
+        subst (λ n. (s : SticksAt b n i) × (new_stack.peak ≡ max h.empty_stack.peak s.sticks.last.deepest))
+        h.cleared_stack.limit (subst (λ z. RunAnswers b h.empty_stack z new new_stack) e h.answer)
+
+    pub ran_syntax : r ≡ Err (Syntax i) → SyntaxAt b i × NowhereDeep b old_stack.limit
+    ran_syntax e = let s = (ran_sticks e).0 in (sticks_syntax s.sticks, sticks_nowhere b i s)
+
+    pub ran_utf8 : r ≡ Err (NotUtf8 i) → ⊥
+    ran_utf8 e = subst (λ z. RunAnswers b h.empty_stack z new new_stack) e h.answer
 
 -- ---- UTF-8
 

@@ -1,5 +1,5 @@
 -- Walks over the parts of a container, by the indices of tokens.
-use Rattle.cj_spans.proofs.Common.{◌≡◌, ℕ, zero, suc, ◌+◌, ◌-◌, ◌%◌, ◌^◌, ◌<◌, ◌≤◌, List, [], ◌∷◌, length, take, drop, slice_get, slice_range, true, inl, inr, Some, refl, sym, ap, subst, arith, ◌∙◌, first_so, second_so, cases_lt, length-drop, drop-drop, slice_get_within, nat_tests, Token, Kind, Null, Truth, Number, Text, Array, Object, Tree, start_of, size, total_size, kind_by, held, past, node, forest, byte, Span, span_at, spans_of, kind_of, items_of, members_of, AreOf, AreNamed, AreNested, AreLinked, AreLone, AreWhole, ShowMembers, StopBefore, before, is_name, are_members, link_of, shown_between, items_end, members_end, AreSized, tree_at, pairs_of}
+use Rattle.cj_spans.proofs.Common.{◌≡◌, ℕ, zero, suc, ◌+◌, ◌-◌, ◌%◌, ◌^◌, ◌<◌, ◌≤◌, List, [], ◌∷◌, length, take, drop, slice_get, true, inl, inr, Some, refl, sym, ap, subst, arith, ◌∙◌, first_so, second_so, cases_lt, length-drop, length-take, drop-drop, slice_get_within, nat_tests, Token, Kind, Null, Truth, Number, Text, Array, Object, Tree, start_of, size, total_size, kind_by, held, past, node, forest, byte, Span, span_at, spans_of, kind_of, items_of, members_of, AreOf, AreNamed, AreNested, AreLinked, AreLone, AreWhole, ShowMembers, StopBefore, before, is_name, are_members, link_of, shown_between, items_end, members_end, AreSized, tree_at, pairs_of}
 use Rattle.cj_spans.proofs.Forests.{held_on, past_on, start-node}
 use Rattle.cj_spans.proofs.Links.{before_length, before_one, before_zero}
 use Rattle.cj_spans.proofs.Sizes.{are_sized, before_walked, before_stopped}
@@ -33,190 +33,165 @@ past-held (t ∷ ts) i j h =
       ]
     ]
 
--- ---- the tokens that start before a place show the trees up to it
+-- ---- a token more at the front
 
-taken_one : (b : List ℕ) (t : Token) (ts : List Token) (j n : ℕ) → t.start < j → t.stop ≤ j
-    → forest b (take n (spans_of ts)) ≡ held j (forest b (spans_of ts))
-    → forest b (take (suc n) (spans_of (t ∷ ts))) ≡ held j (forest b (spans_of (t ∷ ts)))
-unfolding forest
-taken_one b t ts j n l o e =
-    let k = kind_by (byte b t.start) in
-    let f = forest b (spans_of ts) in
-    let s = start-node b k t.start t.stop (held t.stop f) in
-    ap (λ z. node b k t.start t.stop (held t.stop z) ∷ past t.stop z) e
-    ∙ ap (λ z. node b k t.start t.stop z ∷ past t.stop (held j f)) (held-held f t.stop j o)
-    ∙ ap (λ z. node b k t.start t.stop (held t.stop f) ∷ z) (past-held f t.stop j o)
-    ∙ sym (held_on (node b k t.start t.stop (held t.stop f)) (past t.stop f) j (omega arith))
+-- the trees that a token shows before others, which show the trees f
+abbrev built : List ℕ → Token → List Tree → List Tree
+built b t f = node b (kind_by (byte b t.start)) t.start t.stop (held t.stop f) ∷ past t.stop f
 
-taken_none : (b : List ℕ) (t : Token) (ts : List Token) (j : ℕ) → j ≤ t.start
-    → [] ≡ held j (forest b (spans_of (t ∷ ts)))
-unfolding forest
-taken_none b t ts j g =
-    let k = kind_by (byte b t.start) in
-    let f = forest b (spans_of ts) in
-    let s = start-node b k t.start t.stop (held t.stop f) in
-    sym (held_none (node b k t.start t.stop (held t.stop f)) (past t.stop f) j (omega arith))
+module _ (b : List ℕ) (t : Token) (f : List Tree) (j : ℕ) where
+  first_start : start_of (node b (kind_by (byte b t.start)) t.start t.stop (held t.stop f)) ≡ t.start
+  first_start = start-node b (kind_by (byte b t.start)) t.start t.stop (held t.stop f)
 
-forest_empty : (b : List ℕ) (ss : List Span) (n : ℕ) → n ≡ 0 → forest b (take n ss) ≡ []
-unfolding forest
-forest_empty b ss n e = ap (λ m. forest b (take m ss)) e
+  held_built : t.start < j → t.stop ≤ j → held j (built b t f) ≡ built b t (held j f)
+  held_built l o =
+      let k = kind_by (byte b t.start) in
+      held_on (node b k t.start t.stop (held t.stop f)) (past t.stop f) j (omega (arith, first_start))
+      ∙ (λ i. node b k t.start t.stop (sym (held-held f t.stop j o) i) ∷ sym (past-held f t.stop j o) i)
 
-forest_nil : (b : List ℕ) (n k : ℕ) → forest b (take n (drop k (spans_of []))) ≡ []
+  past_built : t.start < j → t.stop ≤ j → past j (built b t f) ≡ past j f
+  past_built l o =
+      past_on (node b (kind_by (byte b t.start)) t.start t.stop (held t.stop f)) (past t.stop f) j
+      (omega (arith, first_start)) ∙ past-past f t.stop j o
+
+  held_none_built : j ≤ t.start → held j (built b t f) ≡ []
+  held_none_built g =
+      held_none (node b (kind_by (byte b t.start)) t.start t.stop (held t.stop f)) (past t.stop f) j
+      (omega (arith, first_start))
+
+  past_none_built : j ≤ t.start → past j (built b t f) ≡ built b t f
+  past_none_built g =
+      past_here (node b (kind_by (byte b t.start)) t.start t.stop (held t.stop f)) (past t.stop f) j
+      (omega (arith, first_start))
+
+-- ---- tokens at the front and the trees up to a place, where what starts before it stops before it
+
+abbrev Stops : ℕ → List Token → Type 0
+Stops j [] = Unit {0}
+Stops j (t ∷ ts) = (t.start < j → t.stop ≤ j) × Stops j ts
+
+stops_from : (ts : List Token) (k j : ℕ) → StopBefore ts k j → Stops j (drop k ts)
+stops_from [] zero j s = tt
+stops_from [] (suc k) j s = tt
+stops_from (t ∷ ts) (suc k) j s = stops_from ts k j (λ i u h g l. s (suc i) u (omega arith) g l)
+stops_from (t ∷ ts) zero j s =
+    (s 0 t (omega arith) refl, stops_from ts 0 j (λ i u h g l. s (suc i) u (omega arith) g l))
+
+spans_of-drop : (k : ℕ) (ts : List Token) → spans_of (drop k ts) ≡ drop k (spans_of ts)
+spans_of-drop zero ts = refl
+spans_of-drop (suc k) [] = refl
+spans_of-drop (suc k) (t ∷ ts) = spans_of-drop k ts
+
+forest_nil : (b : List ℕ) (n k : ℕ) → forest b (take n (drop k [])) ≡ []
 unfolding forest
 forest_nil b zero zero = refl
 forest_nil b zero (suc k) = refl
 forest_nil b (suc n) zero = refl
 forest_nil b (suc n) (suc k) = refl
 
-forest_past : (b : List ℕ) (k : ℕ) → forest b (drop k (spans_of [])) ≡ []
+-- those that start before the place show the trees up to it
+taken : (b : List ℕ) (ts : List Token) (j n : ℕ) → Stops j ts → n ≡ before j ts
+    → forest b (take n (spans_of ts)) ≡ held j (forest b (spans_of ts))
 unfolding forest
-forest_past b zero = refl
-forest_past b (suc k) = refl
-
-taken : (b : List ℕ) (ts : List Token) (k j n : ℕ) → StopBefore ts k j → n ≡ before j (drop k ts)
-    → forest b (take n (drop k (spans_of ts))) ≡ held j (forest b (drop k (spans_of ts)))
-taken b [] k j n s e = forest_nil b n k ∙ sym (ap (held j) (forest_past b k))
-taken b (t ∷ ts) (suc k) j n s e = taken b ts k j n (λ i u h g l. s (suc i) u (omega arith) g l) e
-taken b (t ∷ ts) zero j n s e =
+taken b [] j n s e = forest_nil b n 0
+taken b (t ∷ ts) j n s e =
     elim (cases_lt t.start j) [
       | inl l ↦ ap (λ m. forest b (take m (spans_of (t ∷ ts)))) (e ∙ before_one j t ts l)
-          ∙ taken_one b t ts j (before j ts) l (s 0 t (omega arith) refl l)
-          (taken b ts 0 j (before j ts) (λ i u h g l. s (suc i) u (omega arith) g l) refl)
-      | inr g ↦ forest_empty b (spans_of (t ∷ ts)) n (e ∙ before_zero j t ts g) ∙ taken_none b t ts j g
+          ∙ ap (built b t) (taken b ts j (before j ts) s.1 refl)
+          ∙ sym (held_built b t (forest b (spans_of ts)) j l (s.0 l))
+      | inr g ↦ ap (λ m. forest b (take m (spans_of (t ∷ ts)))) (e ∙ before_zero j t ts g)
+          ∙ sym (held_none_built b t (forest b (spans_of ts)) j g)
     ]
 
--- ---- more tokens than those do not change the trees up to the place, and show what comes past it
-
-held_one : (b : List ℕ) (t : Token) (ts : List Token) (j n : ℕ) → t.start < j → t.stop ≤ j
+-- more tokens than those do not change the trees up to the place
+held_more : (b : List ℕ) (ts : List Token) (j n : ℕ) → Stops j ts → before j ts ≤ n
     → held j (forest b (take n (spans_of ts))) ≡ held j (forest b (spans_of ts))
-    → held j (forest b (take (suc n) (spans_of (t ∷ ts)))) ≡ held j (forest b (spans_of (t ∷ ts)))
 unfolding forest
-held_one b t ts j n l o e =
-    let k = kind_by (byte b t.start) in
+held_more b [] j n s e = ap (held j) (forest_nil b n 0)
+held_more b (t ∷ ts) j zero s e =
+    elim (cases_lt t.start j) [
+      | inl l ↦ let f = before_one j t ts l in absurd (omega arith)
+      | inr g ↦ sym (held_none_built b t (forest b (spans_of ts)) j g)
+    ]
+held_more b (t ∷ ts) j (suc n) s e =
     let f = forest b (spans_of ts) in
     let g = forest b (take n (spans_of ts)) in
-    let s = start-node b k t.start t.stop (held t.stop f) in
-    let r = start-node b k t.start t.stop (held t.stop g) in
-    let parts = sym (held-held g t.stop j o) ∙ ap (held t.stop) e ∙ held-held f t.stop j o in
-    let rest = sym (past-held g t.stop j o) ∙ ap (past t.stop) e ∙ past-held f t.stop j o in
-    held_on (node b k t.start t.stop (held t.stop g)) (past t.stop g) j (omega arith)
-    ∙ ap (λ z. node b k t.start t.stop z ∷ held j (past t.stop g)) parts
-    ∙ ap (λ z. node b k t.start t.stop (held t.stop f) ∷ z) rest
-    ∙ sym (held_on (node b k t.start t.stop (held t.stop f)) (past t.stop f) j (omega arith))
-
-held_first : (b : List ℕ) (t : Token) (ts : List Token) (j n : ℕ) → j ≤ t.start
-    → held j (forest b (take n (spans_of (t ∷ ts)))) ≡ []
-unfolding forest
-held_first b t ts j zero g = refl
-held_first b t ts j (suc n) g =
-    let k = kind_by (byte b t.start) in
-    let f = forest b (take n (spans_of ts)) in
-    let s = start-node b k t.start t.stop (held t.stop f) in
-    held_none (node b k t.start t.stop (held t.stop f)) (past t.stop f) j (omega arith)
-
-held_more : (b : List ℕ) (ts : List Token) (k j n : ℕ) → StopBefore ts k j → before j (drop k ts) ≤ n
-    → held j (forest b (take n (drop k (spans_of ts)))) ≡ held j (forest b (drop k (spans_of ts)))
-unfolding forest
-held_more b [] k j n s e = ap (held j) (forest_nil b n k) ∙ sym (ap (held j) (forest_past b k))
-held_more b (t ∷ ts) (suc k) j n s e = held_more b ts k j n (λ i u h g l. s (suc i) u (omega arith) g l) e
-held_more b (t ∷ ts) zero j zero s e =
     elim (cases_lt t.start j) [
-      | inl l ↦ let f = before_one j t ts l in
-          absurd (omega arith)
-      | inr g ↦ taken_none b t ts j g
-    ]
-held_more b (t ∷ ts) zero j (suc n) s e =
-    elim (cases_lt t.start j) [
-      | inl l ↦ let f = before_one j t ts l in
-          held_one b t ts j n l (s 0 t (omega arith) refl l)
-          (held_more b ts 0 j n (λ i u h g l. s (suc i) u (omega arith) g l) (omega arith))
-      | inr g ↦ held_first b t ts j (suc n) g ∙ taken_none b t ts j g
+      | inl l ↦ let m = before_one j t ts l in
+          held_built b t g j l (s.0 l) ∙ ap (built b t) (held_more b ts j n s.1 (omega arith))
+          ∙ sym (held_built b t f j l (s.0 l))
+      | inr h ↦ held_none_built b t g j h ∙ sym (held_none_built b t f j h)
     ]
 
-past_one : (b : List ℕ) (t : Token) (ts : List Token) (j n : ℕ) → t.start < j → t.stop ≤ j
-    → past j (forest b (take (suc n) (spans_of (t ∷ ts)))) ≡ past j (forest b (take n (spans_of ts)))
+-- and show what comes past it
+past_more : (b : List ℕ) (ts : List Token) (j n m p : ℕ) → Stops j ts → m ≡ before j ts → n ≡ m + p
+    → past j (forest b (take n (spans_of ts))) ≡ forest b (take p (drop m (spans_of ts)))
 unfolding forest
-past_one b t ts j n l o =
-    let k = kind_by (byte b t.start) in
-    let f = forest b (take n (spans_of ts)) in
-    let s = start-node b k t.start t.stop (held t.stop f) in
-    past_on (node b k t.start t.stop (held t.stop f)) (past t.stop f) j (omega arith) ∙ past-past f t.stop j o
-
-past_first : (b : List ℕ) (t : Token) (ts : List Token) (j n : ℕ) → j ≤ t.start
-    → past j (forest b (take n (spans_of (t ∷ ts)))) ≡ forest b (take n (spans_of (t ∷ ts)))
-unfolding forest
-past_first b t ts j zero g = refl
-past_first b t ts j (suc n) g =
-    let k = kind_by (byte b t.start) in
-    let f = forest b (take n (spans_of ts)) in
-    let s = start-node b k t.start t.stop (held t.stop f) in
-    past_here (node b k t.start t.stop (held t.stop f)) (past t.stop f) j (omega arith)
-
-past_more : (b : List ℕ) (ts : List Token) (k j n m p r : ℕ) → StopBefore ts k j → m ≡ before j (drop k ts) → n ≡ m + p
-    → r ≡ k + m → past j (forest b (take n (drop k (spans_of ts)))) ≡ forest b (take p (drop r (spans_of ts)))
-past_more b [] k j n m p r s e l o = ap (past j) (forest_nil b n k) ∙ sym (forest_nil b p r)
-past_more b (t ∷ ts) (suc k) j n m p zero s e l o = absurd (omega arith)
-past_more b (t ∷ ts) (suc k) j n m p (suc r) s e l o =
-    past_more b ts k j n m p r (λ i u h g l. s (suc i) u (omega arith) g l) e l (omega arith)
-past_more b (t ∷ ts) zero j n zero p r s e l o =
+past_more b [] j n m p s e l = ap (past j) (forest_nil b n 0) ∙ sym (forest_nil b p m)
+past_more b (t ∷ ts) j n zero p s e l =
     elim (cases_lt t.start j) [
       | inl a ↦ let f = before_one j t ts a in absurd (omega arith)
-      | inr g ↦ let f : n ≡ p = omega arith in
-          past_first b t ts j n g ∙ ap (λ q. forest b (take n (drop q (spans_of (t ∷ ts))))) (sym o)
-          ∙ ap (λ q. forest b (take q (drop r (spans_of (t ∷ ts))))) f
+      | inr g ↦ past_first n g ∙ ap (λ q. forest b (take q (spans_of (t ∷ ts)))) (omega arith)
     ]
-past_more b (t ∷ ts) zero j zero (suc m) p r s e l o = absurd (omega arith)
-past_more b (t ∷ ts) zero j (suc n) (suc m) p zero s e l o = absurd (omega arith)
-past_more b (t ∷ ts) zero j (suc n) (suc m) p (suc r) s e l o =
+  where
+    past_first : (n : ℕ) → j ≤ t.start
+        → past j (forest b (take n (spans_of (t ∷ ts)))) ≡ forest b (take n (spans_of (t ∷ ts)))
+    past_first zero g = refl
+    past_first (suc n) g = past_none_built b t (forest b (take n (spans_of ts))) j g
+past_more b (t ∷ ts) j zero (suc m) p s e l = absurd (omega arith)
+past_more b (t ∷ ts) j (suc n) (suc m) p s e l =
     elim (cases_lt t.start j) [
-      | inl a ↦ let f = before_one j t ts a in past_one b t ts j n a (s 0 t (omega arith) refl a)
-          ∙ past_more b ts 0 j n m p r (λ i u h g l. s (suc i) u (omega arith) g l) (omega arith) (omega arith)
-          (omega arith)
+      | inl a ↦ let f = before_one j t ts a in
+          past_built b t (forest b (take n (spans_of ts))) j a (s.0 a)
+          ∙ past_more b ts j n m p s.1 (omega arith) (omega arith)
       | inr g ↦ let f = before_zero j t ts g in absurd (omega arith)
     ]
 
 -- ---- walks
 
 pub shown_none : (b : List ℕ) (ts : List Token) (k n : ℕ) → n ≤ k → shown_between b ts k n ≡ []
-shown_none b ts k n h = forest_empty b (drop k (spans_of ts)) (n - k) (omega arith)
+unfolding forest
+shown_none b ts k n h = let e : n - k ≡ 0 = omega arith in ap (λ m. forest b (take m (drop k (spans_of ts)))) e
 
 -- the parts of a token's tree are what the tokens up to its link show
 pub shown_parts : (b : List ℕ) (ts : List Token) (k : ℕ) {r : ℕ} (t : Token) → AreNested ts → slice_get ts k ≡ Some t
     → r ≡ k + 1 + before t.stop (drop (k + 1) ts)
     → shown_between b ts (k + 1) r ≡ held t.stop (forest b (drop (k + 1) (spans_of ts)))
-shown_parts b ts k {r} t nested h e = taken b ts (k + 1) t.stop (r - (k + 1)) (nested k t h) (omega arith)
+shown_parts b ts k {r} t nested h e =
+    let P : List Span → Type 0 = λ ss. forest b (take (r - (k + 1)) ss) ≡ held t.stop (forest b ss) in
+    subst P (spans_of-drop (k + 1) ts)
+    (taken b (drop (k + 1) ts) t.stop (r - (k + 1)) (stops_from ts (k + 1) t.stop (nested k t h)) (omega arith))
 
 drop_next : (ts : List Token) (k : ℕ) (t : Token) → slice_get ts k ≡ Some t
-    → drop k (spans_of ts) ≡ span_at t.start t.stop ∷ drop (suc k) (spans_of ts)
+    → drop k (spans_of ts) ≡ span_at t.start t.stop ∷ drop (k + 1) (spans_of ts)
 drop_next [] k t h = cc
 drop_next (u ∷ ts) zero t h = let e : u ≡ t = cc in ap (λ (v : Token). span_at v.start v.stop ∷ spans_of ts) e
-drop_next (u ∷ ts) (suc k) t h = drop_next ts k t h
-
-shown_one : (b : List ℕ) (ts : List Token) (k n : ℕ) (t : Token) → slice_get ts k ≡ Some t → k < n
-    → let f = forest b (take (n - (k + 1)) (drop (k + 1) (spans_of ts))) in
-    shown_between b ts k n ≡ node b (kind_by (byte b t.start)) t.start t.stop (held t.stop f) ∷ past t.stop f
-unfolding forest
-shown_one b ts k n t h l =
-    let next : suc k ≡ k + 1 = omega arith in
-    let f : n - k ≡ suc (n - (k + 1)) = omega arith in
-    let first = drop_next ts k t h ∙ ap (λ m. span_at t.start t.stop ∷ drop m (spans_of ts)) next in
-    ap (λ m. forest b (take m (drop k (spans_of ts)))) f ∙ ap (λ xs. forest b (take (suc (n - (k + 1))) xs)) first
+drop_next (u ∷ ts) (suc k) t h =
+    let e : suc k + 1 ≡ suc (k + 1) = omega arith in
+    drop_next ts k t h ∙ ap (λ m. span_at t.start t.stop ∷ drop m (spans_of (u ∷ ts))) (sym e)
 
 -- one step of a walk
 pub walk_on : (b : List ℕ) (ts : List Token) (k n : ℕ) {r : ℕ} (t : Token) → AreNested ts → slice_get ts k ≡ Some t
     → r ≡ k + 1 + before t.stop (drop (k + 1) ts) → r ≤ n
     → shown_between b ts k n ≡ tree_at b (spans_of ts) k ∷ shown_between b ts r n
+unfolding forest
 walk_on b ts k n {r} t nested h e l =
-    let s = nested k t h in
-    let m = before t.stop (drop (k + 1) ts) in
+    let us = drop (k + 1) ts in
+    let s = stops_from ts (k + 1) t.stop (nested k t h) in
+    let ss = drop (k + 1) (spans_of ts) in
+    let m = before t.stop us in
     let p = n - (k + 1) in
-    let w = below_at b ts k t h in
-    shown_one b ts k n t h (omega arith)
-    ∙ ap (λ z. node b (kind_by (byte b t.start)) t.start t.stop z
-    ∷ past t.stop (forest b (take p (drop (k + 1) (spans_of ts))))) (held_more b ts (k + 1) t.stop p s (omega arith))
-    ∙ ap (λ z. node b (kind_by (byte b t.start)) t.start t.stop (held t.stop (forest b (drop (k + 1) (spans_of ts))))
-    ∷ z) (past_more b ts (k + 1) t.stop p m (n - r) r s refl (omega arith) e)
-    ∙ ap (λ z. z ∷ shown_between b ts r n) (sym w.tree)
+    let f : n - k ≡ suc p = omega arith in
+    let parts : held t.stop (forest b (take p ss)) ≡ held t.stop (forest b ss) =
+    subst (λ z. held t.stop (forest b (take p z)) ≡ held t.stop (forest b z)) (spans_of-drop (k + 1) ts)
+    (held_more b us t.stop p s (omega arith)) in
+    let rest : past t.stop (forest b (take p ss)) ≡ forest b (take (n - r) (drop m ss)) =
+    subst (λ z. past t.stop (forest b (take p z)) ≡ forest b (take (n - r) (drop m z))) (spans_of-drop (k + 1) ts)
+    (past_more b us t.stop p m (n - r) s refl (omega arith)) in
+    ap (λ q. forest b (take q (drop k (spans_of ts)))) f ∙ ap (λ z. forest b (take (suc p) z)) (drop_next ts k t h)
+    ∙ (λ i. node b (kind_by (byte b t.start)) t.start t.stop (parts i) ∷ rest i)
+    ∙ (λ i. sym (below_at b ts k t h).tree i ∷ forest b (take (n - r) (drop-drop m (k + 1) (spans_of ts) i)))
+    ∙ ap (λ q. tree_at b (spans_of ts) k ∷ forest b (take (n - r) (drop q (spans_of ts)))) (sym e)
 
 -- ---- tokens that are whole
 
@@ -300,7 +275,7 @@ name_first n (t ∷ ts) h = first_so _ _ h
 
 lone_name : (n : Tree) (ts : List Tree) → are_members (n ∷ ts) ≡ true → ts ≡ [] → ⊥
 lone_name n [] h e = cc
-lone_name n (t ∷ ts) h e = cc
+lone_name n _ h e = cc
 
 members_on : (n t : Tree) (ts : List Tree) → are_members (n ∷ t ∷ ts) ≡ true → are_members ts ≡ true
 members_on n t ts h = second_so _ _ h
@@ -374,22 +349,14 @@ member_on b ts k n r nested linked lone w named l e =
 
 items-node : (b : List ℕ) (k : Kind) (i j l : ℕ) {ts : List Tree} (shown : ℕ → List Tree) → shown l ≡ ts → shown 0 ≡ []
     → shown (items_end k l) ≡ items_of (node b k i j ts)
-items-node b Null i j l shown e z = z
-items-node b Truth i j l shown e z = z
-items-node b Number i j l shown e z = z
-items-node b Text i j l shown e z = z
 items-node b Array i j l {ts} shown e z = e ∙ sym (list-items_from ts)
-items-node b Object i j l shown e z = z
+items-node b _ i j l shown e z = z
 
 members-node : (b : List ℕ) (k : Kind) (i j l : ℕ) {ts : List Tree} (shown : ℕ → List Tree)
     → (k ≡ Object → are_members ts ≡ true) → shown l ≡ ts → shown 0 ≡ []
     → pairs_of (shown (members_end k l)) ≡ members_of (node b k i j ts)
-members-node b Null i j l shown h e z = ap pairs_of z
-members-node b Truth i j l shown h e z = ap pairs_of z
-members-node b Number i j l shown h e z = ap pairs_of z
-members-node b Text i j l shown h e z = ap pairs_of z
-members-node b Array i j l shown h e z = ap pairs_of z
 members-node b Object i j l {ts} shown h e z = ap pairs_of e ∙ list-members_from ts (h refl)
+members-node b _ i j l shown h e z = ap pairs_of z
 
 named-node : (k : Kind) (l : ℕ) {ts : List Tree} (shown : ℕ → List Tree) → (k ≡ Object → are_members ts ≡ true)
     → shown l ≡ ts → shown 0 ≡ [] → are_members (shown (members_end k l)) ≡ true
@@ -462,16 +429,9 @@ members_from_link b ts k l {n} {r} nested linked named inside e f g =
 
 pub few_trees : (b : List ℕ) (ts : List Token) (k n : ℕ) → length (shown_between b ts k n) ≤ length ts
 few_trees b ts k n =
-    let l = length-forest b (slice_range (spans_of ts) k n) in let m = length-slice (spans_of ts) k (n - k) in
-    let s = length-spans_of ts in omega arith
-  where
-    length-slice : (ss : List Span) (k m : ℕ) → length (take m (drop k ss)) ≤ length ss
-    length-slice ss zero zero = omega arith
-    length-slice [] zero (suc m) = omega arith
-    length-slice (s ∷ ss) zero (suc m) = let l = length-slice ss zero m in omega arith
-    length-slice [] (suc k) zero = omega arith
-    length-slice [] (suc k) (suc m) = omega arith
-    length-slice (s ∷ ss) (suc k) m = let l = length-slice ss k m in omega arith
+    let ss = drop k (spans_of ts) in
+    let l = length-forest b (take (n - k) ss) in
+    omega (arith, length-take (n - k) ss, length-drop k (spans_of ts), length-spans_of ts)
 
 pub few_pairs : (b : List ℕ) (ts : List Token) (k n : ℕ) → length (pairs_of (shown_between b ts k n)) ≤ length ts
 few_pairs b ts k n = let l = length-pairs (shown_between b ts k n) in let m = few_trees b ts k n in omega arith
@@ -513,16 +473,8 @@ walk_behind b ts (suc j) k m n nested linked sized w few e =
 
 -- what a walk shows is no more values and names than tokens
 pub small_trees : (b : List ℕ) (ts : List Token) (k n : ℕ) → total_size (shown_between b ts k n) ≤ n - k
-small_trees b ts k n = let l = forest_small b (slice_range (spans_of ts) k n) in
-    let m = length-range (spans_of ts) k (n - k) in omega arith
-  where
-    length-range : (ss : List Span) (k m : ℕ) → length (take m (drop k ss)) ≤ m
-    length-range ss zero zero = omega arith
-    length-range [] zero (suc m) = omega arith
-    length-range (s ∷ ss) zero (suc m) = let l = length-range ss zero m in omega arith
-    length-range [] (suc k) zero = omega arith
-    length-range [] (suc k) (suc m) = omega arith
-    length-range (s ∷ ss) (suc k) m = length-range ss k m
+small_trees b ts k n = let ss = drop k (spans_of ts) in
+    let l = forest_small b (take (n - k) ss) in omega (arith, length-take (n - k) ss)
 
 items_end_low : (r : Kind) (l : ℕ) → items_end r l ≤ l
 items_end_low Null l = omega arith

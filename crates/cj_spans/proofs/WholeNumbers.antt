@@ -2,42 +2,9 @@
 use Rattle.cj_spans.proofs.Common.{◌≡◌, ℕ, suc, ◌+◌, ◌<◌, ◌≤◌, List, [], ◌∷◌, ◌++◌, length, true, false, nat_eq, Option, Some, None, refl, sym, ap, subst, arith, ◌∙◌, ◌⊎◌, inl, inr, cond-false, IfSome, option_map, nat_tests, Number, Token, Lex, Minus, Whole, Zero, Mode, Ready, FirstItem, After, is_white_space, byte, token_at, State, state, in_atom, moved, step, lex_start, lex_step, Continues, still, further, ComesTo, BeginsValue, IsNumberUpTo, EndsItem, is_digit}
 use Rattle.cj_spans.proofs.Runs.{idle, atom_ends, IsEnd, comma, bracket}
 use Rattle.cj_spans.proofs.Atoms.{ends_ok}
+use Rattle.cj_spans.proofs.Places.{step_atom}
 use Rattle.cj_spans.proofs.Signs.{step_on}
 use Rattle.cj_spans.proofs.Standing.{settles_both}
-
--- ---- one step of the machine
-
-not_at : (c n : ℕ) → (c ≡ n → ⊥) → nat_eq c n ≡ false
-not_at c n h = grind (arith, nat_tests)
-
-not_white : (c : ℕ) → 45 ≤ c → is_white_space c ≡ false
-not_white c h =
-    rw (
-      not_at c 32 (λ e. omega arith),
-      not_at c 9 (λ e. omega arith),
-      not_at c 10 (λ e. omega arith),
-      not_at c 13 (λ e. omega arith),
-    ) refl
-
--- a minus or a digit begins a number where a value may begin
-number_begins : (m : Mode) (c : ℕ) (x : Lex) (ks : List ℕ) (ts : List Token) (i p : ℕ) → BeginsValue m → (45 ≤ c)
-    × (c ≤ 57) → lex_start c ≡ Some x → step c (idle m ks ts i p) ≡ Some (state (in_atom After i x) ks ts (suc i) p)
-number_begins Ready c x ks ts i p v d h =
-    let low = d.0 in let high = d.1 in
-    let s = idle Ready ks ts i p in
-    cond-false (is_white_space c) _ _ (not_white c low)
-    ∙ cond-false (nat_eq c 91) _ _ (not_at c 91 (λ e. omega arith))
-    ∙ cond-false (nat_eq c 123) _ _ (not_at c 123 (λ e. omega arith))
-    ∙ ap (option_map (λ y. moved (in_atom After i y) s)) h
-number_begins FirstItem c x ks ts i p v d h =
-    let low = d.0 in let high = d.1 in
-    let s = idle FirstItem ks ts i p in
-    cond-false (is_white_space c) _ _ (not_white c low)
-    ∙ cond-false (nat_eq c 93) _ _ (not_at c 93 (λ e. omega arith))
-    ∙ cond-false (nat_eq c 91) _ _ (not_at c 91 (λ e. omega arith))
-    ∙ cond-false (nat_eq c 123) _ _ (not_at c 123 (λ e. omega arith))
-    ∙ ap (option_map (λ y. moved (in_atom After i y) s)) h
-number_begins _ c x ks ts i p v d h = absurd v
 
 -- ---- one number
 
@@ -53,7 +20,7 @@ pub number_read : {b : List ℕ} (s : State) (m : Mode) (ks : List ℕ) (ts : Li
 number_read {b} s m ks ts {i} {k} p n w v q h =
     let below = n.order in let inside = n.within in
     let r = step_on (state (in_atom After i n.first) ks ts (suc i) p) h (omega arith)
-    (number_begins m (byte b i) n.first ks ts i p v n.sign n.begins) in
+    (step_atom (byte b i) n.first m ks ts i p v n.begins) in
     settles_both r (ends_ok i p Number After ks ts n.goes
     (inr (atom_ends n.last Number n.done (ended (byte b k) w))) n.done q)
 

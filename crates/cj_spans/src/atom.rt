@@ -52,6 +52,7 @@ fn read_on(line: &[u8], place: usize, first: Lex) -> Reach
 
 /// Returns whether four hexadecimal digits are here.
 #[inline(always)]
+#[tactic(auto, using(crate::proofs::Scalars::goes_hex))]
 fn has_hex(line: &[u8], place: usize) -> bool
     requires { place + 4 ≤ length line.now }
     ensures { IsTrue result → GoesTo line.now place Hex4 (place + 4) InString }
@@ -64,6 +65,7 @@ fn has_hex(line: &[u8], place: usize) -> bool
 
 /// Returns where the escape that begins here in a string ends. None if no valid escape begins here.
 #[inline(always)]
+#[tactic(auto, using(crate::proofs::Scalars::goes_escape, crate::proofs::Scalars::goes_unicode))]
 fn escape_stop(line: &[u8], place: usize) -> Option<usize>
     requires { place ≤ length line.now }
     ensures { IfSome result (λ k. (place < k) × GoesTo line.now place InString k InString) }
@@ -118,6 +120,7 @@ fn read_string(line: &[u8], place: usize) -> Reach
 
 /// Returns whether a point and a digit are here.
 #[inline(always)]
+#[tactic(auto, using(crate::proofs::Scalars::goes_fraction))]
 fn begins_fraction(line: &[u8], place: usize) -> bool
     requires { place ≤ length line.now }
     ensures { IsTrue result → (x : LexOf) → lex_step_of x 46 ≡ Some Point

@@ -49,6 +49,7 @@ pub fn find_beyond_ascii(line: &[u8], place: usize) -> Option<usize>
 
 /// Returns the place of the first byte that is no digit, among the 16 from `place` on.
 #[inline(always)]
+#[tactic(auto, using(crate::proofs::Vectors::all_digits, crate::proofs::Vectors::digits_within, crate::proofs::Vectors::digits_before))]
 pub fn find_other(line: &[u8], place: usize) -> Option<usize>
     requires { place + 16 ≤ length line.now }
     ensures found { IfSome result (λ n. (place ≤ n) × (n ≤ place + 16)
@@ -70,6 +71,7 @@ const NUMBERS: usize = 32;
 
 /// Returns a number with bit `k` set if the byte at `place + k` is no digit, for 32 bytes.
 #[inline(always)]
+#[tactic(auto, using(crate::proofs::Vectors::block_marked))]
 fn mark_block(line: &[u8], place: usize) -> u64
     requires { place + 32 ≤ length line.now }
     ensures { AreMarkedTo line.now place (place + 32) result }
@@ -101,6 +103,7 @@ const COMMA_TO_NINE: u8 = 13;
 /// Returns a number with bit `k` set if the byte at `place + k` cannot be in an array of whole
 /// numbers, for 16 bytes.
 #[inline(always)]
+#[tactic(auto, using(crate::proofs::Vectors::signs_above))]
 fn mark_foreign(line: &[u8], place: usize) -> u64
     requires { place + 16 ≤ length line.now }
     ensures { (j k : ℕ) → result < 2 ^ j → j ≤ k → k < 16 → IsWholeSign (byte_of line.now (place + k)) }
@@ -134,6 +137,7 @@ pub fn are_whole_signs(line: &[u8], from: usize, to: usize) -> bool
 
 /// Returns the place of the first byte that is not plain in a string, among the 16 from `place` on.
 #[inline(always)]
+#[tactic(auto, using(crate::proofs::Vectors::all_plain, crate::proofs::Vectors::plain_within, crate::proofs::Vectors::plain_before))]
 pub fn find_special(line: &[u8], place: usize) -> Option<usize>
     requires { place + 16 ≤ length line.now }
     ensures found { IfSome result (λ n. (place ≤ n) × (n ≤ place + 16)

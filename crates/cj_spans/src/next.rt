@@ -10,6 +10,7 @@ use crate::token::Token;
 
 /// Returns the first token, from this index on, that does not start before the place, or the number
 /// of tokens.
+#[tactic(auto, using(crate::proofs::Sizes::before_stopped, crate::proofs::Sizes::before_end))]
 fn first_from(tokens: &[Token], from: usize, stop: u32) -> usize
     requires { from ≤ length tokens.now }
     ensures first { result ≡ from + before stop (drop from tokens.now) }
@@ -31,6 +32,7 @@ fn first_from(tokens: &[Token], from: usize, stop: u32) -> usize
 /// It uses places and no links: it passes over each token that starts before the value ends. A walk
 /// by links needs no such search. This one is for tokens whose links cannot be relied on, and takes
 /// a step for each part of the value.
+#[tactic(auto, using(crate::proofs::Sizes::past_tree))]
 pub fn slow_next(line: &[u8], tokens: &[Token], index: u32) -> u32
     requires scanned { AreOf line.now tokens.now }
     requires short { length line.now ≤ 1073741824 }

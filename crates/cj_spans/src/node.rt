@@ -169,6 +169,7 @@ impl<'a> Doc<'a> {
     }
 
     /// Returns the value that the line is.
+    #[tactic(auto, unfolding(crate::specs::View::tree, crate::specs::View::document, crate::specs::View::line_of, crate::specs::View::document_line, crate::specs::View::source_of, crate::specs::View::document_source))]
     pub fn root(self) -> Node<'a>
         ensures tree { tree result ≡ document self.entry }
         ensures line { line_of result ≡ document_line self.entry }
@@ -181,6 +182,7 @@ impl<'a> Doc<'a> {
     }
 
     /// Returns the line, borrowed for as long as [`Doc::of`] borrowed it.
+    #[tactic(auto, unfolding(crate::specs::View::document_line))]
     pub fn line(self) -> &'a [u8]
         ensures { result.now ≡ document_line self.entry }
     {
@@ -209,6 +211,7 @@ impl<'a> Node<'a> {
 
     /// Returns the place of its first byte in the line, from 0. For a string that is the opening
     /// quote.
+    #[tactic(auto, using(crate::proofs::Views::start_shown), unfolding(crate::specs::View::tree))]
     pub fn start(self) -> u64
         ensures { result ≡ start_of (tree self.entry) }
     {
@@ -216,6 +219,7 @@ impl<'a> Node<'a> {
     }
 
     /// Returns its bytes in the line, as they are spelled there.
+    #[tactic(auto, using(crate::proofs::Views::spelling_shown), unfolding(crate::specs::View::tree, crate::specs::View::line_of))]
     pub fn bytes(self) -> &'a [u8]
         ensures spelling { result.now ≡ spelling_of (line_of self.entry) (tree self.entry) }
         ensures filled { 0 < length result.now }
@@ -226,6 +230,7 @@ impl<'a> Node<'a> {
 
     /// Returns the line that it is in.
     #[inline(always)]
+    #[tactic(auto, unfolding(crate::specs::View::line_of))]
     pub fn line(self) -> &'a [u8]
         ensures { result.now ≡ line_of self.entry }
     {
@@ -407,6 +412,7 @@ impl<'a> Node<'a> {
 
     /// Returns the node with this number in the same line, or the last node if there is none. So
     /// any number is allowed, for example in a comparison that a sort uses.
+    #[tactic(auto, unfolding(crate::specs::View::tree, crate::specs::View::source_of, crate::specs::View::tree_in))]
     pub fn at(self, number: u32) -> Node<'a>
         ensures tree { tree result ≡ tree_in (source_of self.entry) number }
         ensures source { source_of result ≡ source_of self.entry }
@@ -591,6 +597,7 @@ impl<'a> Node<'a> {
 
     /// Returns the node of this number, as [`Node::at`] does. None if there is no number.
     #[inline(always)]
+    #[tactic(auto, unfolding(crate::specs::View::line_of, crate::specs::View::source_of))]
     pub fn at_if(self, number: Option<u32>) -> Option<Node<'a>>
         ensures tree { option_map tree result ≡ option_map (tree_in (source_of self.entry)) number }
         ensures line { IfSome result (λ n. line_of n ≡ line_of self.entry) }

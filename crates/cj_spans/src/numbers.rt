@@ -43,6 +43,7 @@ fn digits_stop(line: &[u8], place: usize) -> Option<usize>
 /// Does what [`number_stop`] does, for a minus, for any count of digits, and near the end of the
 /// line.
 #[inline(never)]
+#[tactic(auto, using(crate::proofs::WholeNumbers::behind_minus_stop))]
 fn any_number_stop(line: &[u8], place: usize) -> Option<usize>
     requires within { place < length line.now }
     ensures { IfSome result (λ k. IsNumberUpTo line.now place k) }

@@ -107,6 +107,7 @@ fn long_char(bytes: &[u8], place: usize) -> CodePoint
 
 /// Returns the UTF-8 character at a place (RFC 3629, section 3). None if there is none.
 #[inline(always)]
+#[tactic(auto, using(crate::proofs::Texts::chars_past, crate::proofs::Texts::lead_one))]
 fn first_char(bytes: &[u8], place: usize) -> Option<CodePoint>
     ensures char { left bytes.now place ≡ after_read bytes.now 0 result }
     ensures place { IfSome result (λ p. (place < p.stop) × (p.stop ≤ length bytes.now)) }
@@ -366,6 +367,7 @@ fn read_escape(bytes: &[u8], place: usize) -> CodePoint
 
 /// Returns the code point at a place. Its first character has been read.
 #[inline(always)]
+#[tactic(auto, using(crate::proofs::Texts::escaped_point))]
 fn code_point_of(bytes: &[u8], place: usize, first: CodePoint) -> CodePoint
     requires { left bytes.now place ≡ after_read bytes.now 0 (Some first) }
     ensures { let cs = left bytes.now place in
@@ -387,6 +389,7 @@ pub(crate) struct CodePoints<'a> {
 
 impl<'a> CodePoints<'a> {
     /// Returns the code points of a string. `spelling` includes its quotes.
+    #[tactic(auto, using(crate::proofs::Texts::code_points_between))]
     pub(crate) fn of(spelling: &'a [u8]) -> CodePoints<'a>
         requires { 0 < length spelling.now }
         ensures { code_points_left result ≡ text spelling.now }

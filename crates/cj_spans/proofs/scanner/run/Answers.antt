@@ -1,5 +1,5 @@
 use Rattle.cj_spans.proofs.Common.{arith, suc, subst, sym, InArray, InObject}
-use Rattle.cj_spans.proofs.Standing.{standing_first, standing_small, standing_room, standing_step, standing_law, standing_fault, stepped_small, stepped_room, followed, stepped_law, stepped_fault, ended_law, ended_fault, not_so}
+use Rattle.cj_spans.proofs.Standing.{standing_first, standing_small, standing_room, standing_step, standing_law, standing_fault, stepped_small, stepped_room, stepped_on, stepped_law, stepped_fault, ended_law, ended_fault, not_so}
 use Rattle.cj_spans.proofs.Signs.{array_next, object_next, values_next, names_next}
 use Rattle.cj_spans.proofs.scanner.run.Goals as goal
 
@@ -23,7 +23,7 @@ returns-in-Err c =
     let s = c.loop-place.invariant in
     let e = c.in-Err.ensures in
     record {
-      answer = standing_fault (Unit {0}) c.read_byte.new.tokens c.in-Err.fault s c.loop-place-test.true e.answer
+      answer = standing_fault s (Unit {0}) c.read_byte.new.tokens c.in-Err.fault c.loop-place-test.true e.answer
           e.err.1;
       law = standing_law s e.tokens e.stack e.err.0 e.err.1;
     }
@@ -32,7 +32,7 @@ pub follow-requires : goal.follow-requires
 follow-requires c =
     let e = c.in-Ok.ensures in
     let t = c.loop-place-test.true in
-    let s = standing_step c.in-Ok.taken c.loop-place.invariant t e.tokens e.stack e.answer in
+    let s = standing_step c.loop-place.invariant c.in-Ok.taken t e.tokens e.stack e.answer in
     let q = stepped_small s c.requires.short t in
     record {
       small = (omega arith, q.1);
@@ -46,9 +46,9 @@ pub returns-in-Err-follow : goal.returns-in-Err-follow
 returns-in-Err-follow c =
     let e = c.in-Ok.ensures in
     let f = c.in-Err-follow in
-    let s = standing_step c.in-Ok.taken c.loop-place.invariant c.loop-place-test.true e.tokens e.stack e.answer in
+    let s = standing_step c.loop-place.invariant c.in-Ok.taken c.loop-place-test.true e.tokens e.stack e.answer in
     record {
-      answer = stepped_fault (Unit {0}) c.follow.new.tokens f.fault s
+      answer = stepped_fault s (Unit {0}) c.follow.new.tokens f.fault
           (λ p. f.ensures.answer c.read_byte.new.stack.elements p);
       law = stepped_law s c.loop-place-test.true f.ensures.tokens f.ensures.err;
     }
@@ -64,8 +64,8 @@ pass_parts-requires c =
       stands = record {
         tokens0 = c.args.tokens.now;
         stack0 = c.args.stack.now;
-        standing = followed c.in-Ok.taken c.in-Ok-follow.next l.invariant c.loop-place-test.true e.tokens e.stack
-            e.answer f.tokens (λ p. f.answer new.stack.elements p);
+        standing = stepped_on (standing_step l.invariant c.in-Ok.taken c.loop-place-test.true e.tokens e.stack
+            e.answer) c.in-Ok-follow.next f.tokens (λ p. f.answer new.stack.elements p);
         room = record { short = c.requires.short; room = c.requires.room; reserved = c.requires.reserved };
       };
       array = λ h.
@@ -90,16 +90,16 @@ pub loop-place-preserved : goal.loop-place-preserved
 loop-place-preserved c =
     let e = c.in-Ok.ensures in
     let f = c.in-Ok-follow.ensures in
-    let s = followed c.in-Ok.taken c.in-Ok-follow.next c.loop-place.invariant c.loop-place-test.true e.tokens e.stack
-    e.answer f.tokens (λ p. f.answer c.read_byte.new.stack.elements p) in
+    let s = stepped_on (standing_step c.loop-place.invariant c.in-Ok.taken c.loop-place-test.true e.tokens e.stack
+    e.answer) c.in-Ok-follow.next f.tokens (λ p. f.answer c.read_byte.new.stack.elements p) in
     c.in-Ok-pass_parts.ensures.answer c.args.tokens.now c.args.stack.now s
 
 pub returns-in-Err-pass_parts : goal.returns-in-Err-pass_parts
 returns-in-Err-pass_parts c =
     let e = c.in-Ok.ensures in
     let f = c.in-Ok-follow.ensures in
-    let s = followed c.in-Ok.taken c.in-Ok-follow.next c.loop-place.invariant c.loop-place-test.true e.tokens e.stack
-    e.answer f.tokens (λ p. f.answer c.read_byte.new.stack.elements p) in
+    let s = stepped_on (standing_step c.loop-place.invariant c.in-Ok.taken c.loop-place-test.true e.tokens e.stack
+    e.answer) c.in-Ok-follow.next f.tokens (λ p. f.answer c.read_byte.new.stack.elements p) in
     let r = c.in-Err-pass_parts.ensures.answer c.args.tokens.now c.args.stack.now s in
     record { answer = r.0; law = r.1 }
 

@@ -15,56 +15,44 @@ are_whole_signs-requires-clause-order c =
 
 pub returns-then-stop-start-le-FEW_BYTES : goal.returns-then-stop-start-le-FEW_BYTES
 unfolding tree line_of
-returns-then-stop-start-le-FEW_BYTES c = record {
-  array =
-      λ so. let n = c.args.self in
-      let s = n.source in
-      let t = c.token_at-token.result in
-      let here = c.token_at-token.ensures in
-      sym (kind_shown s.line.now s.tokens.now n.index t here (sym (ap kind_by c.if-self-start-ne91.false)));
-  three =
-      λ so. let n = c.args.self in
-      let s = n.source in
-      let t = c.token_at-token.result in
-      let here = c.token_at-token.ensures in
-      three_long s.line.now s.tokens.now s.within s.rising s.nested s.linked s.spelled
-      (full_sized s.line.now s.tokens.now s.nested s.linked s.full) n.index t here c.if-self-start-ne91.false
-      (sym (c.after.ensures.link t here) ∙ c.if-after-self.false) (c.are_whole_signs.ensures c.if-are_whole_signs.true);
-  wholes =
-      λ so. let n = c.args.self in
-      let s = n.source in
-      let t = c.token_at-token.result in
-      let here = c.token_at-token.ensures in
-      few_wholes s.line.now s.tokens.now s.within s.rising s.nested s.linked s.spelled
-      (full_sized s.line.now s.tokens.now s.nested s.linked s.full) n.index t here c.if-self-start-ne91.false
-      (sym (c.after.ensures.link t here) ∙ c.if-after-self.false)
-      (c.are_whole_signs.ensures c.if-are_whole_signs.true) (omega arith);
-}
+returns-then-stop-start-le-FEW_BYTES c =
+    let n = c.args.self in
+    let s = n.source in
+    let t = c.token_at-token.result in
+    let here = c.token_at-token.ensures in
+    record {
+      array = λ so.
+          sym (kind_shown s.line.now s.tokens.now n.index t here (sym (ap kind_by c.if-self-start-ne91.false)));
+      three = λ so.
+          three_long s.line.now s.tokens.now s.within s.rising s.nested s.linked s.spelled
+          (full_sized s.line.now s.tokens.now s.nested s.linked s.full) n.index t here c.if-self-start-ne91.false
+          (sym (c.after.ensures.link t here) ∙ c.if-after-self.false)
+          (c.are_whole_signs.ensures c.if-are_whole_signs.true);
+      wholes = λ so.
+          few_wholes s.line.now s.tokens.now s.within s.rising s.nested s.linked s.spelled
+          (full_sized s.line.now s.tokens.now s.nested s.linked s.full) n.index t here c.if-self-start-ne91.false
+          (sym (c.after.ensures.link t here) ∙ c.if-after-self.false)
+          (c.are_whole_signs.ensures c.if-are_whole_signs.true) (omega arith);
+    }
 
 pub returns-else-stop-start-le-FEW_BYTES : goal.returns-else-stop-start-le-FEW_BYTES
 unfolding tree line_of
-returns-else-stop-start-le-FEW_BYTES c = record {
-  array =
-      λ so. let n = c.args.self in
-      let s = n.source in
-      let t = c.token_at-token.result in
-      let here = c.token_at-token.ensures in
-      sym (kind_shown s.line.now s.tokens.now n.index t here (sym (ap kind_by c.if-self-start-ne91.false)));
-  three =
-      λ so. let n = c.args.self in
-      let s = n.source in
-      let t = c.token_at-token.result in
-      let here = c.token_at-token.ensures in
-      three_long s.line.now s.tokens.now s.within s.rising s.nested s.linked s.spelled
-      (full_sized s.line.now s.tokens.now s.nested s.linked s.full) n.index t here c.if-self-start-ne91.false
-      (sym (c.after.ensures.link t here) ∙ c.if-after-self.false) (c.are_whole_signs.ensures c.if-are_whole_signs.true);
-  wholes =
-      λ so. let n = c.args.self in
-      let s = n.source in
-      let t = c.token_at-token.result in
-      let here = c.token_at-token.ensures in
-      wholes s.line.now s.tokens.now s.within s.rising s.nested s.linked s.spelled
-      (full_sized s.line.now s.tokens.now s.nested s.linked s.full) n.index t here c.if-self-start-ne91.false
-      (sym (c.after.ensures.link t here) ∙ c.if-after-self.false)
-      (c.are_whole_signs.ensures c.if-are_whole_signs.true) (λ m u l h g. c.has_short_items.ensures so m u l h g);
-}
+returns-else-stop-start-le-FEW_BYTES c =
+    let n = c.args.self in
+    let s = n.source in
+    let t = c.token_at-token.result in
+    let here = c.token_at-token.ensures in
+    record {
+      array = λ so.
+          sym (kind_shown s.line.now s.tokens.now n.index t here (sym (ap kind_by c.if-self-start-ne91.false)));
+      three = λ so.
+          three_long s.line.now s.tokens.now s.within s.rising s.nested s.linked s.spelled
+          (full_sized s.line.now s.tokens.now s.nested s.linked s.full) n.index t here c.if-self-start-ne91.false
+          (sym (c.after.ensures.link t here) ∙ c.if-after-self.false)
+          (c.are_whole_signs.ensures c.if-are_whole_signs.true);
+      wholes = λ so.
+          wholes s.line.now s.tokens.now s.within s.rising s.nested s.linked s.spelled
+          (full_sized s.line.now s.tokens.now s.nested s.linked s.full) n.index t here c.if-self-start-ne91.false
+          (sym (c.after.ensures.link t here) ∙ c.if-after-self.false)
+          (c.are_whole_signs.ensures c.if-are_whole_signs.true) (λ m u l h g. c.has_short_items.ensures so m u l h g);
+    }
