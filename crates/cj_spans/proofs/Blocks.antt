@@ -1,5 +1,5 @@
 -- The marks of a block of bytes, which tell the bytes that are no digits.
-use Rattle.cj_spans.proofs.Common.{◌≡◌, ℕ, ◌+◌, ◌-◌, ◌^◌, ◌/◌, ◌%◌, ◌<◌, ◌≤◌, List, length, true, inl, inr, sym, ap, subst, arith, ◌∙◌, w64, cases_lt, div-div-eq-div-mul, div-lt_iff_lt-mul, byte, nat_tests, Whole, is_digit, IsNumberUpTo, AreMarked, AreMarkedTo}
+use Rattle.cj_spans.proofs.Common.{◌≡◌, ℕ, ◌+◌, ◌-◌, ◌^◌, ◌/◌, ◌%◌, ◌<◌, ◌≤◌, List, length, true, inl, inr, sym, ap, subst, arith, ◌∙◌, w64, cases_lt, div-div-eq-div-mul, div-lt_iff_lt-mul, byte, nat_tests, is_digit, IsNumberUpTo, AreMarked, AreMarkedTo}
 use Rattle.std.specs.Int.{bit_at, trailing_zeros}
 use Rattle.std.proofs.lemmas.Nat.{pow-add, pow_pos}
 use Rattle.std.proofs.lemmas.Nat.Bits.{bit_at-trailing_zeros, bit_at_above}

@@ -1,5 +1,5 @@
 -- A prefix is what a text begins with: some bytes more make it one.
-use Rattle.cj_spans.proofs.Common.{◌≡◌, inl, inr, ℕ, zero, suc, ◌+◌, ◌<◌, ◌≤◌, List, [], ◌∷◌, ◌++◌, length, take, drop, get_or, Option, Some, None, Result, Err, refl, sym, ap, subst, arith, ◌∙◌, slice_get, slice_set, length-append, eq-or-lt_of_le, option_map, common_steps, take-append-drop, BoundedList, LineFault, Syntax, TooDeep, Kind, Array, Object, Token, Lex, Zero, InString, StringDone, Mode, Ready, FirstItem, After, FirstName, NextName, AfterName, Tree, nest, byte, Json, JsonPrefix, IsJsonPrefix, SyntaxAt, stuck, short, token_at, flatten, flatten_items, flatten_members, open_kind, State, state, in_atom, step, end_atom, after_token, after_in, still, Reaches, here, on, start, SinksAt, RunAnswers, BeginsValue}
+use Rattle.cj_spans.proofs.Common.{◌≡◌, inl, inr, ℕ, zero, suc, ◌+◌, ◌<◌, ◌≤◌, List, [], ◌∷◌, ◌++◌, length, take, drop, get_or, Option, Some, None, refl, sym, ap, subst, arith, ◌∙◌, slice_get, slice_set, length-append, eq-or-lt_of_le, option_map, common_steps, take-append-drop, Kind, Array, Object, Token, Lex, Zero, InString, StringDone, Mode, Ready, FirstItem, After, FirstName, NextName, AfterName, Tree, nest, byte, Json, JsonPrefix, IsJsonPrefix, SyntaxAt, stuck, short, token_at, flatten, flatten_items, flatten_members, open_kind, State, state, in_atom, step, end_atom, after_token, after_in, still, Reaches, here, on, start, SinksAt, BeginsValue}
 use Rattle.std.proofs.lemmas.List.{get_or-append-add}
 use Rattle.std.proofs.Math.ListN.{get_or-append}
 use Rattle.cj_spans.specs.Meaning.Begins.{BeginsText, IsFirstFault, IsFirstTooDeep}

@@ -1,5 +1,5 @@
 -- What each step keeps: the place goes one on, the count of tokens stays within the bytes read and the open containers.
-use Rattle.cj_spans.proofs.Common.{◌≡◌, ℕ, suc, ◌+◌, ◌*◌, ◌<◌, ◌≤◌, List, [], ◌∷◌, ◌++◌, length, max, Bool, true, false, cond, nat_eq, Option, Some, None, refl, sym, ap, subst, arith, ◌∙◌, inl, inr, slice_get, slice_set, length-append, eq-or-lt_of_le, option_and_then, option_map, Kind, Null, Truth, Number, Text, Array, Object, Token, Lex, Mode, Ready, FirstItem, After, FirstName, NextName, AfterName, is_white_space, byte, token_at, open_kind, Phase, State, state, between, in_atom, step, read, read_in, begin_value, begin_name, after_value, after_token, after_in, close_empty, close_token, end_atom, go_on, settle, lex_start, lex_step, lex_kind, Reaches, here, on, start}
+use Rattle.cj_spans.proofs.Common.{◌≡◌, ℕ, suc, ◌+◌, ◌*◌, ◌<◌, ◌≤◌, List, [], ◌∷◌, ◌++◌, length, max, Bool, true, false, cond, nat_eq, Option, Some, None, refl, sym, ap, subst, arith, ◌∙◌, inl, inr, slice_get, slice_set, length-append, eq-or-lt_of_le, option_and_then, option_map, Kind, Array, Object, Token, Lex, Mode, Ready, FirstItem, After, FirstName, NextName, AfterName, is_white_space, byte, token_at, open_kind, Phase, State, state, between, in_atom, step, read, read_in, begin_value, begin_name, after_value, after_token, after_in, close_empty, close_token, end_atom, go_on, settle, lex_start, lex_step, lex_kind, Reaches, here, on, start}
 use Rattle.std.proofs.Math.ListN.{length-set}
 use Rattle.cj_spans.proofs.Spellings.{none_some, some_same}
 use Rattle.cj_spans.proofs.Runs.{idle}

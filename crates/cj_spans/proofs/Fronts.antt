@@ -1,6 +1,6 @@
 -- The machine is at a state after the first i bytes exactly where they are a prefix.
-use Rattle.cj_spans.proofs.Common.{◌≡◌, ℕ, suc, ◌+◌, List, [], ◌∷◌, ◌++◌, length, max, refl, ap, subst, arith, inl, inr, cases_lt, Token, Mode, Ready, FirstItem, After, FirstName, AfterName, Members, no_items, no_members, byte, White, padded, no_led, LedMembers, no_led_members, JsonPrefix, white, begun, whole, in_object, in_array as front_array, MemberPrefix, before_name, in_name as front_name, after_name as front_after_name, in_value, flatten, token_at, State, state, in_atom, Reaches, on, BeginsValue}
-use Rattle.cj_spans.proofs.Lists.{length-snoc, slice_get-seam, rise}
+use Rattle.cj_spans.proofs.Common.{◌≡◌, ℕ, suc, ◌+◌, List, [], ◌∷◌, ◌++◌, length, max, refl, ap, subst, arith, inl, inr, cases_lt, Token, Mode, Ready, FirstItem, FirstName, AfterName, Members, no_items, no_members, byte, White, padded, no_led, LedMembers, no_led_members, JsonPrefix, white, begun, whole, in_object, in_array as front_array, MemberPrefix, before_name, in_name as front_name, after_name as front_after_name, in_value, token_at, State, Reaches, on, BeginsValue}
+use Rattle.cj_spans.proofs.Lists.{length-snoc, slice_get-seam}
 use Rattle.cj_spans.proofs.Runs.{Arrives, settled, skip, BeginsName, idle}
 use Rattle.cj_spans.proofs.Runs.{skip_after}
 use Rattle.cj_spans.proofs.Follows.{run_padded, run_led, run_led_members, run_named, open_array, open_object}

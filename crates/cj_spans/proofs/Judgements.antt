@@ -1,6 +1,6 @@
 -- Each line is a JSON text within the depth limit, or has the place of a fault: the machine finds out which.
-use Rattle.cj_spans.proofs.Common.{◌≡◌, ℕ, zero, suc, ◌+◌, ◌<◌, ◌≤◌, List, [], ◌∷◌, length, drop, Bool, true, false, cond, nat_eq, Option, Some, None, refl, sym, ap, subst, arith, ◌∙◌, inl, inr, ltb, ltb-true, nat_tests, Kind, Null, Truth, Number, Text, Array, Object, Token, Lex, Mode, Ready, FirstItem, After, FirstName, NextName, AfterName, is_white_space, byte, Json, Tree, nest, SyntaxAt, DeepAt, NowhereDeep, Judgement, spelled, broken, sunk, SaySame, IsReservedAnswerOf, LineFault, Syntax, TooDeep, open_kind, Phase, State, state, between, in_atom, start, moved, step, step_by, read, read_in, begin_value, begin_name, after_top, after_token, after_in, close_by, close_top, close_token, end_atom, go_on, settle, lex_start, lex_step, lex_kind, Reaches, here, on, Sticks}
-use Rattle.std.specs.Prelude.{IsSomeAnd, IsOk, IsErrOf, Result, option_and_then, option_map, slice_get}
+use Rattle.cj_spans.proofs.Common.{◌≡◌, ℕ, zero, suc, ◌+◌, ◌<◌, ◌≤◌, List, [], ◌∷◌, length, Bool, true, false, Option, Some, None, refl, sym, ap, subst, arith, ◌∙◌, inl, inr, ltb, ltb-true, nat_tests, Token, Ready, FirstItem, After, FirstName, NextName, AfterName, byte, Json, Tree, nest, SyntaxAt, DeepAt, NowhereDeep, Judgement, spelled, broken, sunk, SaySame, IsReservedAnswerOf, LineFault, Syntax, TooDeep, Phase, State, state, between, in_atom, start, step, settle, Reaches, here, on, Sticks}
+use Rattle.std.specs.Prelude.{IsSomeAnd, IsOk, IsErrOf, Result}
 use Rattle.cj_spans.proofs.Spellings.{none_some, some_same}
 use Rattle.cj_spans.proofs.Facts.{next_place, lawful_reaches, goes}
 use Rattle.cj_spans.proofs.Runs.{settled}

@@ -1,5 +1,5 @@
 -- Calls that leave the stack: where the pass stands behind them, in whatever container is innermost.
-use Rattle.cj_spans.proofs.Common.{◌≡◌, ℕ, ◌+◌, ◌<◌, List, [], ◌∷◌, ◌++◌, length, max, zero, suc, ◌≤◌, refl, subst, sym, ap, ◌∙◌, inl, inr, true, false, arith, Some, Ok, Err, slice_get, slice_set, BoundedList, Becomes, IsWithin, TooDeep, Kind, Array, Token, Mode, Ready, FirstItem, After, Open, Next, byte, token_at, state, between, start, with_opened, read, after_in, after_token, ComesTo, ReadsByte, Grown, BeginsValue, InArray, IsInnermost, IsNumberUpTo, EndsItem, FitsToken, Standing, Stands, StandsIn, LeadsIn, GoesOn, KeepsTokens, ReadsNumbers, slice_get_within}
+use Rattle.cj_spans.proofs.Common.{◌≡◌, ℕ, ◌+◌, ◌<◌, List, [], ◌∷◌, ◌++◌, length, max, suc, ◌≤◌, refl, subst, sym, ap, ◌∙◌, inl, inr, true, false, arith, Some, Ok, Err, slice_get, slice_set, BoundedList, Becomes, IsWithin, TooDeep, Kind, Array, Token, Mode, Ready, FirstItem, After, Open, Next, byte, token_at, state, between, start, with_opened, read, after_in, after_token, ComesTo, ReadsByte, Grown, BeginsValue, InArray, IsInnermost, IsNumberUpTo, EndsItem, FitsToken, Standing, Stands, StandsIn, LeadsIn, GoesOn, KeepsTokens, ReadsNumbers, slice_get_within}
 use Rattle.cj_spans.proofs.Lists.{slice_get-append, get_before}
 use Rattle.std.specs.Prelude.{IsTrue}
 use Rattle.cj_spans.specs.declared.arrays.Numbers.{Numbers}

@@ -1,5 +1,5 @@
 -- Letters beyond ASCII: what the marks of a vector say of its bytes, and UTF-8 past ASCII and past a letter.
-use Rattle.cj_spans.proofs.Common.{◌≡◌, ℕ, ◌+◌, ◌-◌, ◌%◌, ◌^◌, ◌<◌, ◌≤◌, List, [], ◌∷◌, length, map, take, drop, inr, Bool, false, cond, not, ltb, replicate, sym, ap, subst, arith, ◌∙◌, w8, take-add, IsUtf8, nat_tests, length-map, drop_more, prefix_len, count_trailing_zeros, IsAscii, byte}
+use Rattle.cj_spans.proofs.Common.{◌≡◌, ℕ, ◌+◌, ◌-◌, ◌%◌, ◌^◌, ◌<◌, ◌≤◌, List, [], ◌∷◌, length, map, take, drop, inr, Bool, false, cond, ltb, replicate, sym, ap, subst, arith, ◌∙◌, take-add, IsUtf8, nat_tests, drop_more, count_trailing_zeros, IsAscii, byte}
 use Rattle.std.proofs.lemmas.Simd.{get_or-chunk, length-chunk}
 use Rattle.cj_spans.proofs.Vectors.{marks_over, none_marked, marks_within, not_marked}
 use Rattle.std.proofs.lemmas.Str.{IsUtf8-append, IsUtf8-from_ascii}

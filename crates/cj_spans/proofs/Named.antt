@@ -1,5 +1,5 @@
 -- Names and strings of an object: where the pass stands behind each of their parts.
-use Rattle.cj_spans.proofs.Common.{◌≡◌, ℕ, suc, ◌+◌, ◌<◌, List, [], ◌∷◌, ◌++◌, length, Some, inr, refl, ap, arith, BoundedList, Becomes, Text, Object, Token, InString, StringDone, Mode, Ready, After, FirstName, NextName, AfterName, byte, token_at, State, state, in_atom, start, step, ComesTo, BeginsName, StringLeads, IsQuoted, StandsIn, LeadsIn}
+use Rattle.cj_spans.proofs.Common.{◌≡◌, ℕ, suc, ◌+◌, ◌<◌, List, [], ◌∷◌, ◌++◌, length, Some, inr, refl, ap, arith, BoundedList, Becomes, Text, Object, Token, InString, Mode, Ready, After, FirstName, NextName, AfterName, byte, token_at, State, state, in_atom, start, step, ComesTo, BeginsName, StringLeads, IsQuoted, StandsIn, LeadsIn}
 use Rattle.std.specs.Prelude.{IsTrue}
 use Rattle.cj_spans.proofs.Runs.{idle}
 use Rattle.cj_spans.proofs.Atoms.{ends_ok}

@@ -1,6 +1,6 @@
 -- One walk that notes the place of the first member of each slot.
 use Rattle.cj_spans.proofs.Common.{◌≡◌, ◌≢◌, ◌∙◌, ◌<◌, ℕ, List, [], ◌∷◌, Bool, true, false, not, ◌⊎◌, Option, Some, None, cond, length, get_or, map, nat_eq, ap, refl, sym, subst, inl, inr, arith, cases_eq, false≢true, nat_tests, get_or-set_same, get_or-set_other, length-set, map-set, get_or-map, are_apart, then_apart, first_code_of, head, are_same_texts, first_named, has_text, text_of, spans_of, before, Tree, members_left, tree_at}
-use Rattle.std.specs.Prelude.{◌+◌, ◌%◌, drop, option_and_then, replicate, slice_set, zero, suc}
+use Rattle.std.specs.Prelude.{◌+◌, ◌%◌, drop, option_and_then, replicate, slice_set, suc}
 use Rattle.std.specs.Cmp.Lexicographic.{same_text}
 use Rattle.cj_spans.specs.declared.node.Members.{Members}
 use Rattle.cj_spans.specs.inner.Noted.{AreNoted, IsPlace, members_from, noted_from, note, is_noted, is_free}

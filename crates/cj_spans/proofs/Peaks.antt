@@ -1,5 +1,5 @@
 -- The most containers that are open in what a pass over a line has read.
-use Rattle.cj_spans.proofs.Common.{◌≡◌, ◌⊎◌, inl, inr, ℕ, ◌≤◌, List, length, Result, Err, subst, arith, cases_lt, BoundedList, LineFault, Syntax, TooDeep, Token, byte, JsonPrefix, white, IsDeepest, HasPeakAt, State, Reaches, here, on, start, RunAnswers}
+use Rattle.cj_spans.proofs.Common.{◌≡◌, ◌⊎◌, inl, inr, ℕ, ◌≤◌, List, length, Result, Err, subst, arith, cases_lt, BoundedList, LineFault, Syntax, TooDeep, Token, byte, JsonPrefix, white, IsDeepest, HasPeakAt, State, Reaches, here, on, start}
 use Rattle.cj_spans.proofs.Sound.{inv_reaches, no_white}
 use Rattle.cj_spans.proofs.Facts.{goes, lawful_reaches}
 use Rattle.cj_spans.proofs.Fronts.{inv_front}

@@ -1,5 +1,5 @@
 -- Runs of the machine: bytes that end a scalar, and white space.
-use Rattle.cj_spans.proofs.Common.{◌≡◌, ℕ, zero, suc, ◌+◌, ◌-◌, ◌<◌, ◌≤◌, List, true, false, ◌||◌, nat_eq, Option, Some, None, refl, sym, ap, subst, arith, ◌∙◌, inl, inr, eq-or-lt_of_le, option_and_then, Kind, Token, Lex, AfterN, AfterNu, AfterNul, NullDone, AfterT, AfterTr, AfterTru, AfterF, AfterFa, AfterFal, AfterFals, TruthDone, Minus, Zero, Whole, Point, Fraction, Mark, MarkSign, Exponent, InString, Escape, Hex4, Hex3, Hex2, Hex1, StringDone, Mode, FirstName, NextName, is_white_space, byte, White, is_digit, Phase, State, state, between, in_atom, read, end_atom, go_on, step, settle, lex_step, lex_kind, point_or_mark, Reaches, on}
+use Rattle.cj_spans.proofs.Common.{◌≡◌, ℕ, zero, suc, ◌+◌, ◌-◌, ◌<◌, ◌≤◌, List, true, false, ◌||◌, nat_eq, Option, Some, None, refl, sym, ap, subst, arith, ◌∙◌, inl, inr, eq-or-lt_of_le, option_and_then, Kind, Token, Lex, NullDone, TruthDone, Zero, Whole, Fraction, Exponent, StringDone, Mode, FirstName, NextName, is_white_space, byte, White, is_digit, Phase, State, state, between, in_atom, read, end_atom, go_on, step, settle, lex_step, lex_kind, point_or_mark, Reaches, on}
 use Rattle.std.proofs.lemmas.Bool.{eqb-true, cond-true, cond-false, or_cases}
 use Rattle.cj_spans.proofs.Spellings.{none_some, some_same}
 

@@ -1,5 +1,5 @@
 -- Tokens that show the tree of a line: what is known of each.
-use Rattle.cj_spans.proofs.Common.{◌≡◌, ℕ, zero, suc, ◌+◌, ◌-◌, ◌<◌, ◌≤◌, List, [], ◌∷◌, ◌++◌, length, drop, slice_get, slice_range, true, inl, inr, Some, refl, sym, ap, subst, arith, ◌∙◌, append_assoc, cases_lt, append-nil, nat_tests, merely, Token, Kind, Null, Truth, Number, Text, Array, Object, Atom, Tree, scalar, array, object, Items, no_items, item, Members, no_members, member, add_item, add_member, start_of, size, items_size, members_size, total_size, kind_by, held, past, atom_of, items_from, members_from, node, forest, IsScalar, IsNumber, byte, IsAtom, Value, atom, empty_array, full_array, empty_object, full_object, Padded, padded, LedItems, no_led, led, LedMembers, no_led_members, led_member, Named, named, Json, Span, span_at, preorder, items_preorder, members_preorder, spans_of, AreOf, AreWithin, AreRising, AreNested, AreNamed, AreSpelled, AreLinked, are_members, tree_at}
+use Rattle.cj_spans.proofs.Common.{◌≡◌, ℕ, zero, suc, ◌+◌, ◌-◌, ◌<◌, ◌≤◌, List, [], ◌∷◌, ◌++◌, length, drop, slice_get, slice_range, true, inl, inr, Some, refl, sym, ap, subst, arith, ◌∙◌, append_assoc, cases_lt, append-nil, nat_tests, merely, Token, Kind, Number, Array, Object, Atom, Tree, scalar, array, object, Items, no_items, item, Members, no_members, member, add_item, add_member, start_of, size, items_size, members_size, total_size, kind_by, held, past, atom_of, items_from, members_from, node, forest, IsScalar, IsNumber, byte, IsAtom, Value, atom, empty_array, full_array, empty_object, full_object, Padded, padded, LedItems, no_led, led, LedMembers, no_led_members, led_member, Named, named, Json, Span, span_at, preorder, items_preorder, members_preorder, spans_of, AreOf, AreWithin, AreRising, AreNested, AreNamed, AreSpelled, AreLinked, are_members, tree_at}
 use Rattle.cj_spans.proofs.Lists.{items_preorder-add, members_preorder-add}
 use Rattle.cj_spans.proofs.Verdicts.{json_only}
 use Rattle.cj_spans.proofs.Forests.{atom_kind, Beyond, held_all, names_and_values, led_order, led_members_order, Shows, shows_more, shows_add_member, shows_led_members, shows_padded, padded_ends, named_ends, start-node}

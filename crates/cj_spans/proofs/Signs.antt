@@ -1,5 +1,5 @@
 -- Signs: where the machine stands behind a colon and a comma, and which container is then innermost.
-use Rattle.cj_spans.proofs.Common.{◌≡◌, ℕ, suc, ◌+◌, ◌<◌, List, [], ◌∷◌, ◌++◌, length, max, Bool, true, false, cond, nat_eq, Option, Some, None, refl, sym, ap, subst, arith, ◌∙◌, slice_get, Kind, Null, Truth, Number, Text, Array, Object, Token, Mode, Ready, FirstItem, After, FirstName, NextName, AfterName, Move, To, Open, byte, token_at, Phase, State, state, between, moved, read, after_top, after_token, after_in, with_closed, step, phase_after, open_link, open_kind, Reaches, on, ComesTo, IsInnermost, InArray, InObject, BeginsValueNext, BeginsNameNext, StaysInArrayNext, StaysInObjectNext}
+use Rattle.cj_spans.proofs.Common.{◌≡◌, ℕ, suc, ◌+◌, ◌<◌, List, [], ◌∷◌, ◌++◌, length, max, Bool, true, false, cond, nat_eq, Option, Some, None, refl, sym, ap, subst, arith, ◌∙◌, slice_get, Kind, Array, Object, Token, Mode, Ready, FirstItem, After, FirstName, NextName, AfterName, Move, To, Open, byte, token_at, Phase, State, state, between, moved, read, after_top, after_token, after_in, with_closed, step, phase_after, open_link, open_kind, Reaches, on, ComesTo, IsInnermost, InArray, InObject, BeginsValueNext, BeginsNameNext, StaysInArrayNext, StaysInObjectNext}
 use Rattle.cj_spans.proofs.Spellings.{some_same, none_some}
 use Rattle.cj_spans.proofs.Lists.{slice_get-append, slice_get-seam}
 use Rattle.cj_spans.proofs.Runs.{idle, settled}

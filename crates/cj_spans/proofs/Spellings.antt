@@ -1,6 +1,6 @@
 -- The readings of a scalar against the spellings of RFC 8259, over lists of bytes.
 use Rattle.std.specs.Prelude.{codes}
-use Rattle.cj_spans.proofs.Common.{◌≡◌, ℕ, ◌<◌, ◌≤◌, List, [], ◌∷◌, ◌++◌, length, Bool, true, false, cond, ◌&&◌, ◌||◌, not, nat_eq, nat_le, Option, Some, None, refl, sym, ap, subst, arith, ◌∙◌, ◌⊎◌, inl, inr, both_true, first_so, second_so, option_and_then, append-nil, nat_tests, Kind, Null, Truth, Number, Text, Array, Object, Lex, AfterN, AfterNu, AfterNul, NullDone, AfterT, AfterTr, AfterTru, AfterF, AfterFa, AfterFal, AfterFals, TruthDone, Minus, Zero, Whole, Point, Fraction, Mark, MarkSign, Exponent, InString, Escape, Hex4, Hex3, Hex2, Hex1, StringDone, IsScalar, is_plain, is_escape, is_hex, IsDigit, AllDigits, IsDigits, IsMinus, IsInt, IsFrac, IsExp, IsExpSign, IsExpRest, IsNumber, IsBody, nothing, plain, escape, unicode, is_digit, lex_start, lex_step, lex_kind, hex, one, digit_or, mark, point_or_mark, sign_mark}
+use Rattle.cj_spans.proofs.Common.{◌≡◌, ℕ, ◌<◌, ◌≤◌, List, [], ◌∷◌, ◌++◌, length, Bool, true, false, cond, ◌&&◌, ◌||◌, not, nat_eq, nat_le, Option, Some, None, refl, sym, ap, subst, arith, ◌∙◌, ◌⊎◌, inl, inr, both_true, first_so, second_so, option_and_then, append-nil, nat_tests, Kind, Null, Truth, Number, Text, Lex, AfterN, AfterNu, AfterNul, NullDone, AfterT, AfterTr, AfterTru, AfterF, AfterFa, AfterFal, AfterFals, TruthDone, Minus, Zero, Whole, Point, Fraction, Mark, MarkSign, Exponent, InString, Escape, Hex4, Hex3, Hex2, Hex1, StringDone, IsScalar, is_plain, is_escape, is_hex, IsDigit, AllDigits, IsDigits, IsMinus, IsInt, IsFrac, IsExp, IsExpRest, IsNumber, IsBody, nothing, plain, escape, unicode, is_digit, lex_start, lex_step, lex_kind, hex, one, digit_or, mark, point_or_mark, sign_mark}
 use Rattle.std.proofs.lemmas.Bool.{eqb-true, leb-true, le-leb, or_cases}
 
 pub none_some : {A B : Type 0} (x : A) → ◌≡◌ {A = Option A} None (Some x) → B
@@ -440,9 +440,9 @@ int_part : (g : ℕ → Option Lex) → g 48 ≡ Some Zero → ((c : ℕ) → na
 int_part g zero whole c i f s h a b =
     elim h [
       | inl z ↦ ends_by Zero (ap g z.0 ∙ zero) (subst (λ t. Ends Number (t ++ (f ++ s)) (Some Zero)) (sym z.1)
-      (frac_part refl refl refl refl f s a b))
+          (frac_part refl refl refl refl f s a b))
       | inr d ↦ ends_by Whole (whole c (between_test d.0 d.1)) (digits_pass (λ c h. digit_goes Whole c _ h) i d.2
-      (frac_part refl refl refl refl f s a b))
+          (frac_part refl refl refl refl f s a b))
     ]
 
 -- the reading of a scalar's spelling, at which it may end

@@ -1,5 +1,5 @@
 -- One byte, in the code and in the machine.
-use Rattle.cj_spans.proofs.Common.{◌⊎◌, inl, inr, ◌≡◌, ℕ, List, false, cond, nat_eq, Option, Result, arith, refl, sym, subst, cond-false, nat_tests, LineFault, Token, Mode, Ready, FirstItem, After, FirstName, NextName, AfterName, Move, is_white_space, State, state, between, read, read_in, Answers}
+use Rattle.cj_spans.proofs.Common.{◌⊎◌, inl, inr, ◌≡◌, refl, Mode, Ready, FirstItem, After, FirstName, NextName, AfterName}
 
 -- the mode that is left where a value may come, or what follows one
 pub left_after : {m : Mode} → (m ≡ Ready) ⊎ ((m ≡ FirstItem) ⊎ (m ≡ After)) → (m ≡ Ready → ⊥) → (m ≡ FirstItem → ⊥)

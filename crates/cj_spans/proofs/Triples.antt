@@ -1,5 +1,5 @@
 -- Arrays of three whole numbers, told by their tokens and by the bytes between their brackets.
-use Rattle.cj_spans.proofs.Common.{◌≡◌, ℕ, zero, suc, ◌+◌, ◌-◌, ◌<◌, ◌≤◌, List, [], ◌∷◌, ◌++◌, length, drop, get_or, slice_get, slice_range, Bool, true, false, nat_eq, Option, Some, None, ◌⊎◌, inl, inr, refl, sym, ap, subst, arith, ◌∙◌, All, cases_lt, nat_tests, append-nil, drop-drop, slice_get_within, Token, Kind, Null, Truth, Number, Text, Array, Object, Lex, Tree, size, byte, is_number, kind_by, node, lex_kind, kind_of, items_of, spelling_of, spans_of, AreSized, AreWithin, AreRising, AreNested, AreLinked, AreSpelled, before, link_of, IsNumber, IsFrac, IsExp, tree_at, IsWholeSign}
+use Rattle.cj_spans.proofs.Common.{◌≡◌, ℕ, zero, suc, ◌+◌, ◌-◌, ◌<◌, ◌≤◌, List, [], ◌∷◌, ◌++◌, length, drop, get_or, slice_get, slice_range, Bool, true, false, nat_eq, Option, Some, None, ◌⊎◌, inl, inr, refl, sym, ap, subst, arith, ◌∙◌, All, cases_lt, nat_tests, append-nil, drop-drop, slice_get_within, Token, Kind, Number, Lex, Tree, size, byte, is_number, kind_by, node, lex_kind, kind_of, items_of, spelling_of, spans_of, AreSized, AreWithin, AreRising, AreNested, AreLinked, AreSpelled, before, link_of, IsNumber, IsFrac, IsExp, tree_at, IsWholeSign}
 use Rattle.std.specs.Coded.{coded_bool}
 use mathlib.Core.Logic.{∥∥₁_elim}
 use denote.Struct.Props.{≡_prop}

@@ -7,7 +7,7 @@ use Rattle.cj_spans.proofs.Lists.{rise, rise-nest, length-flatten, spans_of-flat
 use Rattle.cj_spans.proofs.Runs.{idle, settled, same_mode}
 use Rattle.cj_spans.proofs.Follows.{run_json}
 use Rattle.cj_spans.proofs.Places.{atom_sound}
-use Rattle.cj_spans.proofs.Sound.{Context, root, in_array, in_member, Inv, ready, first_item, after_tree, first_name, next_name, after_name, in_scalar, in_name, inv_reaches, no_white}
+use Rattle.cj_spans.proofs.Sound.{Context, root, Inv, ready, first_item, after_tree, first_name, next_name, after_name, in_scalar, in_name, inv_reaches, no_white}
 use Rattle.cj_spans.proofs.Facts.{lawful_reaches, next_place, same_state, state_before}
 use Rattle.cj_spans.proofs.Fronts.{Live, front_runs, inv_front}
 use Rattle.cj_spans.proofs.Forests.{json_shown, tree_by_preorder}

@@ -1,5 +1,5 @@
 -- Walks over tokens, and the trees that they show.
-use Rattle.cj_spans.proofs.Common.{◌≡◌, ℕ, zero, suc, ◌+◌, ◌<◌, ◌≤◌, List, [], ◌∷◌, length, drop, slice_get, slice_range, inl, inr, true, Some, refl, sym, ap, subst, arith, ◌∙◌, first_so, second_so, cases_lt, slice_get_within, nat_tests, Token, Kind, Null, Truth, Number, Text, Array, Object, Tree, scalar, array, object, start_of, byte, Span, spans_of, kind_by, held, past, atom_of, items_from, members_from, node, forest, kind_of, list_items, list_members, spelling_of, is_text, StopBefore, before, is_name, are_members, tree_at, pairs_of}
+use Rattle.cj_spans.proofs.Common.{◌≡◌, ℕ, zero, suc, ◌+◌, ◌<◌, ◌≤◌, List, [], ◌∷◌, length, drop, slice_get, slice_range, inl, inr, true, Some, refl, sym, ap, subst, arith, ◌∙◌, first_so, second_so, cases_lt, slice_get_within, nat_tests, Token, Kind, Null, Text, Object, Tree, scalar, start_of, byte, Span, spans_of, kind_by, held, past, atom_of, items_from, members_from, node, forest, kind_of, list_items, list_members, spelling_of, is_text, StopBefore, before, is_name, are_members, tree_at, pairs_of}
 use Rattle.cj_spans.proofs.Spellings.{some_same}
 use Rattle.cj_spans.proofs.Forests.{past_on, start-node}
 use Rattle.cj_spans.proofs.Links.{before_one, before_zero}

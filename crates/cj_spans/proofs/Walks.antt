@@ -1,5 +1,5 @@
 -- Walks over the parts of a container, by the indices of tokens.
-use Rattle.cj_spans.proofs.Common.{◌≡◌, ℕ, zero, suc, ◌+◌, ◌-◌, ◌%◌, ◌^◌, ◌<◌, ◌≤◌, List, [], ◌∷◌, length, take, drop, slice_get, true, inl, inr, Some, refl, sym, ap, subst, arith, ◌∙◌, first_so, second_so, cases_lt, length-drop, length-take, drop-drop, slice_get_within, nat_tests, Token, Kind, Null, Truth, Number, Text, Array, Object, Tree, start_of, size, total_size, kind_by, held, past, node, forest, byte, Span, span_at, spans_of, kind_of, items_of, members_of, AreOf, AreNamed, AreNested, AreLinked, AreLone, AreWhole, ShowMembers, StopBefore, before, is_name, are_members, link_of, shown_between, items_end, members_end, AreSized, tree_at, pairs_of}
+use Rattle.cj_spans.proofs.Common.{◌≡◌, ℕ, zero, suc, ◌+◌, ◌-◌, ◌%◌, ◌^◌, ◌<◌, ◌≤◌, List, [], ◌∷◌, length, take, drop, slice_get, true, inl, inr, Some, refl, sym, ap, subst, arith, ◌∙◌, first_so, second_so, cases_lt, length-drop, length-take, drop-drop, slice_get_within, nat_tests, Token, Kind, Null, Text, Array, Object, Tree, start_of, size, total_size, kind_by, held, past, node, forest, byte, Span, span_at, spans_of, kind_of, items_of, members_of, AreOf, AreNamed, AreNested, AreLinked, AreLone, AreWhole, ShowMembers, StopBefore, before, is_name, are_members, link_of, shown_between, items_end, members_end, AreSized, tree_at, pairs_of}
 use Rattle.cj_spans.proofs.Forests.{held_on, past_on, start-node}
 use Rattle.cj_spans.proofs.Links.{before_length, before_one, before_zero}
 use Rattle.cj_spans.proofs.Sizes.{are_sized, before_walked, before_stopped}

@@ -1,5 +1,5 @@
 -- Whole numbers in an array: the machine over them.
-use Rattle.cj_spans.proofs.Common.{◌≡◌, ℕ, suc, ◌+◌, ◌<◌, ◌≤◌, List, [], ◌∷◌, ◌++◌, length, true, false, nat_eq, Option, Some, None, refl, sym, ap, subst, arith, ◌∙◌, ◌⊎◌, inl, inr, cond-false, IfSome, option_map, nat_tests, Number, Token, Lex, Minus, Whole, Zero, Mode, Ready, FirstItem, After, is_white_space, byte, token_at, State, state, in_atom, moved, step, lex_start, lex_step, Continues, still, further, ComesTo, BeginsValue, IsNumberUpTo, EndsItem, is_digit}
+use Rattle.cj_spans.proofs.Common.{◌≡◌, ℕ, suc, ◌+◌, ◌<◌, ◌≤◌, List, [], ◌∷◌, ◌++◌, length, true, Option, Some, None, refl, sym, ap, subst, arith, ◌∙◌, ◌⊎◌, inl, inr, IfSome, nat_tests, Number, Token, Lex, Minus, Whole, Zero, Mode, After, byte, token_at, State, state, in_atom, lex_start, lex_step, Continues, still, further, ComesTo, BeginsValue, IsNumberUpTo, EndsItem, is_digit}
 use Rattle.cj_spans.proofs.Runs.{idle, atom_ends, IsEnd, comma, bracket}
 use Rattle.cj_spans.proofs.Atoms.{ends_ok}
 use Rattle.cj_spans.proofs.Places.{step_atom}
