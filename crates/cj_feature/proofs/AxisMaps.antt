@@ -1,5 +1,5 @@
 -- The maps that a header shows are of numbers that it has, and so are the numbers of a feature's vertices.
-use Rattle.cj_feature.proofs.Common.{Bool, IfSome, List, None, Number, Option, Some, Tree, [], ap, arith, begins_whole, chars, codes, drop, false, is_vertex, length, list_all, map, number_on, option_map, refl, subst, suc, sym, true, units_of, vertex_of, zero, ℕ, ℤ, ◌&&◌, ◌<◌, ◌∙◌, ◌∷◌, ◌≡◌}
+use Rattle.cj_feature.proofs.Common.{Bool, IfSome, List, None, Number, Option, Some, Tree, [], and_parts, ap, arith, begins_whole, chars, codes, drop, false, is_vertex, length, list_all, map, number_on, option_map, refl, subst, suc, sym, true, units_of, vertex_of, zero, ℕ, ℤ, ◌<◌, ◌∙◌, ◌∷◌, ◌≡◌}
 use Rattle.std.proofs.Common.{get_or}
 use Rattle.cj_decimal.specs.Meaning.Affine.{AffineMap}
 use Rattle.cj_feature.specs.declared.header.reading.HeaderParts.{HeaderParts}
@@ -54,16 +54,12 @@ number-there zero (Some x ∷ ws) h = refl
 number-there (suc axis) [] h = absurd (cc h)
 number-there (suc axis) (w ∷ ws) h = number-there axis ws h
 
-both : (a b : Bool) → a && b ≡ true → (a ≡ true) × (b ≡ true)
-both true b h = (refl, h)
-both false b h = absurd (cc h)
-
 -- each vertex has a number on each axis
 pub numbers-there : (axis : ℕ) → axis < 3 → (ts : List Tree) → list_all is_vertex ts ≡ true
     → map Some (map (number_on axis) (map vertex_of ts)) ≡ map (λ v. get_or v axis None) (map vertex_of ts)
 numbers-there axis within [] h = refl
 numbers-there axis within (t ∷ ts) h =
-    let all = both (is_vertex t) (list_all is_vertex ts) h in
+    let all = and_parts (is_vertex t) (list_all is_vertex ts) h in
     let first = number-there axis (vertex_of t) (three-begin axis (vertex_of t) all.0 within) in
     ap (λ o. o ∷ map Some (map (number_on axis) (map vertex_of ts))) first
     ∙ ap (λ os. get_or (vertex_of t) axis None ∷ os) (numbers-there axis within ts all.1)

@@ -24,6 +24,7 @@ pub use Rattle.cj_feature.specs.inner.Slots.{IsReady, SlotHolds}
 pub use Rattle.cj_feature.specs.inner.Tag.{tag_of}
 pub use Rattle.cj_feature.specs.inner.Typed.{are_one, are_three, are_two, begins_whole, is_vertex}
 pub use Rattle.cj_feature.specs.inner.Unmarked.{AreInNameOrder, ArePassed, IsNoted, IsSought, ListSoughtMarks, SoughtHaveMarks}
+pub use Rattle.cj_geometry.proofs.Neighbours.{contains_cases, contains_first, contains_later, contains_none}
 pub use Rattle.cj_geometry.specs.Meaning.Geometry.{TemplateSource, count_of, empty, geometry, listed, template_count}
 pub use Rattle.cj_geometry.specs.Meaning.Numbers.{index, is_outside, number, spelling, value_findings, value_of, whole_findings, whole_number, whole_of}
 pub use Rattle.cj_geometry.specs.Meaning.Rule.{distinct, has_length, if_there, may_have, missing, needs, nothing, of_kind, of_length, one}
@@ -47,11 +48,12 @@ pub use Rattle.cj_spans.specs.declared.reason.Reason.TheVariants.{BadInstance, C
 pub use Rattle.cj_spans.specs.declared.token.Kind.{Kind}
 pub use Rattle.cj_spans.specs.declared.token.Token.{Token}
 pub use Rattle.std.proofs.Common.{Bool, Contains, Err, IfNone, IfSome, IsTrue, List, None, Ok, Option, Result, Some, [], ap, append-nil, append_assoc, arith, codes, cond, drop, eqb-true, false, filter, flat_map, inl, inr, is_lt, is_some, length, length-drop, length-set, map, nat_eq, nat_lt, negsuc, not, option_and_then, option_map, pos, refl, rules, slice_set, subst, suc, sym, take, take_at, true, zero, ℕ, ℤ, ◌&&◌, ◌++◌, ◌+◌, ◌-◌, ◌<◌, ◌||◌, ◌∙◌, ◌∷◌, ◌≡◌, ◌≢◌, ◌≤◌, ◌⊎◌}
-pub use Rattle.std.proofs.lemmas.Bool.{cases_eq, cases_lt}
+pub use Rattle.std.proofs.lemmas.Bool.{and_parts, both_ways, cases_Bool, cases_eq, cases_lt, false_from_ne_true}
 pub use Rattle.std.proofs.lemmas.Bool.Decides.{nat_tests}
 pub use Rattle.std.proofs.lemmas.Fn.{always_returns_same}
 pub use Rattle.std.proofs.lemmas.Grind.{common_steps}
 pub use Rattle.std.proofs.lemmas.List.{drop-map, drop_all, map-append, take-append-le}
+pub use Rattle.std.proofs.lemmas.List.Elements.{All-contains, Contains-append_cases, Contains-append_left, Contains-append_right}
 pub use Rattle.std.proofs.lemmas.List.Sorted.{Contains-permutation, IsPartitionPoint-from_clause, IsPermutation-put_mid, IsPermutation-sym, ranks_by, searchable_from_sorted, sorted_far}
 pub use Rattle.std.proofs.lemmas.Option.{IfSome_then, slice_get_within}
 pub use Rattle.std.specs.List.{list_all, list_any}

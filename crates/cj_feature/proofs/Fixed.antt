@@ -1,15 +1,10 @@
 -- The test for a fixed number.
-use Rattle.cj_feature.proofs.Common.{Bool, IsFixed, IsNormal, None, Number, Option, Some, arith, false, is_fixed, is_fixed_by, is_some, nat_lt, nat_tests, negsuc, pos, refl, true, units_by, units_of, ℕ, ℤ, ◌<◌, ◌≡◌}
+use Rattle.cj_feature.proofs.Common.{Bool, IsFixed, IsNormal, None, Number, Option, Some, arith, false, is_fixed, is_fixed_by, is_some, negsuc, pos, refl, true, units_by, units_of, ℤ, ◌<◌, ◌≡◌}
 use Rattle.std.proofs.Common.{◌*◌, ◌^◌, neg_ℤ, ◌+ℤ◌, ◌*ℤ◌, unsigned_abs, ◌↔◌, IsSome}
 use Rattle.std.proofs.lemmas.Int.{ints}
 use Rattle.cj_decimal.proofs.Values.{abs_times}
 use Rattle.cj_decimal.proofs.Scales.{units_below, units_are, units_same, size_of_units}
-
-below-is : (a b : ℕ) → nat_lt a b ≡ true → a < b
-below-is a b h = grind (arith, nat_tests)
-
-is-below : (a b : ℕ) → a < b → nat_lt a b ≡ true
-is-below a b h = grind (arith, nat_tests)
+use Rattle.std.proofs.lemmas.Bool.{lt-ltb, ltb-true}
 
 -- the units of a number that passes the test, and no other number of them
 pub fixed-units : (n : Number) → is_fixed n ≡ true → IsFixed n (units_of n)
@@ -23,7 +18,7 @@ fixed-units n h = go (n.power +ℤ pos 18) refl h
         omega (
           arith,
           abs_times n.coefficient (10 ^ k),
-          below-is (unsigned_abs n.coefficient * 10 ^ k) (10 ^ 36) h,
+          ltb-true (unsigned_abs n.coefficient * 10 ^ k) (10 ^ 36) h,
         ) in
         record { same = units_same n u (neg_ℤ (pos 18)) k (omega (arith, ints, e)) refl; small = small }
     go (negsuc k) e h = absurd (cc h)
@@ -37,24 +32,13 @@ units-only n u h f = go (n.power +ℤ pos 18) refl h
     go (negsuc k) e h = absurd (cc h)
 
 module _ (n : Number) (normal : IsNormal n) where
-  test-of : (shift : ℤ) → n.power +ℤ pos 18 ≡ shift → is_fixed_by shift n.coefficient ≡ true → (u : ℤ) × IsFixed n u
-  test-of (pos k) e h =
-      let u = n.coefficient *ℤ pos (10 ^ k) in
-      let small : unsigned_abs u < 10 ^ 36 =
-      omega (arith, abs_times n.coefficient (10 ^ k), below-is (unsigned_abs n.coefficient * 10 ^ k) (10 ^ 36) h) in
-      (u, record { same = units_same n u (neg_ℤ (pos 18)) k (omega (arith, ints, e)) refl; small = small })
-  test-of (negsuc k) e h = absurd (cc h)
-
   of-test : (shift : ℤ) → n.power +ℤ pos 18 ≡ shift → (u : ℤ) × IsFixed n u → is_fixed_by shift n.coefficient ≡ true
   of-test (pos k) e f =
       let size : unsigned_abs f.0 ≡ unsigned_abs n.coefficient * 10 ^ k =
       size_of_units n f.0 (neg_ℤ (pos 18)) k (omega (arith, ints, e)) f.1.same in
-      is-below (unsigned_abs n.coefficient * 10 ^ k) (10 ^ 36) (omega (arith, size, f.1.small))
+      lt-ltb (unsigned_abs n.coefficient * 10 ^ k) (10 ^ 36) (omega (arith, size, f.1.small))
   of-test (negsuc k) e f =
       absurd (units_below n f.0 (neg_ℤ (pos 18)) normal f.1.same (omega (arith, ints, e)) (omega (arith, ints)))
-
-  pub fixed-test : is_fixed n ≡ true → (u : ℤ) × IsFixed n u
-  fixed-test = test-of (n.power +ℤ pos 18) refl
 
   pub test-fixed : (u : ℤ) × IsFixed n u → is_fixed n ≡ true
   test-fixed = of-test (n.power +ℤ pos 18) refl

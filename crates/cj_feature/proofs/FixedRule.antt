@@ -1,9 +1,9 @@
 -- The rule on a fixed number, and the maps of axes that it allows.
-use Rattle.cj_feature.proofs.Common.{Bool, DecimalFault, Err, Finding, IsInRange, IsNumberInRange, IsValue, List, NotThree, Number, Ok, Option, Result, Some, TransformNotFixed, Tree, [], ap, append-nil, cond, decimal_of, eqb-true, false, fixed, flat_map, has_length, is_array, is_fixed, is_number, items_if, items_of, kind_of, length, map, member_of, nat_eq, needs, not, number, of_length, one, refl, result_ok, spelling, spelling_of, subst, sym, take, three_numbers, true, value_of, ℕ, ◌++◌, ◌∙◌, ◌∷◌, ◌≡◌}
+use Rattle.cj_feature.proofs.Common.{Bool, DecimalFault, Err, Finding, IsInRange, IsNumberInRange, IsValue, List, NotThree, Number, Ok, Option, Result, Some, TransformNotFixed, Tree, [], ap, append-nil, cond, decimal_of, eqb-true, false, fixed, flat_map, is_fixed, is_number, items_if, items_of, kind_of, length, map, member_of, needs, not, number, of_length, one, refl, result_ok, spelling, spelling_of, subst, sym, take, three_numbers, true, value_of, ℕ, ◌++◌, ◌∙◌, ◌∷◌, ◌≡◌}
 use Rattle.std.specs.Option.{option_map_or}
 use Rattle.cj_decimal.proofs.Decimals.{decimal_is, decimal_has}
 use Rattle.cj_feature.specs.Shown.{are_fixed, first_two}
-use Rattle.cj_feature.proofs.None.{none-both, of_kind-none, by-member}
+use Rattle.cj_feature.proofs.None.{by-member, holds, kind-none, none-both}
 use Rattle.cj_feature.proofs.Values.{is-number, same-spelling}
 
 -- ---- a rule for the first two
@@ -45,12 +45,8 @@ by-answer t u false e = rw e refl
 
 -- ---- what a number of no findings is
 
-none-fixed : (t : Tree) (b : Bool) → cond b [] (one TransformNotFixed t) ≡ [] → b ≡ true
-none-fixed t true h = refl
-none-fixed t false h = absurd (cc h)
-
 value-fixed : (t : Tree) (v : Number) → value_of t ≡ Some v → fixed t ≡ [] → is_fixed v ≡ true
-value-fixed t v e h = none-fixed t (is_fixed v) (subst (λ o. fixed_findings t o ≡ []) e h)
+value-fixed t v e h = holds (is_fixed v) TransformNotFixed t (subst (λ o. fixed_findings t o ≡ []) e h)
 
 -- ---- three numbers, of which the first two are fixed
 
@@ -68,16 +64,9 @@ three-values (a ∷ b ∷ ts) (x ∷ y ∷ ns) few h e =
     let fb : is_fixed y ≡ true = value-fixed b y second none.1 in
     rw (fa, fb) refl
 
-by-length : (t : Tree) (b : Bool) → nat_eq (length (items_of t)) 3 ≡ b → cond b [] (one NotThree t) ≡ []
-    → length (items_of t) ≡ 3
-by-length t true e h = eqb-true (length (items_of t)) 3 e
-by-length t false e h = absurd (cc h)
-
 length-three : (t : Tree) → of_length NotThree 3 number t ≡ [] → length (items_of t) ≡ 3
 length-three t h =
-    let inside = (of_kind-none (λ u. has_length NotThree 3 u ++ flat_map number (items_of u)) t is_array h).1 in
-    by-length t (nat_eq (length (items_of t)) 3) refl
-    (none-both (has_length NotThree 3 t) (flat_map number (items_of t)) inside).0
+    eqb-true (length (items_of t)) 3 (holds _ NotThree t (none-both _ _ (kind-none _ _ t h).1).0)
 
 module _ (name : List ℕ) (u : Tree) where
   -- three numbers, whatever is said of the first two

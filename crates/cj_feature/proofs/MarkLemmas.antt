@@ -1,5 +1,5 @@
 -- Marks set one after another.
-use Rattle.cj_feature.proofs.Common.{IsMarked, List, Token, Tree, [], ap, arith, cases_lt, cond, false, has_mark, inl, inr, is_marked_at, length, refl, spans_of, subst, suc, sym, tree_at, true, zero, ℕ, ◌+◌, ◌<◌, ◌∙◌, ◌∷◌, ◌≡◌, ◌≢◌, ◌⊎◌}
+use Rattle.cj_feature.proofs.Common.{IsMarked, List, Token, Tree, [], ap, arith, cases_eq, cond, false, has_mark, inl, inr, is_marked_at, length, refl, spans_of, subst, suc, sym, tree_at, true, zero, ℕ, ◌+◌, ◌<◌, ◌∙◌, ◌∷◌, ◌≡◌, ◌≢◌, ◌⊎◌}
 
 -- how many have no mark
 abbrev pub unmarked_count : List Token → ℕ
@@ -40,21 +40,13 @@ count-less (t ∷ ts) (u ∷ us) (suc n) l w h g o =
     more : (x y m n : ℕ) → x ≡ y → m < n → x + m < y + n
     more x y m n a b = omega arith
 
-same-or-not : (k n : ℕ) → (k ≡ n) ⊎ (k ≢ n)
-same-or-not k n =
-    elim (cases_lt k n) [
-      | inl l ↦ inr (λ e. omega arith)
-      | inr m ↦
-          elim (cases_lt n k) [ inl l ↦ inr (λ e. omega arith) | inr o ↦ inl (omega arith) ]
-    ]
-
 -- what has a mark after one more is set, is what has been given it, or had one
 pub marked-more : (line : List ℕ) (ts us : List Token) (n : ℕ) (t : Tree) → spans_of us ≡ spans_of ts
     → ((k : ℕ) → k ≢ n → is_marked_at us k ≡ is_marked_at ts k) → IsMarked line us t
     → (tree_at line (spans_of ts) n ≡ t) ⊎ IsMarked line ts t
 marked-more line ts us n t s o m =
     let shown = subst (λ ss. tree_at line ss m.number ≡ t) s m.shown in
-    elim (same-or-not m.number n) [
+    elim (cases_eq m.number n) [
       | inl e ↦ inl (subst (λ k. tree_at line (spans_of ts) k ≡ t) e shown)
       | inr ne ↦ inr (record { number = m.number; marked = sym (o m.number ne) ∙ m.marked; shown = shown })
     ]

@@ -1,35 +1,23 @@
 -- Names that are noted in order.
-use Rattle.cj_feature.proofs.Common.{AreInNameOrder, Contains, Contains-permutation, Equal, Err, IsNoted, IsSought, List, Node, Noted, Ok, Result, Side, Tree, [], ap, arith, cases_lt, compare_sides, false, inl, inr, length, length-set, same_text, searchable_from_sorted, side_in, side_of, slice_set, subst, sym, take, text_of, true, ℕ, ◌+◌, ◌<◌, ◌∙◌, ◌≡◌}
-use Rattle.std.proofs.Common.{get_or, is_ok, IsPermutation, get_or-take, get_or-set_same, get_or-set_other, length-take-le}
+use Rattle.cj_feature.proofs.Common.{AreInNameOrder, Contains, Contains-append_left, Contains-permutation, Equal, Err, IsNoted, IsSought, List, Node, Noted, Ok, Result, Side, Tree, [], ap, arith, cases_lt, compare_sides, false, inl, inr, length, same_text, searchable_from_sorted, side_in, side_of, slice_set, subst, sym, take, text_of, true, ℕ, ◌+◌, ◌<◌, ◌∙◌, ◌∷◌, ◌≡◌}
+use Rattle.std.proofs.Common.{get_or, is_ok, IsPermutation}
 use Rattle.std.specs.Cmp.{tied_itself}
 use Rattle.std.specs.List.Sorted.{IsBinarySearchResult}
 use Rattle.cj_feature.specs.declared.feature.search.unmarked.Names.{Names}
 use Rattle.cj_feature.specs.declared.feature.search.unmarked.Names.TheVariants.{Every, These}
+use Rattle.std.proofs.lemmas.List.Elements.{Contains-push}
+use Rattle.std.proofs.lemmas.List.{take_more_set}
 use Rattle.cj_feature.proofs.LinkFaults.{from-texts}
 use Rattle.cj_feature.proofs.Questions.{sides_total}
 
 module _ {X : Type 0} (xs : List X) (c : ℕ) (v : X) (below : c < length xs) where
-  long : length (take (c + 1) (slice_set xs c v)) ≡ c + 1
-  long = length-take-le (c + 1) (slice_set xs c v) (omega (arith, length-set xs c v, below))
-
   -- what is among the first ones is so with one more
   pub kept-first : (x : X) → Contains (take c xs) x → Contains (take (c + 1) (slice_set xs c v)) x
-  kept-first x h =
-      let low : h.0 < c = omega (arith, h.1, length-take-le c xs (omega (arith, below))) in (
-        h.0,
-        omega (arith, long, low),
-        get_or-take (c + 1) (slice_set xs c v) h.0 x (omega arith)
-            ∙ get_or-set_other xs c h.0 v x (λ e. absurd (omega arith)) ∙ sym (get_or-take c xs h.0 x low) ∙ h.2,
-      )
+  kept-first x h = rw (take_more_set xs c v below) (Contains-append_left (take c xs) (v ∷ []) x h)
 
   -- and so is that one
   pub last-first : Contains (take (c + 1) (slice_set xs c v)) v
-  last-first = (
-    c,
-    omega (arith, long),
-    get_or-take (c + 1) (slice_set xs c v) c v (omega arith)
-        ∙ get_or-set_same xs c v v below,
-  )
+  last-first = rw (take_more_set xs c v below) (Contains-push (take c xs) v)
 
 module _ (objects : Node) where
   -- names in another order are the same

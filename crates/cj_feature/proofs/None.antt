@@ -1,5 +1,5 @@
 -- What follows where a rule finds nothing.
-use Rattle.cj_feature.proofs.Common.{Bool, Finding, Kind, List, None, Option, Some, Tree, WrongKind, [], cond, false, flat_map, if_there, kind_of, list_all, member_of, missing, needs, of_kind, one, refl, true, ℕ, ◌++◌, ◌∷◌, ◌≡◌}
+use Rattle.cj_feature.proofs.Common.{Bool, Finding, List, None, Option, Reason, Some, Tree, WrongKind, [], cond, false, flat_map, if_there, list_all, member_of, missing, needs, one, refl, true, ℕ, ◌++◌, ◌∷◌, ◌≡◌}
 
 -- neither of two lists has one
 pub none-both : (fs gs : List Finding) → fs ++ gs ≡ [] → (fs ≡ []) × (gs ≡ [])
@@ -7,14 +7,11 @@ none-both [] gs h = (refl, h)
 none-both (f ∷ fs) gs h = absurd (cc h)
 
 -- the value is of the kind, and the rule on it finds nothing
+pub kind-none : (b : Bool) (fs : List Finding) (t : Tree) → cond b fs (one WrongKind t) ≡ [] → (b ≡ true) × (fs ≡ [])
+kind-none true fs t h = (refl, h)
+kind-none false fs t h = absurd (cc h)
+
 module _ (rule : Tree → List Finding) (t : Tree) where
-  by-kind : (b : Bool) → cond b (rule t) (one WrongKind t) ≡ [] → (b ≡ true) × (rule t ≡ [])
-  by-kind true h = (refl, h)
-  by-kind false h = absurd (cc h)
-
-  pub of_kind-none : (is : Kind → Bool) → of_kind is rule t ≡ [] → (is (kind_of t) ≡ true) × (rule t ≡ [])
-  of_kind-none is h = by-kind (is (kind_of t)) h
-
   pub by-member : (o : Option Tree) → missing t o ++ if_there rule o ≡ [] → (u : Tree) × (o ≡ Some u) × (rule u ≡ [])
   by-member None h = absurd (cc h)
   by-member (Some u) h = (u, refl, h)
@@ -32,6 +29,11 @@ module _ (rule : Tree → List Finding) (t : Tree) where
         let has = found in
         let same : u ≡ has.0 = cc in
         rw same has.2
+
+-- a test holds, where another outcome has a finding
+pub holds : (b : Bool) (r : Reason) (t : Tree) → cond b [] (one r t) ≡ [] → b ≡ true
+holds true r t h = refl
+holds false r t h = absurd (cc h)
 
 -- and each of a list, where a rule finds nothing in any, passes a test that the rule decides
 pub none-each : {A : Type 0} (rule : A → List Finding) (test : A → Bool) → ((x : A) → rule x ≡ [] → test x ≡ true)

@@ -1,31 +1,27 @@
 -- The LoDs of a valid feature beside a header without templates: no geometry is an instance.
-use Rattle.cj_feature.proofs.Common.{BadInstance, Bool, DecimalFault, Err, List, None, Number, Ok, Option, Result, Some, TemplateIndex, TemplateSource, Tree, [], ap, arith, as_whole, chars, city_object, city_objects, codes, cond, count_of, decimal_of, distinct, false, feature, flat_map, geometries, geometry, has_text, if_there, index, is_array, is_number, is_object, is_outside, is_text, items_if, items_of, map, map-append, may_have, member_of, members_if, members_of, nat_lt, nat_tests, needs, negsuc, not, object_geometries, object_type, of_kind, one, pos, refl, second_level, spelling, subst, sym, template_count, templates_of, texts, true, value_findings, whole_findings, ℕ, ℤ, ◌++◌, ◌∙◌, ◌∷◌, ◌≡◌}
-use Rattle.cj_geometry.specs.Meaning.Geometry.{typed_rules, form_rules, instance_rules, is_itself}
+use Rattle.cj_feature.proofs.Common.{BadInstance, Bool, DecimalFault, Err, List, None, Number, Ok, Option, Result, Some, TemplateIndex, TemplateSource, Tree, [], ap, arith, as_whole, chars, city_object, city_objects, codes, cond, count_of, decimal_of, false, feature, flat_map, geometries, geometry, has_text, if_there, index, is_outside, is_text, items_if, items_of, map, map-append, member_of, members_if, members_of, nat_lt, nat_tests, negsuc, not, object_geometries, of_kind, one, pos, refl, spelling, subst, sym, template_count, templates_of, true, value_findings, whole_findings, ℕ, ℤ, ◌++◌, ◌∙◌, ◌∷◌, ◌≡◌}
+use Rattle.cj_geometry.specs.Meaning.Geometry.{form_rules, instance_rules, is_itself}
 use Rattle.cj_geometry.specs.Meaning.Lod.{is_instance, lod}
 use Rattle.cj_geometry.specs.Meaning.Table.{form_of, instance}
 use Rattle.cj_geometry.proofs.Texts.{other_text}
-use Rattle.cj_feature.proofs.None.{none-both, of_kind-none, by-member}
+use Rattle.cj_feature.proofs.None.{by-member, kind-none, none-both}
 use Rattle.cj_feature.proofs.Valid.{has-objects}
 
 -- the type of instances has their form
 instance-form : (t : Tree) → has_text (chars (codes "GeometryInstance")) t ≡ true → form_of t ≡ Some instance
 unfolding chars
 instance-form t h =
-    let a : has_text (chars (codes "MultiPoint")) t ≡ false =
-    other_text (chars (codes "GeometryInstance")) (chars (codes "MultiPoint")) t h in
-    let b : has_text (chars (codes "MultiLineString")) t ≡ false =
-    other_text (chars (codes "GeometryInstance")) (chars (codes "MultiLineString")) t h in
-    let c : has_text (chars (codes "MultiSurface")) t ≡ false =
-    other_text (chars (codes "GeometryInstance")) (chars (codes "MultiSurface")) t h in
-    let d : has_text (chars (codes "CompositeSurface")) t ≡ false =
-    other_text (chars (codes "GeometryInstance")) (chars (codes "CompositeSurface")) t h in
-    let e : has_text (chars (codes "Solid")) t ≡ false =
-    other_text (chars (codes "GeometryInstance")) (chars (codes "Solid")) t h in
-    let f : has_text (chars (codes "MultiSolid")) t ≡ false =
-    other_text (chars (codes "GeometryInstance")) (chars (codes "MultiSolid")) t h in
-    let g : has_text (chars (codes "CompositeSolid")) t ≡ false =
-    other_text (chars (codes "GeometryInstance")) (chars (codes "CompositeSolid")) t h in
-    rw (a, b, c, d, e, f, g, h) refl
+    let no = λ (s : List ℕ). other_text (chars (codes "GeometryInstance")) s t h in
+    rw (
+      no (chars (codes "MultiPoint")),
+      no (chars (codes "MultiLineString")),
+      no (chars (codes "MultiSurface")),
+      no (chars (codes "CompositeSurface")),
+      no (chars (codes "Solid")),
+      no (chars (codes "MultiSolid")),
+      no (chars (codes "CompositeSolid")),
+      h,
+    ) refl
 
 -- no number is an index of nothing
 below-none : (k : ℕ) → nat_lt k 0 ≡ false
@@ -51,10 +47,7 @@ module _ (vertices : Option ℕ) (templates : TemplateSource) (empty : template_
       let found = by-member (index TemplateIndex (Some 0)) g (member_of (chars (codes "template")) g)
       (none-both _ _ (none-both _ _ none).0).0 in
       no-index found.0 (decimal_of (spelling found.0))
-      (of_kind-none (λ u. value_findings (λ v. whole_findings
-      (λ w. cond (is_outside (Some 0) w) (one TemplateIndex found.0) []) found.0 (as_whole v))
-      u (decimal_of (spelling u)))
-      found.0 is_number found.2).1
+      (kind-none _ _ found.0 found.2).1
 
   no-form : (b : Bool) (g t : Tree) → cond b (one BadInstance t) (instance_rules vertices (template_count templates) g)
       ≡ [] → ⊥
@@ -63,10 +56,10 @@ module _ (vertices : Option ℕ) (templates : TemplateSource) (empty : template_
 
   not-instance : (g : Tree) → geometry vertices templates g ≡ [] → is_instance g ≡ false
   not-instance g h =
-      let rules = (of_kind-none (λ u. distinct u ++ typed_rules vertices templates u) g is_object h).1 in
+      let rules = (kind-none _ _ g h).1 in
       let name = λ (t : Tree). form_rules vertices templates g t (form_of t) in
       let has = by-member (of_kind is_text name) g (member_of (chars (codes "type")) g) (none-both _ _ rules).1 in
-      go has.0 has.1 (of_kind-none name has.0 is_text has.2).1 (has_text (chars (codes "GeometryInstance")) has.0) refl
+      go has.0 has.1 (kind-none _ _ has.0 has.2).1 (has_text (chars (codes "GeometryInstance")) has.0) refl
     where
       go : (t : Tree) → member_of (chars (codes "type")) g ≡ Some t → form_rules vertices templates g t (form_of t) ≡ []
           → (b : Bool) → has_text (chars (codes "GeometryInstance")) t ≡ b → is_instance g ≡ false
@@ -92,20 +85,13 @@ module _ (vertices : Option ℕ) (templates : TemplateSource) (empty : template_
   of-member None h = refl
   of-member (Some t) h =
       own-lods (items_of t)
-      (of_kind-none (λ u. flat_map (geometry vertices templates) (items_of u)) t is_array h).1
+      (kind-none _ _ t h).1
 
   of-object : (m : Tree × Tree) → city_object true vertices templates m.1 ≡ []
       → map (lod templates) (object_geometries m) ≡ map (member_of (chars (codes "lod"))) (object_geometries m)
   of-object m h =
       let o = m.1 in
-      let rules : distinct o ++ needs (chars (codes "type")) (object_type true) o
-      ++ may_have (chars (codes "geometry")) (geometries vertices templates) o
-      ++ may_have (chars (codes "children")) texts o ++ may_have (chars (codes "parents")) texts o ++ second_level o
-      ≡ [] =
-      (of_kind-none (λ u. distinct u ++ needs (chars (codes "type")) (object_type true) u
-      ++ may_have (chars (codes "geometry")) (geometries vertices templates) u
-      ++ may_have (chars (codes "children")) texts u ++ may_have (chars (codes "parents")) texts u
-      ++ second_level u) o is_object h).1 in
+      let rules = (kind-none _ _ o h).1 in
       of-member (member_of (chars (codes "geometry")) o)
       (none-both _ _ (none-both _ _ (none-both _ _ (none-both _ _ rules).0).0).0).1
 
@@ -133,6 +119,5 @@ valid-lods header t valid empty =
     let has = by-member (city_objects true vertices templates) t (member_of (chars (codes "CityObjects")) t)
     (has-objects templates t valid) in
     let u = has.0 in
-    let rules = (of_kind-none
-    (λ v. distinct v ++ flat_map (λ m. city_object true vertices templates m.1) (members_of v)) u is_object has.2).1 in
+    let rules = (kind-none _ _ u has.2).1 in
     rw has.1 (of-objects vertices templates empty (members_of u) (none-both _ _ rules).1)

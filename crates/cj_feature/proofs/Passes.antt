@@ -1,21 +1,17 @@
 -- Links in two walks: the children of all city objects, then their parents.
-use Rattle.cj_feature.proofs.Common.{Bool, ChildNotFound, Finding, LinkNotMutual, List, NoParent, None, Option, Reason, Some, Tree, [], answered, ap, at_second_level, back_of, chars, children, codes, cond, false, flat_map, has_item, is_array, is_known, is_text, items_if, kind_of, least, linked, list_any, listed_in, lists, member_of, not, object_links, one, parents, part, part_of, refl, same_text, sym, true, ℕ, ◌&&◌, ◌++◌, ◌||◌, ◌∙◌, ◌∷◌, ◌≡◌}
+use Rattle.cj_feature.proofs.Common.{Bool, ChildNotFound, Finding, LinkNotMutual, List, NoParent, None, Option, Reason, Some, Tree, [], and_parts, answered, ap, at_second_level, back_of, chars, children, codes, cond, false, flat_map, has_item, is_array, is_known, is_text, items_if, kind_of, least, linked, list_any, listed_in, lists, member_of, not, object_links, one, parents, part, part_of, refl, same_text, sym, true, ℕ, ◌&&◌, ◌++◌, ◌∙◌, ◌∷◌, ◌≡◌}
 use Rattle.cj_spans.proofs.Findings.{least-append, least-swap}
 use Rattle.cj_feature.specs.declared.feature.search.link.Link.{Link}
 use Rattle.cj_feature.specs.declared.feature.search.link.Link.TheVariants.{Child, Parent}
+use Rattle.cj_feature.proofs.LinkFaults.{from-any, to-any}
 
 -- ---- who lists is in the feature
 
 pub lists_known : (list : List ℕ) (objects : List (Tree × Tree)) (from to : Tree) → lists list objects from to ≡ true
     → is_known objects from ≡ true
-lists_known list [] from to h = h
-lists_known list (m ∷ ms) from to h =
-    go (same_text m.0 from) (has_item (listed_in list m.1) to) (lists_known list ms from to) h
-  where
-    go : (a b : Bool) → (lists list ms from to ≡ true → is_known ms from ≡ true)
-        → a && b || lists list ms from to ≡ true → a || is_known ms from ≡ true
-    go true b later h = refl
-    go false b later h = later h
+lists_known list objects from to h =
+    let r = from-any (λ m. same_text m.0 from && has_item (listed_in list m.1) to) objects h in
+    to-any (λ m. same_text m.0 from) objects r.0 r.1 (and_parts _ _ r.2).0
 
 -- what is found on one that is listed, where it is none or an id, and where it is listed back
 abbrev found_on : Bool → Bool → Bool → Tree → List Finding → List Finding

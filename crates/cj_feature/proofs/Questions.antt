@@ -1,5 +1,5 @@
 -- Questions on links, in order.
-use Rattle.cj_feature.proofs.Common.{AreLeft, AreListed, AreQuestionsInOrder, Bool, Equal, Greater, IsFirstOn, Less, List, Node, None, Option, Question, Side, Some, Tree, [], always_returns_same, ap, append_assoc, are_same_texts, arith, array, cases_eq, cases_lt, compare_keys, compare_sides, drop, false, from_in, inl, inr, is_known, is_lt, key_in, kind_of, length, lists, members_of, object, ranks_by, refl, same_text, scalar, searchable_from_sorted, side_of, slice_get_within, slice_set, sorted_far, subst, suc, sym, tag_of, take, text_of, tree, true, ℕ, ◌++◌, ◌+◌, ◌-◌, ◌<◌, ◌||◌, ◌∙◌, ◌∷◌, ◌≡◌, ◌≤◌, ◌⊎◌}
+use Rattle.cj_feature.proofs.Common.{AreLeft, AreListed, AreQuestionsInOrder, Bool, Equal, Greater, IsFirstOn, Less, List, Node, None, Option, Question, Side, Some, Tree, [], always_returns_same, ap, append_assoc, are_same_texts, arith, cases_Bool, cases_eq, cases_lt, compare_keys, compare_sides, drop, false, false_from_ne_true, from_in, inl, inr, is_known, is_lt, key_in, kind_of, length, lists, members_of, ranks_by, refl, same_text, searchable_from_sorted, slice_get_within, slice_set, sorted_far, subst, suc, sym, tag_of, take, text_of, text_side, tree, true, ℕ, ◌++◌, ◌+◌, ◌-◌, ◌<◌, ◌||◌, ◌∙◌, ◌∷◌, ◌≡◌, ◌≤◌}
 use Rattle.std.proofs.Common.{get_or, slice_get, slice_index_or, IsSortedBy, drop-set-lt, length-append, get_or-set_other}
 use Rattle.std.specs.Cmp.{IsStrictWeakOrder, IsTotalOrder, nat_cmp_total, on_total, then_total, tied_itself}
 use Rattle.std.specs.Cmp.Lexicographic.{nat_list_cmp_total, options_total}
@@ -10,11 +10,12 @@ use Rattle.std.specs.declared.cmp.Ordering.{Ordering}
 use Rattle.std.proofs.lemmas.List.{drop_more, take_more_set, get_or_append_left, get_or-append_right}
 use denote.Param.Members.{Mut}
 use denote.Ref.{Bor}
-use Rattle.cj_spans.specs.declared.token.Kind.TheVariants.{Null, Truth, Number, Text, Array, Object}
+use Rattle.cj_spans.specs.declared.token.Kind.TheVariants.{Text}
+use Rattle.cj_feature.specs.declared.feature.search.tagged.Text.{Text as Tagged}
 use Rattle.cj_spans.specs.Order.{compare_texts}
 use Rattle.cj_geometry.proofs.Initials.{still_free}
-use Rattle.cj_feature.proofs.LinkFaults.{from-texts}
 use Rattle.cj_feature.specs.inner.Questions.{Key, key_of, to_in, IsPlaceOf, IsQuestion}
+use Rattle.cj_feature.proofs.LinkFaults.{from-texts, known-text, text-cases}
 
 -- ---- a list in order
 
@@ -111,10 +112,6 @@ parted objects qs k h =
     λ i j d le below e. no_later (compare_keys (key_in objects (get_or qs i d)) k)
     (compare_keys (key_in objects (get_or qs j d)) k) (rises i j d le below) e
 
-either : (b : Bool) → (b ≡ true) ⊎ (b ≡ false)
-either true = inl refl
-either false = inr refl
-
 -- a key has one place below the end
 one_place : {X : Type 0} (p : X → Bool) (xs : List X) (d : X) (i j : ℕ) → i < length xs
     → IsPartitionPoint (λ y. p y ≡ true) (λ y. p y ≡ false) xs i
@@ -131,17 +128,11 @@ one_place p xs d i j below h k =
     omega arith
 
 module _ (objects : Node) (qs : List Question) where
-  place_by_sides : {s u : Side} {f o : Side} (p : ℕ) → s ≡ f → u ≡ o → IsPlaceOf objects (s, u) qs p
-      → IsPlaceOf objects (f, o) qs p
-  place_by_sides {s} {u} {f} {o} p e g h =
-      subst (λ v. IsPlaceOf objects (f, v) qs p) g (subst (λ v. IsPlaceOf objects (v, u) qs p) e h)
-
-  -- so it is with two texts that have their tags, of which the second is that of the city objects
-  pub place_by_texts : (p f o : ℕ) (t u : Tree) → f ≡ tag_of (text_of t) → o ≡ tag_of (text_of u) → u ≡ tree objects
-      → IsPlaceOf objects ((f, text_of t), (o, text_of u)) qs p
-      → IsPlaceOf objects (key_of (text_of t) (text_of (tree objects))) qs p
-  place_by_texts p f o t u e g same h =
-      place_by_sides p (ap (λ n. (n, text_of t)) e) (ap (λ n. (n, text_of u)) g ∙ ap (λ w. side_of (text_of w)) same) h
+  -- so it is with two texts, of which the second is that of the city objects
+  pub place_by_texts : (p : ℕ) (from to : Tagged) → tree to.node ≡ tree objects
+      → IsPlaceOf objects (text_side from, text_side to) qs p
+      → IsPlaceOf objects (key_of (text_of (tree from.node)) (text_of (tree objects))) qs p
+  place_by_texts p from to same h = rw (from.tagged, to.tagged, same) at h
 
   -- the first question on a text stands where its key has its place
   pub only_here : (t : Tree) (p i : ℕ) → IsPlaceOf objects (key_of (text_of t) (text_of (tree objects))) qs p
@@ -162,11 +153,11 @@ module _ (objects : Node) (qs : List Question) where
 
   moved : (n t : Tree) (i : ℕ) → text_of n ≡ text_of t → IsFirstOn objects qs t i → IsFirstOn objects qs n i
   moved n t i e f = record {
-    place = subst (λ o. IsPlaceOf objects (key_of o (text_of (tree objects))) qs i) (sym e) f.place;
+    place = rw e f.place;
     question = f.question;
     stands = f.stands;
     tagged = f.tagged ∙ ap tag_of (sym e);
-    same = subst (λ o. are_same_texts (text_of (from_in objects f.question)) o ≡ true) (sym e) f.same;
+    same = rw e f.same;
   }
 
   -- ---- one city object less is left
@@ -176,7 +167,7 @@ module _ (objects : Node) (qs : List Question) where
     -- whose name is not asked about
     pub left_unasked : ((i : ℕ) → IsFirstOn objects qs m.0 i → None ≡ Some i) → AreLeft objects qs flags rest
     left_unasked none = λ t i f clear.
-        elim (either (same_text m.0 t)) [
+        elim (cases_Bool (same_text m.0 t)) [
           | inl e ↦ let no : None ≡ Some i = none i (moved m.0 t i (same_texts m.0 t e) f) in absurd (cc)
           | inr e ↦ left t i f clear ∙ ap (λ v. v || is_known rest t) e
         ]
@@ -185,7 +176,7 @@ module _ (objects : Node) (qs : List Question) where
     pub left_flagged : (p : ℕ) → p < length flags → ((i : ℕ) → IsFirstOn objects qs m.0 i → Some p ≡ Some i)
         → AreLeft objects qs (slice_set flags p true) rest
     left_flagged p below is = λ t i f clear.
-        elim (either (same_text m.0 t)) [
+        elim (cases_Bool (same_text m.0 t)) [
           | inl e ↦
               let same : Some p ≡ Some i = is i (moved m.0 t i (same_texts m.0 t e) f) in
               let at : p ≡ i = cc in
@@ -220,25 +211,7 @@ module _ (objects : Node) (qs : List Question) where
 
 -- ---- what is no text is the name of nothing
 
-no_text : (t : Tree) → (kind_of t ≡ Text → ⊥) → text_of t ≡ None
-no_text (scalar Null a) h = refl
-no_text (scalar Truth a) h = refl
-no_text (scalar Number a) h = refl
-no_text (scalar Text a) h = absurd (h refl)
-no_text (scalar Array a) h = refl
-no_text (scalar Object a) h = refl
-no_text (array i j ts) h = refl
-no_text (object i j ms) h = refl
-
-none_same : (o : Option (List ℕ)) → are_same_texts o None ≡ false
-none_same None = refl
-none_same (Some s) = refl
-
-none_known : (objects : List (Tree × Tree)) (t : Tree) → text_of t ≡ None → is_known objects t ≡ false
-none_known [] t e = refl
-none_known (m ∷ ms) t e =
-    let here : same_text m.0 t ≡ false = ap (are_same_texts (text_of m.0)) e ∙ none_same (text_of m.0) in
-    ap (λ v. v || is_known ms t) here ∙ none_known ms t e
-
 pub unknown : (objects : List (Tree × Tree)) (t : Tree) → (kind_of t ≡ Text → ⊥) → is_known objects t ≡ false
-unknown objects t h = none_known objects t (no_text t h)
+unknown objects t h = false_from_ne_true _ (λ yes.
+    let is = known-text objects t yes in
+    elim (text-cases t) [ inl y ↦ h y.0 | inr n ↦ cc (n.1, is.1) ])

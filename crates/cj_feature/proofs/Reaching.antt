@@ -1,46 +1,41 @@
 -- What is reached from an id: told as the least set, and by rounds that compute. Both say the same.
-use Rattle.cj_feature.proofs.Common.{Bool, Children, Contains, IsIn, IsReached, List, None, Option, Reached, Some, Tree, [], ap, are_same_texts, arith, chars, child, codes, cond, false, filter, has_item, inl, inr, is_reached, itself, length, listed_in, not, reached_from, refl, same_text, subst, suc, sym, text_of, true, zero, ℕ, ◌+◌, ◌∙◌, ◌∷◌, ◌≡◌, ◌≤◌, ◌⊎◌}
-use Rattle.std.proofs.lemmas.List.Elements.{Contains-append_left, Contains-append_right, Contains-append_cases}
+use Rattle.cj_feature.proofs.Common.{All-contains, Bool, Contains, Contains-append_cases, Contains-append_left, Contains-append_right, IsIn, IsReached, List, Reached, Some, Tree, [], ap, arith, cases_Bool, chars, child, codes, contains_cases, contains_first, contains_later, contains_none, filter, has_item, inl, inr, is_reached, itself, length, listed_in, not, reached_from, refl, same_text, subst, suc, sym, text_of, true, zero, ℕ, ◌+◌, ◌∙◌, ◌∷◌, ◌≡◌, ◌≤◌, ◌⊎◌}
 use Rattle.std.proofs.lemmas.List.Filters.{length-filter_both}
 use Rattle.cj_feature.specs.Meaning.Reached.{list_child, reached_of}
-use Rattle.cj_feature.proofs.LinkFaults.{here, there, nowhere, first-or, from-any, to-any, carried, from-texts, to-texts, from-listed, to-listed}
+use Rattle.std.proofs.lemmas.Bool.{cond_both}
+use Rattle.std.proofs.lemmas.List.Elements.{All-contains_itself, All-filter, filter_passes}
+use Rattle.cj_feature.proofs.LinkFaults.{from-any, from-listed, from-texts, to-any, to-listed, to-texts}
 
 -- ---- elements that pass a test
 
 from-filter : {X : Type 0} (p : X → Bool) (xs : List X) (x : X) → Contains (filter p xs) x → Contains xs x
     × (p x ≡ true)
-from-filter p [] x h = absurd (nowhere x h)
-from-filter {X} p (y ∷ xs) x h = go (p y) refl h (from-filter p xs x)
-  where
-    first : p y ≡ true → (y ≡ x) ⊎ Contains (filter p xs) x → (Contains (filter p xs) x → Contains xs x × (p x ≡ true))
-        → Contains (y ∷ xs) x × (p x ≡ true)
-    first e (inl same) later = (subst (Contains (y ∷ xs)) same (here y xs), ap p (sym same) ∙ e)
-    first e (inr k) later = let r = later k in (there y xs x r.0, r.1)
-
-    go : (b : Bool) → p y ≡ b → Contains (cond b (y ∷ filter p xs) (filter p xs)) x
-        → (Contains (filter p xs) x → Contains xs x × (p x ≡ true)) → Contains (y ∷ xs) x × (p x ≡ true)
-    go true e k later = first e (first-or y (filter p xs) x k) later
-    go false e k later = let r = later k in (there y xs x r.0, r.1)
+from-filter p xs x h = (
+  All-contains (Contains xs) (filter p xs) x (All-filter p (Contains xs) xs (All-contains_itself xs)) h,
+  All-contains (λ y. p y ≡ true) (filter p xs) x (filter_passes p xs) h,
+)
 
 to-filter : {X : Type 0} (p : X → Bool) (xs : List X) (x : X) → Contains xs x → p x ≡ true → Contains (filter p xs) x
-to-filter p [] x h e = absurd (nowhere x h)
-to-filter {X} p (y ∷ xs) x h e = go (p y) refl (first-or y xs x h) (λ k. to-filter p xs x k e)
-  where
-    go : (b : Bool) → p y ≡ b → (y ≡ x) ⊎ Contains xs x → (Contains xs x → Contains (filter p xs) x)
-        → Contains (cond b (y ∷ filter p xs) (filter p xs)) x
-    go true f (inl same) later = subst (Contains (y ∷ filter p xs)) same (here y (filter p xs))
-    go true f (inr k) later = there y (filter p xs) x (later k)
-    go false f (inl same) later = absurd (cc (f, ap p same, e))
-    go false f (inr k) later = later k
+to-filter p [] x h e = absurd (contains_none x h)
+to-filter p (y ∷ xs) x h e =
+    elim (contains_cases y xs x h) [
+      | inl same ↦
+          let passes : p y ≡ true = ap p same ∙ e in
+          rw passes (subst (Contains (y ∷ filter p xs)) same (contains_first y (filter p xs)))
+      | inr k ↦
+          let later = to-filter p xs x k e in
+          cond_both (p y) (y ∷ filter p xs) (filter p xs) (λ zs. Contains zs x)
+          (λ _. contains_later y (filter p xs) x later) (λ _. later)
+    ]
 
 -- one of two tests passes
 parted : {X : Type 0} (p : X → Bool) (xs : List X) (x : X) → Contains xs x → Contains (filter p xs) x
     ⊎ Contains (filter (λ y. not (p y)) xs) x
-parted p xs x h = go (p x) refl
-  where
-    go : (b : Bool) → p x ≡ b → Contains (filter p xs) x ⊎ Contains (filter (λ y. not (p y)) xs) x
-    go true e = inl (to-filter p xs x h e)
-    go false e = inr (to-filter (λ y. not (p y)) xs x h (ap not e))
+parted p xs x h =
+    elim (cases_Bool (p x)) [
+      | inl e ↦ inl (to-filter p xs x h e)
+      | inr e ↦ inr (to-filter (λ y. not (p y)) xs x h (ap not e))
+    ]
 
 -- ---- rounds
 
@@ -51,17 +46,13 @@ none-listed (x ∷ ms) = none-listed ms
 -- where none was taken last, none is taken any more
 none-taken : (n : ℕ) (others : List (Tree × Tree)) (m : Tree × Tree) → Contains (reached_from n [] others) m → ⊥
 unfolding reached_from
-none-taken zero others m h = nowhere m h
-none-taken (suc n) others m h =
-    let rest = filter (λ x. not (list_child [] x)) others in
-    none-taken n rest m (subst (λ ts. Contains (reached_from n ts rest) m) (none-listed others) h)
+none-taken zero others m h = contains_none m h
+none-taken (suc n) others m h = none-taken n _ m (rw (none-listed others) at h)
 
 -- one is taken, and fewer are left
-fewer : (ts next rest : List (Tree × Tree)) (n : ℕ) → ts ≡ next → length next + length rest ≤ suc n → (next ≡ [])
-    ⊎ (length rest ≤ n)
-fewer [] next rest n e l = inl (sym e)
-fewer (t ∷ ts) next rest n e l = let some : length next ≡ suc (length ts) =
-    ap (λ (ms : List (Tree × Tree)). length ms) (sym e) in inr (omega arith)
+fewer : (next rest : List (Tree × Tree)) (n : ℕ) → length next + length rest ≤ suc n → (next ≡ []) ⊎ (length rest ≤ n)
+fewer [] rest n l = inl refl
+fewer (t ∷ next) rest n l = inr (omega arith)
 
 -- those that were taken are among what is reached
 taken-reached : (n : ℕ) (taken others : List (Tree × Tree)) (m : Tree × Tree) → Contains taken m
@@ -75,7 +66,7 @@ closed : (n : ℕ) (taken others : List (Tree × Tree)) → length others ≤ n 
     → Contains (reached_from n taken others) a → Contains others b
     → has_item (listed_in (chars (codes "children")) a.1) b.0 ≡ true → Contains (reached_from n taken others) b
 unfolding reached_from
-closed zero taken [] l a b h k e = absurd (nowhere b k)
+closed zero taken [] l a b h k e = absurd (contains_none b k)
 closed zero taken (o ∷ others) l a b h k e = absurd (omega arith)
 closed (suc n) taken others l a b h k e =
     let next = filter (list_child taken) others in
@@ -89,8 +80,8 @@ closed (suc n) taken others l a b h k e =
             (to-any (λ p. has_item (listed_in (chars (codes "children")) p.1) b.0) taken a x e))
         | inr x ↦
             let both = length-filter_both (list_child taken) (λ m. not (list_child taken m)) (λ m. refl) others in
-            elim (fewer next next rest n refl (omega arith)) [
-              | inl none ↦ absurd (none-taken n rest a (subst (λ z. Contains (reached_from n z rest) a) none x))
+            elim (fewer next rest n (omega arith)) [
+              | inl none ↦ absurd (none-taken n rest a (rw none at x))
               | inr less ↦ Contains-append_right taken later b (closed n next rest less a b x y e)
             ]
       ]
@@ -98,137 +89,99 @@ closed (suc n) taken others l a b h k e =
 
 -- ---- both say the same
 
-module _ (objects : List (Tree × Tree)) (id : Tree) (main : List ℕ) (from : text_of id ≡ Some main) where
-  first : (m : Tree × Tree) → Contains (filter (λ m. same_text m.0 id) objects) m → Contains objects m
-      × ((x : List ℕ) × (text_of m.0 ≡ Some x) × Reached objects main x)
-  first m h =
-      let r = from-filter (λ m. same_text m.0 id) objects m h in
-      let t = carried m.0 id main r.1 from in
-      (r.0, (main, t, itself (record { object = m; held = r.0; named = t })))
+-- what is reached is in the feature
+in-feature : (objects : List (Tree × Tree)) (main x : List ℕ) → Reached objects main x → IsIn objects x
+in-feature objects main x (itself i) = i
+in-feature objects main x (child a b r c i) = i
 
-  -- what one of those lists is one of them
-  listed : (m p : Tree × Tree) (a : List ℕ) → Contains objects m → Contains objects p → text_of p.0 ≡ Some a
-      → Reached objects main a → has_item (listed_in (chars (codes "children")) p.1) m.0 ≡ true
-      → (x : List ℕ) × (text_of m.0 ≡ Some x) × Reached objects main x
-  listed m p a held k t r e =
-      let i = from-any (λ x. same_text x m.0) (listed_in (chars (codes "children")) p.1) e in
-      let both = from-texts (text_of i.0) (text_of m.0) i.2 in
-      let b = both.0 in
-      let lists : Children objects a b =
+module _ (objects : List (Tree × Tree)) (id : Tree) where
+  -- what has the name of the id is reached
+  pub own-reached : (m : Tree × Tree) → Contains objects m → same_text m.0 id ≡ true → IsReached objects id m.0
+  own-reached m held same =
+      let t = from-texts (text_of m.0) (text_of id) same in
       record {
-        object = p;
-        held = k;
-        named = t;
-        item = i.0;
-        listed = from-listed objects (chars (codes "children")) p.1 i.0 i.1;
-        text = both.1;
-      } in
-      (b, both.2, child a b r lists (record { object = m; held = held; named = both.2 }))
+        main = t.0;
+        from = t.2;
+        own = t.0;
+        named = t.1;
+        reached = itself (record { object = m; held = held; named = t.1 });
+      }
+
+  -- and so is what one of those lists
+  pub child-reached : (p m : Tree × Tree) (item : Tree) (t : List ℕ) → IsReached objects id p.0 → Contains objects p
+      → Contains (listed_in (chars (codes "children")) p.1) item → Contains objects m → text_of m.0 ≡ Some t
+      → text_of item ≡ Some t → IsReached objects id m.0
+  child-reached p m item t r held listed there named text = record {
+    main = r.main;
+    from = r.from;
+    own = t;
+    named = named;
+    reached = child r.own t r.reached (record {
+      object = p;
+      held = held;
+      named = r.named;
+      item = item;
+      listed = from-listed (chars (codes "children")) p.1 item listed;
+      text = text;
+    }) (record { object = m; held = there; named = named });
+  }
 
   rounds : (n : ℕ) (taken others : List (Tree × Tree))
-      → ((m : Tree × Tree) → Contains taken m → Contains objects m
-      × ((x : List ℕ) × (text_of m.0 ≡ Some x) × Reached objects main x))
+      → ((m : Tree × Tree) → Contains taken m → Contains objects m × IsReached objects id m.0)
       → ((m : Tree × Tree) → Contains others m → Contains objects m)
-      → (m : Tree × Tree) → Contains (reached_from n taken others) m → Contains objects m
-      × ((x : List ℕ) × (text_of m.0 ≡ Some x) × Reached objects main x)
+      → (m : Tree × Tree) → Contains (reached_from n taken others) m → Contains objects m × IsReached objects id m.0
   unfolding reached_from
   rounds zero taken others all among m h = all m h
   rounds (suc n) taken others all among m h =
       let next = filter (list_child taken) others in
       let rest = filter (λ m. not (list_child taken m)) others in
-      let more : (o : Tree × Tree) → Contains next o → Contains objects o
-      × ((x : List ℕ) × (text_of o.0 ≡ Some x) × Reached objects main x) = λ o k.
+      let more : (o : Tree × Tree) → Contains next o → Contains objects o × IsReached objects id o.0 = λ o k.
       let r = from-filter (list_child taken) others o k in
       let p = from-any (λ p. has_item (listed_in (chars (codes "children")) p.1) o.0) taken r.1 in
+      let i = from-any (λ x. same_text x o.0) (listed_in (chars (codes "children")) p.0.1) p.2 in
+      let t = from-texts (text_of i.0) (text_of o.0) i.2 in
       let q = all p.0 p.1 in
-      (among o r.0, listed o p.0 q.1.0 (among o r.0) q.0 q.1.1 q.1.2 p.2) in
+      (among o r.0, child-reached p.0 o i.0 t.0 q.1 q.0 i.1 (among o r.0) t.2 t.1) in
       elim (Contains-append_cases taken (reached_from n next rest) m h) [
         | inl k ↦ all m k
-        | inr k ↦ rounds n next rest more (λ o k. among o (from-filter (λ m. not (list_child taken m)) others o k).0) m
+        | inr k ↦ rounds n next rest more (λ o i. among o (from-filter (λ m. not (list_child taken m)) others o i).0) m
             k
       ]
 
-  from-test : (name : Tree) → is_reached objects id name ≡ true → IsReached objects id name
+  pub is-reached : (name : Tree) → is_reached objects id name ≡ true → IsReached objects id name
   unfolding is_reached
-  from-test name h =
+  is-reached name h =
       let r = from-any (λ m. same_text m.0 name) (reached_of objects id) h in
       let one = rounds (length objects) (filter (λ m. same_text m.0 id) objects)
-      (filter (λ m. not (same_text m.0 id)) objects) first
+      (filter (λ m. not (same_text m.0 id)) objects)
+      (λ m k. let f = from-filter (λ m. same_text m.0 id) objects m k in (f.0, own-reached m f.0 f.1))
       (λ m k. (from-filter (λ m. not (same_text m.0 id)) objects m k).0) r.0 r.1 in
-      let both = from-texts (text_of r.0.0) (text_of name) r.2 in
-      let same = some-same (sym both.1 ∙ one.1.1) in
-      record {
-        main = main;
-        from = from;
-        own = both.0;
-        named = both.2;
-        reached = subst (Reached objects main) (sym same) one.1.2;
-      }
-    where
-      some-same : {x y : List ℕ} → ◌≡◌ {A = Option (List ℕ)} (Some x) (Some y) → x ≡ y
-      some-same e = cc e
+      let t = from-texts (text_of r.0.0) (text_of name) r.2 in
+      let is = one.1 in
+      record { main = is.main; from = is.from; own = is.own; named = t.2 ∙ sym t.1 ∙ is.named; reached = is.reached }
 
-  taken : (x : List ℕ) → Reached objects main x → (m : Tree × Tree) → Contains objects m → text_of m.0 ≡ Some x
-      → Contains (reached_of objects id) m
-  taken x (itself i) m held t =
+  taken : (main : List ℕ) → text_of id ≡ Some main → (x : List ℕ) → Reached objects main x → (m : Tree × Tree)
+      → Contains objects m → text_of m.0 ≡ Some x → Contains (reached_of objects id) m
+  taken main from x (itself i) m held t =
       taken-reached (length objects) _ _ m
       (to-filter (λ m. same_text m.0 id) objects m held (to-texts (text_of m.0) (text_of id) main t from))
-  taken x (child a b r c i) m held t =
+  taken main from x (child a b r c i) m held t =
       let o = c.object in
       let item = to-any (λ y. same_text y m.0) (listed_in (chars (codes "children")) o.1) c.item
-      (to-listed objects (chars (codes "children")) o.1 c.item c.listed)
+      (to-listed (chars (codes "children")) o.1 c.item c.listed)
       (to-texts (text_of c.item) (text_of m.0) b c.text t) in
-      let later = taken a r o c.held c.named in
       let both = length-filter_both (λ m. same_text m.0 id) (λ m. not (same_text m.0 id)) (λ m. refl) objects in
       elim (parted (λ m. same_text m.0 id) objects m held) [
         | inl k ↦ taken-reached (length objects) _ _ m k
         | inr k ↦ closed (length objects) (filter (λ m. same_text m.0 id) objects)
-            (filter (λ m. not (same_text m.0 id)) objects) (omega arith) o m later k item
+            (filter (λ m. not (same_text m.0 id)) objects) (omega arith) o m (taken main from a r o c.held c.named) k
+            item
       ]
 
--- what is reached is in the feature
-pub in-feature : (objects : List (Tree × Tree)) (main x : List ℕ) → Reached objects main x → IsIn objects x
-in-feature objects main x (itself i) = i
-in-feature objects main x (child a b r c i) = i
-
--- ---- an id that is no text reaches nothing
-
-no-names : (objects : List (Tree × Tree)) (id : Tree) → text_of id ≡ None → filter (λ m. same_text m.0 id) objects ≡ []
-no-names [] id h = refl
-no-names (o ∷ objects) id h = go (same_text o.0 id) (none (text_of o.0) (text_of id) h) (no-names objects id h)
-  where
-    none : (a b : Option (List ℕ)) → b ≡ None → are_same_texts a b ≡ false
-    none None b e = refl
-    none (Some x) None e = refl
-    none (Some x) (Some y) e = cc e
-
-    go : (b : Bool) → b ≡ false → filter (λ m. same_text m.0 id) objects ≡ []
-        → cond b (o ∷ filter (λ m. same_text m.0 id) objects) (filter (λ m. same_text m.0 id) objects) ≡ []
-    go true e k = cc e
-    go false e k = k
-
-nowhere-reached : (objects : List (Tree × Tree)) (id name : Tree) → text_of id ≡ None
-    → is_reached objects id name ≡ true → ⊥
-unfolding is_reached
-nowhere-reached objects id name h e =
-    let r = from-any (λ m. same_text m.0 name) (reached_of objects id) e in
-    none-taken (length objects) (filter (λ m. not (same_text m.0 id)) objects) r.0
-    (subst (λ ts. Contains (reached_from (length objects) ts (filter (λ m. not (same_text m.0 id)) objects)) r.0)
-    (no-names objects id h) r.1)
-
-pub is-reached : (objects : List (Tree × Tree)) (id name : Tree) → is_reached objects id name ≡ true
-    → IsReached objects id name
-is-reached objects id name h = go (text_of id) refl
-  where
-    go : (o : Option (List ℕ)) → text_of id ≡ o → IsReached objects id name
-    go None e = absurd (nowhere-reached objects id name e h)
-    go (Some main) e = from-test objects id main e name h
-
-pub to-reached : (objects : List (Tree × Tree)) (id name : Tree) → IsReached objects id name
-    → is_reached objects id name ≡ true
-unfolding is_reached
-to-reached objects id name r =
-    let i = in-feature objects r.main r.own r.reached in
-    to-any (λ m. same_text m.0 name) (reached_of objects id) i.object
-    (taken objects id r.main r.from r.own r.reached i.object i.held i.named)
-    (to-texts (text_of i.object.0) (text_of name) r.own i.named r.named)
+  pub to-reached : (name : Tree) → IsReached objects id name → is_reached objects id name ≡ true
+  unfolding is_reached
+  to-reached name r =
+      let i = in-feature objects r.main r.own r.reached in
+      to-any (λ m. same_text m.0 name) (reached_of objects id) i.object
+      (taken r.main r.from r.own r.reached i.object i.held i.named)
+      (to-texts (text_of i.object.0) (text_of name) r.own i.named r.named)

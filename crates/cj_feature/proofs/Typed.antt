@@ -1,31 +1,27 @@
 -- Where the rules on vertices find nothing, vertices have three whole numbers.
-use Rattle.cj_feature.proofs.Common.{Bool, DecimalFault, Err, IfSome, IsWordOf, List, None, NotThree, Number, Ok, Option, Result, Some, Tree, [], ap, are_one, are_three, are_two, arith, as_whole, begins_whole, cases_lt, cond, decimal_of, drop, drop-map, drop_all, eqb-true, false, flat_map, has_length, inl, inr, is_array, is_number, is_vertex, items_of, length, list_all, map, nat_eq, number_on, of_length, one, option_and_then, pos, refl, result_ok, spelling, suc, sym, take, true, value_findings, vertex_list, vertex_of, whole_findings, whole_number, whole_of, zero, ℕ, ℤ, ◌++◌, ◌<◌, ◌∙◌, ◌∷◌, ◌≡◌, ◌≤◌}
+use Rattle.cj_feature.proofs.Common.{DecimalFault, Err, IfSome, IsWordOf, List, None, NotThree, Number, Ok, Option, Result, Some, Tree, [], ap, are_one, are_three, are_two, arith, as_whole, begins_whole, cases_lt, decimal_of, drop, drop-map, drop_all, eqb-true, flat_map, inl, inr, is_number, is_vertex, items_of, kind_of, length, list_all, map, nat_eq, number_on, of_length, one, option_and_then, pos, refl, result_ok, spelling, suc, sym, take, true, value_findings, vertex_list, vertex_of, whole_findings, whole_number, whole_of, zero, ℕ, ℤ, ◌<◌, ◌∙◌, ◌∷◌, ◌≡◌, ◌≤◌}
 use Rattle.cj_spans.specs.Forest.{total_size}
 use Rattle.cj_geometry.proofs.Lone.{whole-size}
-use Rattle.cj_feature.proofs.None.{none-both, of_kind-none, none-each}
+use Rattle.cj_feature.proofs.None.{holds, kind-none, none-both, none-each}
 
 -- ---- vertices
+
+whole-there : (t : Tree) (o : Option ℤ) → whole_findings (λ w. []) t o ≡ [] → (w : ℤ) × (o ≡ Some w)
+whole-there t None h = absurd (cc h)
+whole-there t (Some w) h = (w, refl)
 
 by-value : (t : Tree) (r : Result Number DecimalFault)
     → value_findings (λ v. whole_findings (λ w. []) t (as_whole v)) t r ≡ []
     → (w : ℤ) × (option_and_then as_whole (result_ok r) ≡ Some w)
-by-value t (Ok v) h = go (as_whole v) refl h
-  where
-    go : (o : Option ℤ) → as_whole v ≡ o → whole_findings (λ w. []) t o ≡ [] → (w : ℤ) × (as_whole v ≡ Some w)
-    go None e h = absurd (cc h)
-    go (Some w) e h = (w, e)
+by-value t (Ok v) h = whole-there t (as_whole v) h
 by-value t (Err f) h = absurd (cc h)
 
 whole-value : (t : Tree) → whole_number t ≡ [] → (w : ℤ) × (whole_of t ≡ Some w)
 whole-value t h =
-    let parts = of_kind-none (λ u. value_findings (λ v. whole_findings (λ w. []) t (as_whole v)) u
-    (decimal_of (spelling u))) t is_number h in
+    let parts = kind-none (is_number (kind_of t)) (value_findings (λ v. whole_findings (λ w. []) t (as_whole v)) t
+    (decimal_of (spelling t))) t h in
     let value = by-value t (decimal_of (spelling t)) parts.1 in
     (value.0, rw parts.0 value.1)
-
-by-length : (b : Bool) (t : Tree) → cond b [] (one NotThree t) ≡ [] → b ≡ true
-by-length true t h = refl
-by-length false t h = absurd (cc h)
 
 three : (ts : List Tree) → nat_eq (length ts) 3 ≡ true → flat_map whole_number ts ≡ []
     → are_three (map whole_of ts) ≡ true
@@ -42,15 +38,12 @@ three (x ∷ y ∷ z ∷ w ∷ ts) n h = let e : length (x ∷ y ∷ z ∷ w ∷
 
 vertex : (t : Tree) → of_length NotThree 3 whole_number t ≡ [] → is_vertex t ≡ true
 vertex t h =
-    let rules : has_length NotThree 3 t ++ flat_map whole_number (items_of t) ≡ [] =
-    (of_kind-none (λ u. has_length NotThree 3 u ++ flat_map whole_number (items_of u)) t is_array h).1 in
-    let both = none-both (has_length NotThree 3 t) (flat_map whole_number (items_of t)) rules in
-    three (items_of t) (by-length (nat_eq (length (items_of t)) 3) t both.0) both.1
+    let both = none-both _ _ (kind-none _ _ t h).1 in
+    three (items_of t) (holds _ NotThree t both.0) both.1
 
 pub all-vertices : (t : Tree) → vertex_list t ≡ [] → list_all is_vertex (items_of t) ≡ true
 all-vertices t h =
-    none-each (of_length NotThree 3 whole_number) is_vertex vertex (items_of t)
-    (of_kind-none (λ u. flat_map (of_length NotThree 3 whole_number) (items_of u)) t is_array h).1
+    none-each (of_length NotThree 3 whole_number) is_vertex vertex (items_of t) (kind-none _ _ t h).1
 
 -- ---- the numbers of a vertex
 
@@ -83,20 +76,16 @@ number-begins (suc axis) (w ∷ ws) rest n e = number-begins axis ws rest n e
 
 -- ---- the items of a vertex
 
-begins-there : (x : Tree) (ws : List (Option ℤ)) → begins_whole (whole_of x ∷ ws) ≡ true → (w : ℤ)
-    × (whole_of x ≡ Some w)
-begins-there x ws h = go (whole_of x) refl
-  where
-    go : (o : Option ℤ) → whole_of x ≡ o → (w : ℤ) × (whole_of x ≡ Some w)
-    go None e = absurd (cc (rw e at h))
-    go (Some w) e = (w, e)
+begins-there : (o : Option ℤ) (ws : List (Option ℤ)) → begins_whole (o ∷ ws) ≡ true → (w : ℤ) × (o ≡ Some w)
+begins-there None ws h = absurd (cc h)
+begins-there (Some w) ws h = (w, refl)
 
 lone : (axis : ℕ) (ts : List Tree) → ((k : ℕ) → k < axis → begins_whole (drop k (map whole_of ts)) ≡ true)
     → (axis ≤ length ts) × (total_size (take axis ts) ≡ axis)
 lone zero ts h = (omega arith, refl)
 lone (suc axis) [] h = absurd (cc (h 0 (omega arith)))
 lone (suc axis) (x ∷ ts) h =
-    let first = begins-there x (map whole_of ts) (h 0 (omega arith)) in
+    let first = begins-there (whole_of x) (map whole_of ts) (h 0 (omega arith)) in
     let one = whole-size x first.0 first.1 in
     let rest = lone axis ts (λ k l. h (suc k) (omega arith)) in
     let count = rest.0 in let sizes = rest.1 in
@@ -120,7 +109,7 @@ module _ (axis : ℕ) (t : Tree) (is : is_vertex t ≡ true) (within : axis < 3)
 
   module _ (x : Tree) (rest : List Tree) (e : drop axis (items_of t) ≡ x ∷ rest) where
     pub whole-on : (w : ℤ) × (whole_of x ≡ Some w)
-    whole-on = begins-there x (map whole_of rest)
+    whole-on = begins-there (whole_of x) (map whole_of rest)
         (ap begins_whole (sym (ap (map whole_of) e) ∙ sym (drop-map whole_of axis (items_of t)))
         ∙ three-begin axis (map whole_of (items_of t)) is within)
 

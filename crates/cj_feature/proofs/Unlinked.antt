@@ -1,15 +1,11 @@
 -- City objects that list nobody have no links.
-use Rattle.cj_feature.proofs.Common.{Bool, Finding, List, None, Option, Some, Tree, [], ap, at_second_level, chars, codes, cond, false, flat_map, is_some, items_if, member_of, object_links, option_map, parent, part_of, refl, sym, true, ℕ, ◌++◌, ◌||◌, ◌∙◌, ◌∷◌, ◌≡◌}
+use Rattle.cj_feature.proofs.Common.{Bool, Finding, List, None, Option, Some, Tree, [], ap, at_second_level, chars, codes, cond, false, flat_map, is_some, items_if, member_of, object_links, option_map, parent, part_of, refl, sym, true, ℕ, ◌++◌, ◌∙◌, ◌∷◌, ◌≡◌}
 use Rattle.cj_feature.specs.Meaning.Links.{child, is_group}
 
 -- and the next of some members has none
 pub next_unlinked : (f : Tree × Tree → List Finding) (all rest : List (Tree × Tree)) (m : Tree × Tree)
     (total : List Finding) → total ≡ flat_map f all → all ≡ m ∷ rest → f m ≡ [] → total ≡ flat_map f rest
 next_unlinked f all rest m total h e n = h ∙ ap (flat_map f) e ∙ ap (λ fs. fs ++ flat_map f rest) n
-
-pub neither : (a b : Bool) → (a || b) ≡ false → (a ≡ false) × (b ≡ false)
-neither true b h = absurd (cc h)
-neither false b h = (refl, h)
 
 -- a member that has no number is not there
 pub not_there : (f : ℕ → Tree) (o : Option ℕ) (t : Option Tree) → is_some o ≡ false → option_map f o ≡ t → t ≡ None

@@ -1,20 +1,25 @@
 -- What headers and features of no findings have.
-use Rattle.cj_feature.proofs.Common.{Bool, Finding, Kind, List, None, Option, Some, TemplateSource, Tree, [], chars, city_object, city_objects, codes, cond, count_of, distinct, false, feature_rules, flat_map, geometries, header, header_rules, id_in, if_there, is_object, is_text, kind_of, known_type, may_have, member_of, members_of, missing, needs, object_type, of_kind, refl, second_level, texts, three_numbers, transform, true, vertex_list, ℕ, ◌++◌, ◌∷◌, ◌≡◌}
+use Rattle.cj_feature.proofs.Common.{Bool, Finding, List, None, Option, Some, TemplateSource, Tree, WrongKind, [], chars, city_object, city_objects, codes, cond, count_of, distinct, false, feature_rules, flat_map, header, header_rules, id_in, if_there, is_object, is_text, known_type, member_of, members_of, missing, needs, object_type, of_kind, one, refl, three_numbers, transform, true, vertex_list, ℕ, ◌++◌, ◌∷◌, ◌≡◌}
 use Rattle.cj_geometry.specs.Meaning.ObjectTypes.{ObjectRow, row_of}
-use Rattle.cj_feature.proofs.None.{none-both, of_kind-none}
+use Rattle.cj_feature.proofs.None.{kind-none, none-both, then-none}
 
 -- a transform
-pub has-transform : (b : Bool) (t : Tree) → header b t ≡ [] → needs (chars (codes "transform")) (transform b) t ≡ []
+has-transform : (b : Bool) (t : Tree) → header b t ≡ [] → needs (chars (codes "transform")) (transform b) t ≡ []
 has-transform b t valid =
-    let rules : header_rules b t ≡ [] = (of_kind-none (header_rules b) t is_object valid).1 in
+    let rules : header_rules b t ≡ [] = (kind-none _ _ t valid).1 in
     (none-both _ _ (none-both _ _ (none-both _ _ (none-both _ _ rules).0).0).0).1
+
+-- which has no finding
+pub no-finding : (b : Bool) (t u : Tree) → header b t ≡ [] → Some u ≡ member_of (chars (codes "transform")) t
+    → transform b u ≡ []
+no-finding b t u valid is =
+    then-none (transform b) t (chars (codes "transform")) (has-transform b t valid) (Some u) is u refl
 
 -- and in it three numbers twice
 module _ (b : Bool) (u : Tree) (valid : transform b u ≡ []) where
   rules : distinct u ++ needs (chars (codes "scale")) (three_numbers b) u
       ++ needs (chars (codes "translate")) (three_numbers b) u ≡ []
-  rules = (of_kind-none (λ v. distinct v ++ needs (chars (codes "scale")) (three_numbers b) v
-      ++ needs (chars (codes "translate")) (three_numbers b) v) u is_object valid).1
+  rules = (kind-none _ _ u valid).1
 
   pub has-scale : needs (chars (codes "scale")) (three_numbers b) u ≡ []
   has-scale = (none-both _ _ (none-both _ _ rules).0).1
@@ -27,15 +32,10 @@ module _ (b : Bool) (u : Tree) (valid : transform b u ≡ []) where
 both-none : (fs gs : List Finding) → fs ≡ [] → gs ≡ [] → fs ++ gs ≡ []
 both-none fs gs f g = rw (f, g) refl
 
-on-kind : (b : Bool) (fs gs : List Finding) → b ≡ true → fs ≡ [] → cond b fs gs ≡ []
-on-kind true fs gs e h = h
-on-kind false fs gs e h = cc e
-
-of_kind-fewer : (is : Kind → Bool) (all fewer : Tree → List Finding) (t : Tree) → (all t ≡ [] → fewer t ≡ [])
-    → of_kind is all t ≡ [] → of_kind is fewer t ≡ []
-of_kind-fewer is all fewer t on h =
-    let both = of_kind-none all t is h in
-    on-kind (is (kind_of t)) (fewer t) _ both.0 (on both.1)
+kind-fewer : (b : Bool) (fs gs : List Finding) (t : Tree) → cond b fs (one WrongKind t) ≡ [] → (fs ≡ [] → gs ≡ [])
+    → cond b gs (one WrongKind t) ≡ []
+kind-fewer true fs gs t h on = on h
+kind-fewer false fs gs t h on = h
 
 if-fewer : (all fewer : Tree → List Finding) → ((t : Tree) → all t ≡ [] → fewer t ≡ []) → (g : Tree) (o : Option Tree)
     → missing g o ++ if_there all o ≡ [] → missing g o ++ if_there fewer o ≡ []
@@ -57,17 +57,13 @@ known-fewer false None t h = absurd (cc h)
 
 type-fewer : (extensions : Bool) (t : Tree) → object_type extensions t ≡ [] → object_type true t ≡ []
 type-fewer extensions t h =
-    of_kind-fewer is_text (λ u. known_type extensions (row_of u) u) (λ u. known_type true (row_of u) u) t
-    (known-fewer extensions (row_of t) t) h
+    kind-fewer _ _ _ t h (known-fewer extensions (row_of t) t)
 
 module _ (extensions : Bool) (vertices : Option ℕ) (templates : TemplateSource) where
   object-fewer : (t : Tree) → city_object extensions vertices templates t ≡ []
       → city_object true vertices templates t ≡ []
   object-fewer t h =
-      let rest = λ (e : Bool) (o : Tree). distinct o ++ needs (chars (codes "type")) (object_type e) o
-      ++ may_have (chars (codes "geometry")) (geometries vertices templates) o
-      ++ may_have (chars (codes "children")) texts o ++ may_have (chars (codes "parents")) texts o ++ second_level o in
-      of_kind-fewer is_object (rest extensions) (rest true) t (λ rules.
+      kind-fewer _ _ _ t h (λ rules.
       let five = none-both _ _ rules in
       let four = none-both _ _ five.0 in
       let three = none-both _ _ four.0 in
@@ -76,22 +72,21 @@ module _ (extensions : Bool) (vertices : Option ℕ) (templates : TemplateSource
       let name = if-fewer (object_type extensions) (object_type true) (type-fewer extensions) t
       (member_of (chars (codes "type")) t) one.1 in
       both-none _ _ (both-none _ _ (both-none _ _ (both-none _ _ (both-none _ _ one.0 name) two.1) three.1) four.1)
-      five.1) h
+      five.1)
 
   objects-fewer : (t : Tree) → city_objects extensions vertices templates t ≡ []
       → city_objects true vertices templates t ≡ []
   objects-fewer t h =
       let each = λ (e : Bool) (m : Tree × Tree). city_object e vertices templates m.1 in
-      let all = λ (e : Bool) (u : Tree). distinct u ++ flat_map (each e) (members_of u) in
-      of_kind-fewer is_object (all extensions) (all true) t (λ rules.
+      kind-fewer _ _ _ t h (λ rules.
       let both = none-both _ _ rules in
-      both-none _ _ both.0 (each-fewer (each extensions) (each true) (λ m. object-fewer m.1) (members_of t) both.1)) h
+      both-none _ _ both.0 (each-fewer (each extensions) (each true) (λ m. object-fewer m.1) (members_of t) both.1))
 
 pub valid-without : (templates : TemplateSource) (t : Tree) (tree extensions : Bool)
     → of_kind is_object (feature_rules templates tree extensions) t ≡ []
     → of_kind is_object (feature_rules templates false true) t ≡ []
 valid-without templates t tree extensions h =
-    of_kind-fewer is_object (feature_rules templates tree extensions) (feature_rules templates false true) t (λ rules.
+    kind-fewer _ _ _ t h (λ rules.
     let six = none-both _ _ rules in
     let five = none-both _ _ six.0 in
     let four = none-both _ _ five.0 in
@@ -99,13 +94,13 @@ valid-without templates t tree extensions h =
     let vertices = count_of (member_of (chars (codes "vertices")) t) in
     let objects = if-fewer (city_objects extensions vertices templates) (city_objects true vertices templates)
     (objects-fewer extensions vertices templates) t (member_of (chars (codes "CityObjects")) t) three.1 in
-    both-none _ [] (both-none _ _ (both-none _ _ (both-none _ _ three.0 objects) four.1) five.1) refl) h
+    both-none _ [] (both-none _ _ (both-none _ _ (both-none _ _ three.0 objects) four.1) five.1) refl)
 
 -- of a feature, an id, city objects and vertices
 module _ (templates : TemplateSource) (t : Tree)
     (valid : of_kind is_object (feature_rules templates false true) t ≡ []) where
   feature_none : feature_rules templates false true t ≡ []
-  feature_none = (of_kind-none (feature_rules templates false true) t is_object valid).1
+  feature_none = (kind-none _ _ t valid).1
 
   pub has-id : needs (chars (codes "id")) (of_kind is_text (id_in (member_of (chars (codes "CityObjects")) t))) t ≡ []
   has-id = (none-both _ _ (none-both _ _ (none-both _ _ (none-both _ _ (none-both _ _ feature_none).0).0).0).0).1

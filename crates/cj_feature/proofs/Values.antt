@@ -2,7 +2,7 @@
 use Rattle.cj_feature.proofs.Common.{Bool, DecimalFault, Err, IsInRange, IsNumberInRange, IsValue, IsWhole, Kind, List, None, Number, Ok, Option, Result, Some, Tree, [], ap, array, as_whole, cond, decimal_of, false, is_number, kind_of, number, object, option_and_then, refl, result_ok, scalar, spelling, spelling_of, true, value_findings, value_of, whole_of, ℕ, ℤ, ◌≡◌}
 use Rattle.cj_spans.specs.declared.token.Kind.TheVariants.{Null, Truth, Number as NumberKind, Text, Array, Object}
 use Rattle.cj_decimal.proofs.Decimals.{decimal_is, decimal_has, is_whole}
-use Rattle.cj_feature.proofs.None.{of_kind-none}
+use Rattle.cj_feature.proofs.None.{kind-none}
 
 pub is-number : (k : Kind) → is_number k ≡ true → k ≡ NumberKind
 is-number Null h = absurd (cc h)
@@ -25,7 +25,7 @@ in-range s t (Err f) e h = absurd (cc h)
 -- where a number has no finding
 module _ (line : List ℕ) (t : Tree) (none : number t ≡ []) where
   parts : (is_number (kind_of t) ≡ true) × (value_findings (λ v. []) t (decimal_of (spelling t)) ≡ [])
-  parts = of_kind-none (λ u. value_findings (λ v. []) u (decimal_of (spelling u))) t is_number none
+  parts = kind-none _ _ t none
 
   spelled : spelling_of line t ≡ spelling t
   spelled = same-spelling line t (is-number (kind_of t) parts.0)
@@ -54,10 +54,13 @@ its-value t v h =
     let there = if-number (is_number (kind_of t)) (result_ok (decimal_of (spelling t))) v h in
     (decimal_has (spelling t) v (read-there (decimal_of (spelling t)) v there)).0
 
+whole-value : (o : Option Number) (w : ℤ) → option_and_then as_whole o ≡ Some w → (v : Number) × (o ≡ Some v)
+    × (as_whole v ≡ Some w)
+whole-value None w h = absurd (cc h)
+whole-value (Some v) w h = (v, refl, h)
+
 pub its-whole : (t : Tree) (w : ℤ) → whole_of t ≡ Some w → (v : Number) × IsValue (spelling t) v × IsWhole v w
-its-whole t w h = go (value_of t) refl h
-  where
-    go : (o : Option Number) → value_of t ≡ o → option_and_then as_whole o ≡ Some w
-        → (v : Number) × IsValue (spelling t) v × IsWhole v w
-    go None e h = absurd (cc h)
-    go (Some v) e h = let is = its-value t v e in (v, is, is_whole v is.normal w h)
+its-whole t w h =
+    let v = whole-value (value_of t) w h in
+    let is = its-value t v.0 v.1 in
+    (v.0, is, is_whole v.0 is.normal w v.2)

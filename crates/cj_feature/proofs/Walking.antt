@@ -1,7 +1,30 @@
 -- A walk over the city objects of a feature: what is left of it.
-use Rattle.cj_feature.proofs.Common.{Contains, IfNone, IsMarked, IsMarkedBy, List, Node, None, Option, Some, Tree, inl, inr, line_of, members_left, members_line, members_of, members_source, source_of, spans_of, subst, sym, tokens_in, tree, tree_at, ℕ, ◌∙◌, ◌∷◌, ◌≡◌, ◌⊎◌}
+use Rattle.cj_feature.proofs.Common.{Contains, IfNone, IsBeside, IsMarkedBy, List, Node, None, Option, Some, Tree, contains_cases, contains_first, contains_later, inl, inr, line_of, members_left, members_line, members_of, members_source, source_of, spans_of, subst, sym, tokens_in, tree, tree_at, trees, ℕ, ◌∙◌, ◌∷◌, ◌≡◌, ◌⊎◌}
+use Rattle.cj_spans.specs.View.{YieldsMember}
 use Rattle.cj_spans.specs.declared.node.Members.{Members}
-use Rattle.cj_feature.proofs.LinkFaults.{here, there, first-or}
+
+-- nodes of one line and its tokens
+module _ (m n : Node) (b : IsBeside m n) where
+  pub marked-beside : (t : Tree) → IsMarkedBy n t → IsMarkedBy m t
+  marked-beside t h = rw b at h
+
+  pub marked-back : (t : Tree) → IsMarkedBy m t → IsMarkedBy n t
+  marked-back t h = rw b h
+
+  pub shown-beside : (k : ℕ) (t : Tree) → tree_at (line_of n) (spans_of (tokens_in (source_of n))) k ≡ t
+      → tree_at (line_of m) (spans_of (tokens_in (source_of m))) k ≡ t
+  shown-beside k t h = rw b at h
+
+-- one of a list is its first or one of the rest
+pub next-or : {X : Type 0} (xs : List X) (x : X) (ys : List X) (y : X) → xs ≡ x ∷ ys → Contains xs y → (x ≡ y)
+    ⊎ Contains ys y
+next-or xs x ys y e h = contains_cases x ys y (subst (λ zs. Contains zs y) e h)
+
+-- what holds of the next one and of each of the rest, holds of each
+pub each-more : {X : Type 0} (P : X → Type 0) (xs : List X) (x : X) (ys : List X) → xs ≡ x ∷ ys → P x
+    → ((y : X) → Contains ys y → P y) → (y : X) → Contains xs y → P y
+each-more P xs x ys e first later y h =
+    elim (next-or xs x ys y e h) [ inl same ↦ subst P same first | inr k ↦ later y k ]
 
 -- the walk goes over some of these city objects, in their line
 pub record Among (objects : Node) (w : Members) : Type 0 where
@@ -10,42 +33,33 @@ pub record Among (objects : Node) (w : Members) : Type 0 where
   pub source : members_source w ≡ source_of objects
 
 -- its next one, and the rest
-module _ (objects : Node) (w v : Members) (m : Tree × Tree) (a : Among objects w)
-    (e : members_left w ≡ m ∷ members_left v) where
-  pub first-among : Contains (members_of (tree objects)) m
-  first-among = a.among m (subst (λ ms. Contains ms m) (sym e) (here m (members_left v)))
+module _ {objects : Node} {w : Members} (a : Among objects w) (p : Node × Node) (v : Members)
+    (s : YieldsMember w (Some p) v) where
+  pub first-among : Contains (members_of (tree objects)) (trees p)
+  first-among = a.among (trees p) (subst (λ ms. Contains ms (trees p)) (sym s.0) (contains_first (trees p) _))
 
-  pub later-among : members_line v ≡ members_line w → members_source v ≡ members_source w → Among objects v
-  later-among l s =
-      record {
-        among = λ n h. a.among n (subst (λ ms. Contains ms n) (sym e) (there m (members_left v) n h));
-        line = l ∙ a.line;
-        source = s ∙ a.source;
-      }
+  pub later-among : Among objects v
+  later-among = record {
+    among = λ n h. a.among n (subst (λ ms. Contains ms n) (sym s.0) (contains_later (trees p) _ n h));
+    line = s.1 ∙ a.line;
+    source = s.3 ∙ a.source;
+  }
 
--- what holds of the next one and of each of the rest, holds of each
-pub each-more : {X : Type 0} (P : X → Type 0) (xs : List X) (x : X) (ys : List X) → xs ≡ x ∷ ys → P x
-    → ((y : X) → Contains ys y → P y) → (y : X) → Contains xs y → P y
-each-more P xs x ys e first later y h =
-    elim (first-or x ys y (subst (λ zs. Contains zs y) e h)) [ inl same ↦ subst P same first | inr k ↦ later y k ]
+  pub beside : IsBeside objects p.1
+  beside = (s.2.1 ∙ a.line, s.4.1 ∙ a.source)
 
--- nodes of one line and its tokens
-module _ (m n : Node) (line : line_of n ≡ line_of m) (source : source_of n ≡ source_of m) where
-  pub marked-beside : (t : Tree) → IsMarkedBy n t → IsMarkedBy m t
-  marked-beside t h =
-      subst (λ s. IsMarked (line_of m) (tokens_in s) t) source
-      (subst (λ l. IsMarked l (tokens_in (source_of n)) t) line h)
+-- of such a walk, what holds of each city object that is left holds of all
+pub record Left (P : Tree × Tree → Type 0) (objects : Node) (w : Members) : Type 0 where
+  pub walk : Among objects w
+  pub all : ((m : Tree × Tree) → Contains (members_left w) m → P m) → (m : Tree × Tree)
+      → Contains (members_of (tree objects)) m → P m
 
-  pub shown-beside : (k : ℕ) (t : Tree) → tree_at (line_of n) (spans_of (tokens_in (source_of n))) k ≡ t
-      → tree_at (line_of m) (spans_of (tokens_in (source_of m))) k ≡ t
-  shown-beside k t h =
-      subst (λ s. tree_at (line_of m) (spans_of (tokens_in s)) k ≡ t) source
-      (subst (λ l. tree_at l (spans_of (tokens_in (source_of n))) k ≡ t) line h)
-
--- one of a list is its first or one of the rest
-pub next-or : {X : Type 0} (xs : List X) (x : X) (ys : List X) (y : X) → xs ≡ x ∷ ys → Contains xs y → (x ≡ y)
-    ⊎ Contains ys y
-next-or xs x ys y e h = first-or x ys y (subst (λ zs. Contains zs y) e h)
+pub later-left : {P : Tree × Tree → Type 0} {objects : Node} {w : Members} → Left P objects w → (p : Node × Node)
+    (v : Members) → YieldsMember w (Some p) v → P (trees p) → Left P objects v
+later-left {P} {objects} {w} l p v s here = record {
+  walk = later-among l.walk p v s;
+  all = λ rest. l.all (each-more P (members_left w) (trees p) (members_left v) s.0 here rest);
+}
 
 pub if-none : {P Q : Type 0} (o : Option ℕ) → (P → Q) → IfNone o P → IfNone o Q
 if-none None f h = f h

@@ -1,8 +1,9 @@
-use Rattle.cj_feature.proofs.Fixed.{fixed-test, test-fixed, fixed-units}
+use Rattle.cj_feature.proofs.Common.{units_of}
+use Rattle.cj_feature.proofs.Fixed.{fixed-units, test-fixed}
 use Rattle.cj_feature.proofs.laws.fixed_numbers_are_fixed.Goals as goal
 
 pub returns : goal.returns
 returns c = record {
-  fixed = λ n normal. (fixed-test n normal, test-fixed n normal);
+  fixed = λ n normal. (λ is. (units_of n, fixed-units n is), test-fixed n normal);
   units = λ n is. fixed-units n is;
 }

@@ -2,7 +2,8 @@ use Rattle.cj_feature.proofs.Common.{Tree, city_object, distinct, flat_map, is_o
 use Rattle.cj_spans.proofs.Findings.{least_on, least-two}
 use Rattle.cj_geometry.specs.Given.{given}
 use Rattle.cj_geometry.proofs.OfKind.{of_kind-then}
-use Rattle.cj_feature.proofs.Unlinked.{neither, next_unlinked}
+use Rattle.std.proofs.lemmas.Bool.{or_parts}
+use Rattle.cj_feature.proofs.Unlinked.{next_unlinked}
 use Rattle.cj_feature.proofs.feature.objects.check_city_objects.Goals as goal
 
 pub loop-object-preserved : goal.loop-object-preserved
@@ -10,7 +11,7 @@ loop-object-preserved c = (
   least_on (λ m. city_object c.args.beside.extensions c.args.vertices (given c.args.beside.templates) m.1) _ _ _ _ _ _
       c.loop-object.invariant.0 c.in-Some.ensures.steps.0 c.check_city_object-linked.ensures.found,
   λ e all.
-      let n = neither c.loop-object.linked c.check_city_object-linked.result e in
+      let n = or_parts c.loop-object.linked c.check_city_object-linked.result e in
       next_unlinked (object_links all) _ _ _ _ (c.loop-object.invariant.1 n.0 all) c.in-Some.ensures.steps.0
       (c.check_city_object-linked.ensures.unlinked n.1 all (tree c.in-Some.field-0-0)),
 )

@@ -1,7 +1,6 @@
-use Rattle.cj_feature.proofs.Common.{Some, chars, codes, refl, transform, tree, true}
-use Rattle.cj_feature.proofs.FixedRule.{needs-three, axes-fixed}
-use Rattle.cj_feature.proofs.None.{then-none}
-use Rattle.cj_feature.proofs.Valid.{has-transform, has-scale, has-translate}
+use Rattle.cj_feature.proofs.Common.{chars, codes, tree, true}
+use Rattle.cj_feature.proofs.FixedRule.{axes-fixed, needs-three}
+use Rattle.cj_feature.proofs.Valid.{has-scale, has-translate, no-finding}
 use Rattle.cj_feature.proofs.header.reading.read_parts.Goals as goal
 
 pub read_three_member-scale-requires : goal.read_three_member-scale-requires
@@ -10,8 +9,7 @@ read_three_member-scale-requires c =
     let u = tree c.in-Some.transform in
     let b = c.args.with_box in
     needs-three (chars (codes "scale")) u b
-    (has-scale b u (then-none (transform b) n (chars (codes "transform")) (has-transform b n c.requires)
-    (Some u) c.in-Some.ensures.value u refl))
+    (has-scale b u (no-finding b n u c.requires c.in-Some.ensures.value))
 
 pub read_three_member-translate-requires : goal.read_three_member-translate-requires
 read_three_member-translate-requires c =
@@ -19,8 +17,7 @@ read_three_member-translate-requires c =
     let u = tree c.in-Some.transform in
     let b = c.args.with_box in
     needs-three (chars (codes "translate")) u b
-    (has-translate b u (then-none (transform b) n (chars (codes "transform")) (has-transform b n c.requires)
-    (Some u) c.in-Some.ensures.value u refl))
+    (has-translate b u (no-finding b n u c.requires c.in-Some.ensures.value))
 
 pub map_axes-requires-clause-scale : goal.map_axes-requires-clause-scale
 map_axes-requires-clause-scale c =
@@ -28,8 +25,7 @@ map_axes-requires-clause-scale c =
     let u = tree c.in-Some.transform in
     let valid = rw c.if-with_box.true at c.requires in
     axes-fixed (chars (codes "scale")) u c.read_three_member-scale.result
-    (has-scale true u (then-none (transform true) n (chars (codes "transform")) (has-transform true n valid)
-    (Some u) c.in-Some.ensures.value u refl)) c.read_three_member-scale.ensures
+    (has-scale true u (no-finding true n u valid c.in-Some.ensures.value)) c.read_three_member-scale.ensures
 
 pub map_axes-requires-clause-translate : goal.map_axes-requires-clause-translate
 map_axes-requires-clause-translate c =
@@ -37,5 +33,4 @@ map_axes-requires-clause-translate c =
     let u = tree c.in-Some.transform in
     let valid = rw c.if-with_box.true at c.requires in
     axes-fixed (chars (codes "translate")) u c.read_three_member-translate.result
-    (has-translate true u (then-none (transform true) n (chars (codes "transform")) (has-transform true n valid)
-    (Some u) c.in-Some.ensures.value u refl)) c.read_three_member-translate.ensures
+    (has-translate true u (no-finding true n u valid c.in-Some.ensures.value)) c.read_three_member-translate.ensures

@@ -1,9 +1,6 @@
-use Rattle.cj_feature.proofs.Common.{AllMarked, members_left, members_of, tree}
-use Rattle.cj_feature.proofs.Walking.{Among}
+use Rattle.cj_feature.proofs.Common.{IsMarkedBy}
+use Rattle.cj_feature.proofs.Walking.{Left}
 use Rattle.cj_feature.proofs.feature.search.reached.are_marked.Given as goal
 
 abbrev pub invariant-loop-object : goal.invariant-loop-object
-invariant-loop-object l = record {
-  walk : Among l.objects l.object-iterator;
-  left : AllMarked l.objects (members_left l.object-iterator) → AllMarked l.objects (members_of (tree l.objects));
-}
+invariant-loop-object l = Left (λ m. IsMarkedBy l.objects m.1) l.objects l.object-iterator

@@ -1,4 +1,4 @@
-use Rattle.std.proofs.Common.{inl, inr, ◌∙◌}
+use Rattle.cj_feature.proofs.Common.{inl, inr, noted, ◌∙◌}
 use Rattle.cj_feature.proofs.feature.search.reached.find_by_names.Goals as goal
 
 pub loop-later-preserved : goal.loop-later-preserved

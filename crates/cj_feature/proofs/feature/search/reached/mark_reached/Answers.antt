@@ -1,25 +1,19 @@
-use Rattle.cj_feature.proofs.Common.{BoundedList, IsMarked, IsReachedObject, IsToMark, Token, ap, document, document_source, false, inl, inr, is_marked_at, refl, subst, sym, tokens_in, ◌∙◌, ◌≡◌}
-use Rattle.cj_spans.specs.Sound.{AreOf}
+use Rattle.cj_feature.proofs.Common.{BoundedList, IsToMark, Token, ap, document, false, false_from_ne_true, inl, inr, is_marked_at, refl, ◌∙◌, ◌≡◌}
 use Rattle.cj_spans.proofs.Marking.{spans_kept, length_kept, of_kept}
-use Rattle.cj_feature.proofs.LinkFaults.{not-so}
 use Rattle.cj_feature.proofs.MarkLemmas.{count-less, marked-more}
 use Rattle.cj_feature.proofs.feature.search.reached.mark_reached.Goals as goal
 
 pub of-requires : goal.of-requires
 of-requires c =
-    let line = c.args.line.now in
-    subst (AreOf line) (sym c.as_slice.ensures.value)
-    (of_kept line c.args.tokens.now.elements c.loop-number.tokens.elements c.loop-number.invariant.tokens
+    rw c.as_slice.ensures.value
+    (of_kept c.args.line.now c.args.tokens.now.elements c.loop-number.tokens.elements c.loop-number.invariant.tokens
     c.requires.scanned)
 
 -- the city object that is found next, told by the tokens
 found : (c : goal.After-set_mark)
     → IsToMark (document c.of.result) c.args.line.now c.loop-number.tokens.elements c.in-Some.number
 found c =
-    let tokens = c.of.ensures.tokens ∙ c.as_slice.ensures.value in
-    subst (λ ts. IsToMark (document c.of.result) c.args.line.now ts c.in-Some.number) tokens
-    (subst (λ l. IsToMark (document c.of.result) l (tokens_in (document_source c.of.result)) c.in-Some.number)
-    c.of.ensures.line c.in-Some.ensures.found)
+    rw (c.of.ensures.line, c.of.ensures.tokens ∙ c.as_slice.ensures.value) at c.in-Some.ensures.found
 
 pub loop-number-smaller : goal.loop-number-smaller
 loop-number-smaller c =
@@ -27,7 +21,7 @@ loop-number-smaller c =
     let n = c.in-Some.number in
     let m = found c in
     let none : is_marked_at ts n ≡ false =
-    not-so _ (λ yes. m.unmarked (record { number = n; marked = yes; shown = refl })) in
+    false_from_ne_true _ (λ yes. m.unmarked (record { number = n; marked = yes; shown = refl })) in
     count-less ts c.set_mark.new.tokens.elements n
     (length_kept ts c.set_mark.new.tokens.elements c.set_mark.ensures.kept.tokens) m.within none
     c.set_mark.ensures.marked c.set_mark.ensures.others
@@ -47,9 +41,8 @@ loop-number-preserved c =
       sound = λ t j u h.
           elim (marked-more line ts us n u kept.spans c.set_mark.ensures.others h) [
             | inl e ↦
-                let root : document c.of.result ≡ t = c.of.ensures.only t j in
-                let reached = m.reached (λ v g. subst (λ r. IsReachedObject r v) (sym root) (inv.sound t j v g)) in
-                subst (λ r. IsReachedObject r u) root (subst (IsReachedObject (document c.of.result)) e reached)
+                let root = c.of.ensures.only t j in
+                rw (root, e) at (m.reached (λ v g. rw root (inv.sound t j v g)))
             | inr g ↦ inv.sound t j u g
           ];
     }
@@ -58,11 +51,8 @@ pub returns-clause-marks : goal.returns-clause-marks
 returns-clause-marks c = λ t j u. (
   c.loop-number.invariant.sound t j u,
   λ h.
-      let root : document c.of.result ≡ t = c.of.ensures.only t j in
-      let tokens = c.of.ensures.tokens ∙ c.as_slice.ensures.value in
-      subst (λ ts. IsMarked c.args.line.now ts u) tokens
-      (subst (λ l. IsMarked l (tokens_in (document_source c.of.result)) u) c.of.ensures.line
-      (c.in_default.ensures.none u (subst (λ r. IsReachedObject r u) (sym root) h))),
+      rw (c.of.ensures.line, c.of.ensures.tokens ∙ c.as_slice.ensures.value) at
+      (c.in_default.ensures.none u (rw (c.of.ensures.only t j) h)),
 )
 
 pub returns-clause-kept : goal.returns-clause-kept

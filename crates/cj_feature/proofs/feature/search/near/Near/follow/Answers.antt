@@ -5,25 +5,20 @@ use Rattle.cj_feature.proofs.feature.search.near.Near.follow.Goals as goal
 
 pub returns-in_default-clause-guide : goal.returns-in_default-clause-guide
 returns-in_default-clause-guide g c =
-    let line = c.args.line.now in
-    let ts = c.loop.tokens.elements in
-    guide-on line ts c.loop.self _ c.loop.invariant.guide (same-hand c.loop.self.lists)
-    (λ f j waits. c.pop.ensures.pending f line (spans_of ts) waits)
+    guide-on c.loop.invariant.guide same-hand
+    (λ f j waits. c.pop.ensures.pending f c.args.line.now (spans_of c.loop.tokens.elements) waits)
 
 pub mark-requires : goal.mark-requires
 mark-requires g c =
     let line = c.args.line.now in
-    let ts = c.loop.tokens.elements in
+    let spans = spans_of c.loop.tokens.elements in
     let guide = c.loop.invariant.guide in
-    let same = length-spans_of ts in
-    let within =
-    (c.in-Some.ensures.number guide.of.tree line (spans_of ts) (guide.waiting guide.of.tree guide.of.json)).0 in
-    let same_guide =
-    guide-on line ts c.loop.self _ guide (same-hand c.loop.self.lists)
-    (λ f j waits. c.pop.ensures.pending f line (spans_of ts) waits) in (
+    let number = λ (f : Tree) (j : Json line f). c.in-Some.ensures.number f line spans (guide.waiting f j) in
+    let within = (number guide.of.tree guide.of.json).0 in
+    let same = length-spans_of c.loop.tokens.elements in (
       search rules,
       (
-        same_guide,
-        (omega arith, λ f j. (c.in-Some.ensures.number f line (spans_of ts) (guide.waiting f j)).1),
+        guide-on guide same-hand (λ f j waits. c.pop.ensures.pending f line spans waits),
+        (omega arith, λ f j. (number f j).1),
       ),
     )

@@ -1,4 +1,4 @@
-use Rattle.cj_feature.proofs.Common.{IsMarked, Some, ap, chars, codes, document, document_line, document_source, member_of, option_map, rules, source_of, subst, sym, tokens_in, tree, ◌∙◌, ◌≡◌}
+use Rattle.cj_feature.proofs.Common.{IsMarked, Some, ap, chars, codes, document, document_line, document_source, member_of, option_map, rules, sym, tokens_in, tree, ◌∙◌, ◌≡◌}
 use Rattle.cj_spans.proofs.Marking.{the-document, the-json, line-of-document}
 use Rattle.cj_feature.proofs.NearLemmas.{guide-on, known-here, waits-here, waits-there}
 use Rattle.cj_feature.proofs.feature.search.near.Near.look_behind.Goals as goal
@@ -7,30 +7,24 @@ pub note_children-requires : goal.note_children-requires
 note_children-requires g c =
     let d = c.args.doc in
     let n = c.in-Some.objects in
-    let source : source_of n ≡ document_source d = c.in-Some.ensures.source ∙ c.root-root.ensures.source in
     let o : member_of (chars (codes "CityObjects")) (document d) ≡ Some (tree n) =
     ap (member_of (chars (codes "CityObjects"))) (sym c.root-root.ensures.tree) ∙ sym c.get.ensures.value
     ∙ ap (option_map tree) c.in-Some.is in (
       search rules,
-      known-here n d source c.args.self.now.lists
+      known-here n d (c.in-Some.ensures.source ∙ c.root-root.ensures.source) c.args.self.now.lists
           (c.requires.known (document d) (tree n) (the-json d c.requires.of) o),
     )
 
 pub returns-in-Some : goal.returns-in-Some
 returns-in-Some g c =
     let d = c.args.doc in
-    let line = document_line d in
     let n = c.in-Some.objects in
     let u = c.at-object.result in
-    let source : source_of n ≡ document_source d = c.in-Some.ensures.source ∙ c.root-root.ensures.source in
-    let u_source : source_of u ≡ document_source d = c.at-object.ensures.source ∙ c.root-root.ensures.source in
-    let marked = c.marked.ensures.yes c.if-marked.true in
-    let here : IsMarked line (tokens_in (document_source d)) (tree u) =
-    subst (λ s. IsMarked line (tokens_in s) (tree u)) u_source
-    (subst (λ l. IsMarked l (tokens_in (source_of u)) (tree u)) (line-of-document u d u_source) marked) in
-    guide-on line (tokens_in (document_source d)) c.args.self.now c.note_children.new.self c.requires
-    c.note_children.ensures.hand
-    (λ f j waits.
+    let source = c.in-Some.ensures.source ∙ c.root-root.ensures.source in
+    let u_source = c.at-object.ensures.source ∙ c.root-root.ensures.source in
+    let here : IsMarked (document_line d) (tokens_in (document_source d)) (tree u) =
+    rw (line-of-document u d u_source, u_source) at (c.marked.ensures.yes c.if-marked.true) in
+    guide-on c.requires c.note_children.ensures.hand (λ f j waits.
     let is = c.root-root.ensures.tree ∙ the-document d c.requires.of f j in
     let o : member_of (chars (codes "CityObjects")) f ≡ Some (tree n) =
     ap (member_of (chars (codes "CityObjects"))) (sym is) ∙ sym c.get.ensures.value

@@ -1,4 +1,4 @@
-use Rattle.std.proofs.Common.{refl}
+use Rattle.cj_feature.proofs.Common.{refl}
 use Rattle.cj_feature.proofs.NearLemmas.{none-held}
 use Rattle.cj_feature.proofs.feature.search.near.lists.Lists.new.Goals as goal
 

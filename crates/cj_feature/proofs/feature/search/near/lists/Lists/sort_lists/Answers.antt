@@ -1,16 +1,12 @@
-use Rattle.cj_feature.proofs.Common.{AddsNone, subst, sym}
 use Rattle.cj_feature.proofs.NearLemmas.{among-moved, more-hand}
 use Rattle.cj_feature.proofs.feature.search.near.lists.Lists.sort_lists.Goals.{then-end-start-gt-LONG, else-end-start-gt-LONG}
 use Rattle.cj_feature.proofs.feature.search.near.lists.Lists.sort_lists.Goals as goal
 
 pub loop-list-preserved : goal.loop-list-preserved
 loop-list-preserved g c =
-    let a = c.args.self.now in
-    let b = c.loop-list.self in
     elim c.if-end-start-gt-LONG.branch [
       | then-end-start-gt-LONG w ↦
-          subst (AddsNone a) (sym w.self-is)
-          (more-hand a b _ c.loop-list.invariant
-          (record { slots = λ k n s at ready. among-moved b.slots _ k s w.sort.ensures at }))
-      | else-end-start-gt-LONG w ↦ subst (AddsNone a) (sym w.self-is) c.loop-list.invariant
+          rw w.self-is (more-hand c.loop-list.invariant
+          (record { slots = λ k n s at ready. among-moved c.loop-list.self.slots _ k s w.sort.ensures at }))
+      | else-end-start-gt-LONG w ↦ rw w.self-is c.loop-list.invariant
     ]
