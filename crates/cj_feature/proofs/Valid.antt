@@ -1,5 +1,5 @@
 -- What headers and features of no findings have.
-use Rattle.cj_feature.proofs.Common.{Bool, Finding, List, None, Option, Some, TemplateSource, Tree, WrongKind, [], chars, city_object, city_objects, codes, cond, count_of, distinct, false, feature_rules, flat_map, header, header_rules, id_in, if_there, is_object, is_text, known_type, member_of, members_of, missing, needs, object_type, of_kind, one, refl, three_numbers, transform, true, vertex_list, ℕ, ◌++◌, ◌∷◌, ◌≡◌}
+use Rattle.cj_feature.proofs.Common.{Bool, Finding, List, None, Option, Some, TemplateSource, Tree, WrongKind, [], chars, city_object, city_objects, codes, cond, count_of, distinct, false, feature_rules, flat_map, geometries, header, header_rules, id_in, if_there, is_object, is_text, kind_of, known_type, may_have, member_of, members_of, missing, needs, object_type, of_kind, one, refl, second_level, texts, three_numbers, transform, true, vertex_list, ℕ, ◌++◌, ◌∷◌, ◌≡◌}
 use Rattle.cj_geometry.specs.Meaning.ObjectTypes.{ObjectRow, row_of}
 use Rattle.cj_feature.proofs.None.{kind-none, none-both, then-none}
 
@@ -63,7 +63,10 @@ module _ (extensions : Bool) (vertices : Option ℕ) (templates : TemplateSource
   object-fewer : (t : Tree) → city_object extensions vertices templates t ≡ []
       → city_object true vertices templates t ≡ []
   object-fewer t h =
-      kind-fewer _ _ _ t h (λ rules.
+      let rest = λ (e : Bool). distinct t ++ needs (chars (codes "type")) (object_type e) t
+      ++ may_have (chars (codes "geometry")) (geometries vertices templates) t
+      ++ may_have (chars (codes "children")) texts t ++ may_have (chars (codes "parents")) texts t ++ second_level t in
+      kind-fewer (is_object (kind_of t)) (rest extensions) (rest true) t h (λ rules.
       let five = none-both _ _ rules in
       let four = none-both _ _ five.0 in
       let three = none-both _ _ four.0 in
@@ -78,7 +81,8 @@ module _ (extensions : Bool) (vertices : Option ℕ) (templates : TemplateSource
       → city_objects true vertices templates t ≡ []
   objects-fewer t h =
       let each = λ (e : Bool) (m : Tree × Tree). city_object e vertices templates m.1 in
-      kind-fewer _ _ _ t h (λ rules.
+      let all = λ (e : Bool). distinct t ++ flat_map (each e) (members_of t) in
+      kind-fewer (is_object (kind_of t)) (all extensions) (all true) t h (λ rules.
       let both = none-both _ _ rules in
       both-none _ _ both.0 (each-fewer (each extensions) (each true) (λ m. object-fewer m.1) (members_of t) both.1))
 
@@ -86,7 +90,8 @@ pub valid-without : (templates : TemplateSource) (t : Tree) (tree extensions : B
     → of_kind is_object (feature_rules templates tree extensions) t ≡ []
     → of_kind is_object (feature_rules templates false true) t ≡ []
 valid-without templates t tree extensions h =
-    kind-fewer _ _ _ t h (λ rules.
+    kind-fewer (is_object (kind_of t)) (feature_rules templates tree extensions t) (feature_rules templates false true t)
+    t h (λ rules.
     let six = none-both _ _ rules in
     let five = none-both _ _ six.0 in
     let four = none-both _ _ five.0 in

@@ -6,14 +6,14 @@ use Rattle.cj_spans.specs.declared.node.Members.{Members}
 -- nodes of one line and its tokens
 module _ (m n : Node) (b : IsBeside m n) where
   pub marked-beside : (t : Tree) → IsMarkedBy n t → IsMarkedBy m t
-  marked-beside t h = rw b at h
+  marked-beside t h = rw (b.0, b.1) at h
 
   pub marked-back : (t : Tree) → IsMarkedBy m t → IsMarkedBy n t
-  marked-back t h = rw b h
+  marked-back t h = rw (b.0, b.1) h
 
   pub shown-beside : (k : ℕ) (t : Tree) → tree_at (line_of n) (spans_of (tokens_in (source_of n))) k ≡ t
       → tree_at (line_of m) (spans_of (tokens_in (source_of m))) k ≡ t
-  shown-beside k t h = rw b at h
+  shown-beside k t h = rw (b.0, b.1) at h
 
 -- one of a list is its first or one of the rest
 pub next-or : {X : Type 0} (xs : List X) (x : X) (ys : List X) (y : X) → xs ≡ x ∷ ys → Contains xs y → (x ≡ y)
