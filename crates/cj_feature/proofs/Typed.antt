@@ -20,8 +20,11 @@ whole-value : (t : Tree) → whole_number t ≡ [] → (w : ℤ) × (whole_of t 
 whole-value t h =
     let parts = kind-none (is_number (kind_of t)) (value_findings (λ v. whole_findings (λ w. []) t (as_whole v)) t
     (decimal_of (spelling t))) t h in
-    let value = by-value t (decimal_of (spelling t)) parts.1 in
-    (value.0, rw parts.0 value.1)
+    from parts.0 (by-value t (decimal_of (spelling t)) parts.1)
+  where
+    from : is_number (kind_of t) ≡ true → (w : ℤ) × (option_and_then as_whole (result_ok (decimal_of (spelling t)))
+        ≡ Some w) → (w : ℤ) × (whole_of t ≡ Some w)
+    from is value = (value.0, rw is value.1)
 
 three : (ts : List Tree) → nat_eq (length ts) 3 ≡ true → flat_map whole_number ts ≡ []
     → are_three (map whole_of ts) ≡ true

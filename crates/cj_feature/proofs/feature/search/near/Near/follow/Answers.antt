@@ -1,4 +1,4 @@
-use Rattle.cj_feature.proofs.Common.{arith, rules, spans_of}
+use Rattle.cj_feature.proofs.Common.{Json, Tree, arith, rules, spans_of}
 use Rattle.cj_spans.proofs.Scanned.{length-spans_of}
 use Rattle.cj_feature.proofs.NearLemmas.{guide-on, same-hand}
 use Rattle.cj_feature.proofs.feature.search.near.Near.follow.Goals as goal
