@@ -1,7 +1,7 @@
 -- A search along the lines of a part finds each kept feature at its place.
 use Rattle.cityseq_c.proofs.Common.{AreCut, Bool, Item, Line, List, NoLf, Place, Rules, Spot, [], ap, append-nil, append_assoc, arith, bytes_eq, cond, drop, ended_line, eqb, false, filter, flat_map, flat_map-append, good_from, inl, inr, is_feature, is_kept, is_some, item_after, kept, kept_from, length, length-append, lines, nat_tests, past, raw, refl, refusal_of, seek, spot_after, spots, spots_from, sym, take-append-drop, true, verdict, ℕ, ◌++◌, ◌+◌, ◌∙◌, ◌∷◌, ◌≡◌}
 use Rattle.std.proofs.lemmas.Slice.Eq.{bytes_eq-Decides}
-use Rattle.cj_stream.proofs.GoodLemmas.{good-take}
+use Rattle.cj_stream.proofs.RulingLemmas.{good-take}
 use Rattle.cj_stream.proofs.LineLemmas.{begun-none, closed-none, lines-cut}
 use Rattle.cj_stream.proofs.MovedLemmas.{after-same}
 use Rattle.cj_stream.proofs.PartsLemmas.{lines-headed}

@@ -1,15 +1,15 @@
 -- The account of a run over a stream, from those of runs over its parts.
-use Rattle.cj_stream.proofs.Common.{Account, Complete, Counts, End, Ends, IsBounded, IsCut, IsExact, IsUnread, Kept, LimitPair, Line, List, Memory, NoLf, None, Option, Outcome, Peaks, ReadFault, ReadLimit, Reason, Refused, Rules, Run, Some, WriteFault, [], ap, append-nil, append_assoc, arith, begun, both_outcomes, bytes_bound, closed, contents, ended_line, ending, ending_of, exact_peaks, filter, filter-append, first_content, good, greater_peaks, headed, inl, inr, is_feature, is_readable, judged, kept_first, kept_from, later_of, length, length-append, length-map, lines, list_all, list_all-append, long_line, map, max, min, moved_end, moved_report, option_map, refl, refusal_in, reported_first, reported_from, subst, suc, sym, take, take-append-add, take-append-le, true, unwrap_or, verdict, whole, zero, ℕ, ◌&&◌, ◌++◌, ◌+◌, ◌-◌, ◌/◌, ◌∙◌, ◌∷◌, ◌≡◌, ◌≤◌, ◌⊎◌}
+use Rattle.cj_stream.proofs.Common.{Account, Complete, Counts, End, Ends, IsBounded, IsCut, IsExact, IsUnread, Kept, LimitPair, Line, List, Memory, NoLf, None, Outcome, Peaks, ReadFault, ReadLimit, Refused, Rules, Run, Some, WriteFault, [], ap, append-nil, append_assoc, arith, begun, both_outcomes, bytes_bound, closed, contents, ended_line, ending, ending_of, exact_peaks, filter, filter-append, good, greater_peaks, headed, inl, inr, is_feature, is_readable, judged, kept_first, kept_from, later_of, length, length-append, length-map, lines, list_all, list_all-append, long_line, map, max, min, moved_end, moved_report, nat_tests, option_map, refl, refusal_in, reported_first, reported_from, subst, suc, sym, take, take-append-add, take-append-le, true, verdict, whole, zero, ℕ, ◌&&◌, ◌++◌, ◌+◌, ◌-◌, ◌/◌, ◌∙◌, ◌∷◌, ◌≡◌, ◌≤◌, ◌⊎◌}
 use Rattle.cj_stream.specs.Meaning.Bound.{tokens_bound, of_first as first_measure}
 use Rattle.cj_stream.specs.Bound.{is_legible}
 use Rattle.cj_stream.proofs.FirstLemmas.{first-good}
 use Rattle.cj_stream.proofs.GoodLemmas.{some_of}
 use Rattle.cj_stream.proofs.IsLinesLemmas.{lines-whole}
 use Rattle.cj_stream.proofs.LineLemmas.{closed-ended, begun-ended, closed-then, begun-then, first-length, lines-cut}
-use Rattle.cj_stream.proofs.PartsLemmas.{none-begun, contents-headed, contents-parts, first-headed, exact-parts, all-lines, front-lines, back-lines, front-none, header-valid, front-good, back-good, lines-counted, ending-parts, kept-first, reported-first, refusal-first, kept-joined, reported-joined, refusal-joined, refused-stays}
+use Rattle.cj_stream.proofs.PartsLemmas.{none-begun, contents-headed, contents-parts, first-headed, exact-parts, all-lines, front-lines, back-lines, front-none, header-valid, front-good, back-good, lines-counted, ending-parts, kept-joined, reported-joined, refusal-joined, refused-stays}
 use Rattle.cj_stream.proofs.ReadingLemmas.{map_lines-append}
-use Rattle.cj_stream.proofs.RunLemmas.{refusal-stays}
 use Rattle.cj_stream.proofs.VerdictLemmas.{and-both}
+use Rattle.cj_stream.proofs.RulingLemmas.{refusal-stays}
 
 -- ---- what can be judged, and the whole lines
 
@@ -37,11 +37,14 @@ whole-headed h s free = lines-whole (headed h s) ∙ ap (map ended_line) (closed
 whole-parts : (h a b : List ℕ) → IsCut h a → lines (whole (headed h (a ++ b))) ≡ ended_line h ∷ lines a
     ++ map ended_line (closed b)
 whole-parts h a b cut =
-    whole-headed h (a ++ b) cut.header
-    ∙ ap (λ z. ended_line h ∷ z)
-    (ap (map ended_line) (closed-parts a b cut.lines)
-    ∙ (map_lines-append (closed a) (closed b)
-    ∙ ap (λ z. z ++ map ended_line (closed b)) (sym (lines-ended a cut.lines))))
+    grind (
+      arith,
+      nat_tests,
+      whole-headed h (a ++ b) cut.header,
+      closed-parts a b cut.lines,
+      map_lines-append (closed a) (closed b),
+      lines-ended a cut.lines,
+    )
 
 -- ---- counts
 
@@ -49,19 +52,16 @@ whole-parts h a b cut =
 module _ (rules : Rules) (l : Line) (valid : verdict rules [] l.content ≡ Kept) (ys : List Line) where
   features-same : (m : ℕ) → length (filter is_feature (kept_from rules [] (take m (l ∷ ys))))
       ≡ length (filter is_feature (later_of (kept_from rules [] (l ∷ take (m - 1) ys))))
-  features-same zero = ap (λ z. length (filter is_feature (later_of z))) (sym (kept-first rules l valid []))
-  features-same (suc k) =
-      let one : suc k - 1 ≡ k = omega arith in
-      rw one (ap (λ z. length (filter is_feature z)) (kept-first rules l valid (take k ys))
-      ∙ ap (λ z. length (filter is_feature (later_of z))) (sym (kept-first rules l valid (take k ys))))
+  features-same zero = rw valid refl
+  features-same (suc k) = let one : suc k - 1 ≡ k = omega arith in rw (one, valid) refl
 
   reported-same : (m : ℕ) → length (reported_from rules [] (take m (l ∷ ys)))
       ≡ length (reported_from rules [] (l ∷ take (m - 1) ys))
-  reported-same zero = ap length (sym (reported-first rules l valid []))
+  reported-same zero = rw valid refl
   reported-same (suc k) = let one : suc k - 1 ≡ k = omega arith in rw one refl
 
   none-same : (m : ℕ) → refusal_in rules (take m (l ∷ ys)) ≡ None → refusal_in rules (l ∷ take (m - 1) ys) ≡ None
-  none-same zero h = refusal-first rules l valid []
+  none-same zero h = rw valid refl
   none-same (suc k) h = let one : suc k - 1 ≡ k = omega arith in rw one h
 
 module _ (rules : Rules) (h a : List ℕ) (cut : IsCut h a) (done : ending rules (headed h a) ≡ Complete) (b : List ℕ)
@@ -96,8 +96,7 @@ module _ (rules : Rules) (h a : List ℕ) (cut : IsCut h a) (done : ending rules
       let zs = take (m - 1) (lines b) in
       let later : refusal_in rules (ended_line h ∷ zs) ≡ None =
       none-same rules (ended_line h) valid (lines b) m (let k = rw (back-lines rules h a cut b) at good in k) in
-      ap (refusal_in rules) taken
-      ∙ (refusal-joined rules (ended_line h) valid (lines a) (front-none rules h a cut done) zs
+      rw taken (refusal-joined rules (ended_line h) valid (lines a) (front-none rules h a cut done) zs
       ∙ ap (option_map (moved_end (length (lines a)))) later)
 
   features-joined : (f g : ℕ) → f ≡ length (filter is_feature (kept_first rules n (headed h a)))
@@ -108,24 +107,19 @@ module _ (rules : Rules) (h a : List ℕ) (cut : IsCut h a) (done : ending rules
       let zs = take (m - 1) (lines b) in
       let front = kept_from rules [] (ended_line h ∷ lines a) in
       let back = later_of (kept_from rules [] (ended_line h ∷ zs)) in
-      let joined : kept_first rules (n + (m - 1)) (headed h (a ++ b)) ≡ front ++ back =
-      ap (λ z. kept_from rules [] z) taken ∙ kept-joined rules (ended_line h) valid (lines a) zs in
-      let of_first : kept_first rules n (headed h a) ≡ front = first-good (kept_from rules) rules n (headed h a) all
-      ∙ ap (λ z. kept_from rules [] z) (front-good rules h a cut done) in
+      let of_first : f ≡ length (filter is_feature front) =
+      first ∙ rw (first-good (kept_from rules) rules n (headed h a) all, front-good rules h a cut done) refl in
       let of_second : g ≡ length (filter is_feature back) =
-      second ∙ (ap (λ z. length (filter is_feature (kept_from rules [] (take m z)))) (back-lines rules h a cut b)
-      ∙ features-same rules (ended_line h) valid (lines b) m) in
-      let sum : length (filter is_feature (front ++ back)) ≡ length (filter is_feature front)
-      + length (filter is_feature back) =
-      ap length (filter-append is_feature front back)
-      ∙ length-append (filter is_feature front) (filter is_feature back) in
+      second ∙ rw (back-lines rules h a cut b) (features-same rules (ended_line h) valid (lines b) m) in
+      rw taken (
       omega (
         arith,
-        first,
+        of_first,
         of_second,
-        sum,
-        ap (λ z. length (filter is_feature z)) joined,
-        ap (λ z. length (filter is_feature z)) of_first,
+        ap (λ z. length (filter is_feature z)) (kept-joined rules (ended_line h) valid (lines a) zs),
+        ap length (filter-append is_feature front back),
+        length-append (filter is_feature front) (filter is_feature back),
+      )
       )
 
   refusals-joined : (f g : ℕ) → f ≡ length (reported_first rules n (headed h a))
@@ -137,22 +131,19 @@ module _ (rules : Rules) (h a : List ℕ) (cut : IsCut h a) (done : ending rules
       let front = reported_from rules [] (ended_line h ∷ lines a) in
       let back = reported_from rules [] (ended_line h ∷ zs) in
       let moved = moved_report (length (lines a)) in
-      let joined : reported_first rules (n + (m - 1)) (headed h (a ++ b)) ≡ front ++ map moved back =
-      ap (λ z. reported_from rules [] z) taken ∙ reported-joined rules (ended_line h) valid (lines a) zs in
-      let of_first : reported_first rules n (headed h a) ≡ front =
-      first-good (reported_from rules) rules n (headed h a) all
-      ∙ ap (λ z. reported_from rules [] z) (front-good rules h a cut done) in
+      let of_first : f ≡ length front =
+      first ∙ rw (first-good (reported_from rules) rules n (headed h a) all, front-good rules h a cut done) refl in
       let of_second : g ≡ length back =
-      second ∙ (ap (λ z. length (reported_from rules [] (take m z))) (back-lines rules h a cut b)
-      ∙ reported-same rules (ended_line h) valid (lines b) m) in
+      second ∙ rw (back-lines rules h a cut b) (reported-same rules (ended_line h) valid (lines b) m) in
+      rw taken (
       omega (
         arith,
-        first,
+        of_first,
         of_second,
+        ap length (reported-joined rules (ended_line h) valid (lines a) zs),
         length-append front (map moved back),
         length-map back moved,
-        ap length joined,
-        ap length of_first,
+      )
       )
 
   Counts-joined : (f g r s : ℕ) → Counts rules (headed h a) n f r → Counts rules (headed h b) m g s

@@ -1,6 +1,6 @@
 -- A blank content is no JSON text.
-use Rattle.cj_stream.proofs.Common.{Bool, Json, Judgement, LimitPair, List, Tree, [], ap, arith, broken, cond, drop, false, inl, inr, is_blank_byte, is_text, judged_nest, judged_size, list_all, nat_tests, refl, spelled, suc, sunk, sym, take, tree_nest, tree_size, true, zero, ℕ, ◌++◌, ◌-◌, ◌∙◌, ◌∷◌, ◌≡◌, ◌≤◌}
-use Rattle.std.proofs.Common.{eqb, ◌||◌, slice_range}
+use Rattle.cj_stream.proofs.Common.{Bool, Json, Judgement, LimitPair, List, Tree, [], arith, broken, cond, drop, false, inl, inr, is_blank_byte, is_text, judged_nest, judged_size, list_all, nat_tests, refl, spelled, suc, sunk, take, tree_nest, tree_size, true, zero, ℕ, ◌++◌, ◌-◌, ◌∷◌, ◌≡◌, ◌≤◌}
+use Rattle.std.proofs.Common.{slice_range}
 use Rattle.cj_spans.specs.declared.token.Kind.{Kind}
 use Rattle.cj_spans.specs.declared.token.Kind.TheVariants.{Null, Truth, Number, Text, Array, Object}
 use Rattle.cj_spans.specs.Meaning.Spelling.{IsScalar, IsMinus, IsInt}
@@ -29,22 +29,12 @@ blank-take (suc i) (b ∷ s) h =
 not-at : (s : List ℕ) (i x : ℕ) → AllBlank s → byte s i ≡ suc x → is_blank_byte (suc x) ≡ false → ⊥
 not-at [] i x h e k = cc
 not-at (b ∷ s) zero x h e k =
-    let first = (and-both (is_blank_byte b) (list_all is_blank_byte s) h).0 in
-    let same : is_blank_byte b ≡ false = ap is_blank_byte e ∙ k in
-    clash (sym first ∙ same)
-  where
-    clash : ◌≡◌ {A = Bool} true false → ⊥
-    clash z = cc
+    grind (arith, nat_tests, and-both (is_blank_byte b) (list_all is_blank_byte s) h)
 not-at (b ∷ s) (suc i) x h e k = not-at s i x (and-both (is_blank_byte b) (list_all is_blank_byte s) h).1 e k
 
 digit-not : (b : ℕ) → 48 ≤ b → is_blank_byte b ≡ true → ⊥
-digit-not b low h = go (eqb b 32) (eqb b 9) (eqb b 13) refl refl refl h
-  where
-    go : (x y z : Bool) → eqb b 32 ≡ x → eqb b 9 ≡ y → eqb b 13 ≡ z → x || (y || z) ≡ true → ⊥
-    go true y z e f k h = let is : b ≡ 32 = grind (arith, nat_tests) in absurd (omega arith)
-    go false true z e f k h = let is : b ≡ 9 = grind (arith, nat_tests) in absurd (omega arith)
-    go false false true e f k h = let is : b ≡ 13 = grind (arith, nat_tests) in absurd (omega arith)
-    go false false false e f k h = cc
+digit-not b low h =
+    grind (arith, nat_tests)
 
 blank-int : (s t : List ℕ) → IsInt s → AllBlank (s ++ t) → ⊥
 blank-int [] t n h = n

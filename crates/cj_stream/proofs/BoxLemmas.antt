@@ -1,5 +1,5 @@
 -- Of the numbers that a map brings to at most or at least an end, the least or the greatest is one.
-use Rattle.cj_stream.proofs.Common.{AreThere, Bool, Box, Equal, Greater, IsSmall, Less, List, None, Option, Ordering, Some, Tree, [], alone, ap, arith, chars, codes, cond, coordinate, coordinate_by, false, get_or, inl, inr, int_le, int_lt, ints, is_in, items_of, length, list_any, map, meets, number_on, numbers_on, pos, range_of, refl, some_at_least, some_at_most, suc, sym, there_is, true, units_at, unwrap_or, vertex_of, vertices_of, w64, widened, zero, ℕ, ℤ, ◌&&◌, ◌+◌, ◌<◌, ◌^◌, ◌∙◌, ◌∷◌, ◌≡◌, ◌≤ℤ◌, ◌≤◌, ◌⊎◌}
+use Rattle.cj_stream.proofs.Common.{AreThere, Bool, Box, IsSmall, List, None, Ordering, Some, Tree, [], alone, ap, arith, chars, codes, cond, coordinate, coordinate_by, false, get_or, inl, inr, int_le, int_lt, ints, is_in, items_of, length, list_any, map, meets, nat_tests, number_on, numbers_on, pos, range_of, refl, some_at_least, some_at_most, suc, sym, there_is, true, units_at, vertex_of, vertices_of, w64, widened, zero, ℕ, ℤ, ◌&&◌, ◌<◌, ◌^◌, ◌∙◌, ◌∷◌, ◌≡◌, ◌≤ℤ◌, ◌⊎◌}
 use Rattle.std.proofs.Common.{◌||◌, negsuc, ◌*ℤ◌, unsigned_abs, fold, int_cmp, is_le, is_ge, mul-le-mul_right}
 use Rattle.std.specs.Int.{int_min, int_max, cast_signed, cast_unsigned}
 use Rattle.std.proofs.lemmas.Int.{to_z-of_z, fits_signed_from_abs, fold-int_min_bounds, fold-int_max_bounds}
@@ -7,31 +7,16 @@ use Rattle.cj_decimal.specs.Meaning.Affine.{AffineMap, image}
 use Rattle.cj_geometry.specs.Meaning.Numbers.{whole_of}
 use Rattle.cj_geometry.proofs.Numbers.{whole-small}
 use Rattle.cj_stream.specs.declared.query.extent.Range.{Range}
-use borrow.Author.Differences.{up, down, product_is}
 
 -- ---- a map keeps the order of numbers, or turns it
 
 product_rises : (s : ℕ) (v w : ℤ) → v ≤ℤ w → (v *ℤ pos s) ≤ℤ (w *ℤ pos s)
 product_rises s v w h =
-    let below : up v + down w ≤ up w + down v = omega (arith, ints) in
-    omega (
-      arith,
-      ints,
-      product_is v (pos s),
-      product_is w (pos s),
-      mul-le-mul_right {m = up v + down w} {n = up w + down v} s below,
-    )
+    grind (arith, nat_tests, mul-le-mul_right)
 
 product_falls : (s : ℕ) (v w : ℤ) → v ≤ℤ w → (w *ℤ negsuc s) ≤ℤ (v *ℤ negsuc s)
 product_falls s v w h =
-    let below : up v + down w ≤ up w + down v = omega (arith, ints) in
-    omega (
-      arith,
-      ints,
-      product_is v (negsuc s),
-      product_is w (negsuc s),
-      mul-le-mul_right {m = up v + down w} {n = up w + down v} (suc s) below,
-    )
+    grind (arith, nat_tests, mul-le-mul_right)
 
 image_rises : (m : AffineMap) (s : ℕ) (v w : ℤ) → m.scale ≡ pos s → v ≤ℤ w → image m v ≤ℤ image m w
 image_rises m s v w e h =
@@ -159,22 +144,12 @@ first_meets m low high n ns h = or_more (int_le (image m n) high) (int_le low (i
 -- ---- how the code asks whether a number is at most, or at least, at an end
 
 le_told : (x y : ℤ) → is_le (int_cmp x y) ≡ int_le x y
-le_told x y = by_order (int_lt x y) (int_lt y x) refl refl
-  where
-    by_order : (less more : Bool) → int_lt x y ≡ less → int_lt y x ≡ more
-        → is_le (cond less Less (cond more Greater Equal)) ≡ int_le x y
-    by_order true more e f = grind (arith, ints)
-    by_order false true e f = grind (arith, ints)
-    by_order false false e f = grind (arith, ints)
+le_told x y =
+    grind (arith, nat_tests)
 
 ge_told : (x y : ℤ) → is_ge (int_cmp x y) ≡ int_le y x
-ge_told x y = by_order (int_lt x y) (int_lt y x) refl refl
-  where
-    by_order : (less more : Bool) → int_lt x y ≡ less → int_lt y x ≡ more
-        → is_ge (cond less Less (cond more Greater Equal)) ≡ int_le y x
-    by_order true more e f = grind (arith, ints)
-    by_order false true e f = grind (arith, ints)
-    by_order false false e f = grind (arith, ints)
+ge_told x y =
+    grind (arith, nat_tests)
 
 -- of a number that went to bits and back
 pub at_most_told : (m : AffineMap) (v end : ℤ) (r : Ordering) → unsigned_abs v < 10 ^ 18
@@ -253,11 +228,6 @@ any-map : {A B : Type 0} (test : B → Bool) (f : A → B) (xs : List A)
 any-map test f [] = refl
 any-map test f (x ∷ xs) = ap (λ b. test (f x) || b) (any-map test f xs)
 
-and_assoc : (a b c d : Bool) → (a && b && c && d) ≡ ((a && b) && (c && d))
-and_assoc true true c d = refl
-and_assoc true false c d = refl
-and_assoc false b c d = refl
-
 -- the numbers of an axis are there: those of its map, and those of all vertices
 pub record OnAxis (header t : Tree) (axis : ℕ) (m : AffineMap) : Type 0 where
   pub scale : units_at (chars (codes "scale")) header axis ≡ Some m.scale
@@ -294,10 +264,7 @@ pub box-first : (box : Box) (header t : Tree) (x : AffineMap) → OnAxis header 
     → is_in box header t ≡ (meets x box.min_x box.max_x (numbers_on 0 t)
     && (some_at_most header t 1 box.max_y && some_at_least header t 1 box.min_y))
 box-first box header t x on =
-    and_assoc (some_at_most header t 0 box.max_x) (some_at_least header t 0 box.min_x)
-    (some_at_most header t 1 box.max_y) (some_at_least header t 1 box.min_y)
-    ∙ ap (λ b. b && (some_at_most header t 1 box.max_y && some_at_least header t 1 box.min_y))
-    (axis-meets header t 0 x on box.min_x box.max_x)
+    grind (arith, nat_tests, axis-meets header t 0 x on box.min_x box.max_x)
 
 pub box-numbers : (box : Box) (header t : Tree) (x y : AffineMap) → OnAxis header t 0 x → OnAxis header t 1 y
     → is_in box header t ≡ (meets x box.min_x box.max_x (numbers_on 0 t)

@@ -1,5 +1,5 @@
 -- Counts that go up, number by number.
-use Rattle.cj_stream.proofs.Common.{Bool, List, RisesBy, Tree, [], ap, arith, capped, cases_lt, chars, class_count, class_of, codes, cond, eqb-false, false, filter, filter-append, flat_map, get_or, get_or_past, how_often, inl, inr, length, length-append, lod, map, map-append, member_of, nat_eq, object_geometries, own_classes, refl, subst, sym, true, ℕ, ◌++◌, ◌+◌, ◌<◌, ◌^◌, ◌∙◌, ◌∷◌, ◌≡◌}
+use Rattle.cj_stream.proofs.Common.{Bool, List, RisesBy, Tree, [], ap, arith, capped, cases_lt, chars, class_count, class_of, codes, cond, eqb-false, false, filter, filter-append, flat_map, get_or, get_or_past, how_often, inl, inr, length, length-append, lod, map, map-append, member_of, nat_eq, nat_tests, object_geometries, own_classes, refl, subst, sym, true, ℕ, ◌++◌, ◌+◌, ◌<◌, ◌^◌, ◌∙◌, ◌∷◌, ◌≡◌}
 use Rattle.std.proofs.Common.{set, length-set, eqb-true, get_or-set_same, get_or-set_other}
 use Rattle.std.proofs.lemmas.Simd.{map-map}
 use Rattle.cj_geometry.specs.Meaning.Geometry.{TemplateSource}
@@ -33,11 +33,7 @@ module _ (counts : List ℕ) (k v : ℕ) (inside : k < length counts) where
       → capped (get_or counts n 0 + length (cond b (k ∷ filter (nat_eq n) left) (filter (nat_eq n) left))) ≡ total
       → capped (get_or (set counts k v) n 0 + how_often n left) ≡ total
   set-rises up n left total true e h =
-      let same : get_or (set counts k v) n 0 ≡ v =
-      subst (λ (m : ℕ). get_or (set counts k v) m 0 ≡ v) (sym (eqb-true n k e))
-      (get_or-set_same counts k v 0 inside) in
-      let here : get_or counts n 0 ≡ get_or counts k 0 = ap (λ m. get_or counts m 0) (eqb-true n k e) in
-      omega (arith, same, here, up, h)
+      grind (arith, nat_tests, eqb-true n k e, get_or-set_same counts k v 0 inside)
   set-rises up n left total false e h =
       let other : get_or (set counts k v) n 0 ≡ get_or counts n 0 = get_or-set_other counts k n v 0 (eqb-false n k e) in
       omega (arith, other, h)

@@ -1,15 +1,13 @@
 -- A text that comes in pieces.
-use Rattle.cj_stream.proofs.Common.{Bool, Complete, Concludes, Copies, Counts, Delivers, End, Ends, EndsAt, EngineState, Faults, IsUnread, Item, LeavesNext, Line, LineTooLong, List, Memory, NoLf, None, Option, PutsPieces, ReadFault, ReadLimit, Reads, Refused, Rules, SinkLaw, Some, Tells, Took, TookWhole, WriteFault, [], ap, append-nil, append_assoc, arith, begun, closed, cond, drop, ended_line, ending, false, first_of, given_after, goes_on, good, good_from, header_of, in_pieces, inl, inr, is_some, item_after, joined, judged, kept, kept_first, kept_from, last_line, length, lines, lines_of, long_line, map, none-some, refl, refusal_from, refusal_in, refusal_of, reported, reported_from, rules_of, stretch, subst, sym, take, true, up_to, verdict, whole, writes_law, ℕ, ◌++◌, ◌+◌, ◌<◌, ◌∙◌, ◌∷◌, ◌≡◌, ◌≤◌, ◌⊎◌}
-use Rattle.std.proofs.Common.{ltb, ltb-true}
-use Rattle.cj_stream.proofs.JoinedLemmas.{joined-cut, joined-next}
+use Rattle.cj_stream.proofs.Common.{Complete, Concludes, Copies, Delivers, End, EndsAt, EngineState, IsUnread, LeavesNext, Line, List, Memory, NoLf, None, Option, PutsPieces, ReadFault, ReadLimit, Reads, Refused, Rules, SinkLaw, Some, Tells, TookWhole, WriteFault, [], ap, append-nil, append_assoc, arith, begun, closed, drop, ended_line, ending, given_after, good, good_from, header_of, in_pieces, inl, inr, joined, judged, kept, kept_from, last_line, length, lines, lines_of, long_line, map, nat_tests, refl, refusal_from, refusal_in, reported, reported_from, rules_of, stretch, sym, take, whole, writes_law, ℕ, ◌++◌, ◌+◌, ◌<◌, ◌∙◌, ◌∷◌, ◌≡◌, ◌≤◌, ◌⊎◌}
+use Rattle.cj_stream.proofs.JoinedLemmas.{joined-cut}
 use Rattle.cj_stream.proofs.LineLemmas.{closed-then, begun-then, lines-cut, NoLf-begun, first_content-long}
-use Rattle.cj_stream.proofs.VerdictLemmas.{refusal-append, verdict-long}
-use Rattle.cj_stream.proofs.IsLinesLemmas.{lines-whole}
-use Rattle.cj_stream.proofs.ReadingLemmas.{map_lines-append, length-map_lines}
-use Rattle.cj_stream.proofs.GoodLemmas.{good-append, good-all, ending-refused}
-use Rattle.cj_stream.proofs.PieceLemmas.{Took-append}
-use Rattle.cj_stream.proofs.RunLemmas.{refusal-stays, whole-good}
+use Rattle.cj_stream.proofs.VerdictLemmas.{verdict-long}
+use Rattle.cj_stream.proofs.ReadingLemmas.{map_lines-append}
+use Rattle.cj_stream.proofs.GoodLemmas.{ending-refused}
+use Rattle.cj_stream.proofs.RunLemmas.{whole-good}
 use Rattle.cj_stream.proofs.OutputLemmas.{Took-appends, writes_part, front-bytes, next-bytes, no-bytes}
+use Rattle.cj_stream.proofs.RulingLemmas.{good-all, good-append, good-stays, refusal-append, refusal-stays}
 
 -- a text that goes on: the lines that LF ended, and those of what had begun
 pub lines-more : (q more : List ℕ) → lines (q ++ more) ≡ map ended_line (closed q) ++ lines (begun q ++ more)
@@ -26,116 +24,50 @@ lines-more q more =
 first-line : (c t : List ℕ) → NoLf c → 0 < length c → (l : Line) × (rest : List Line) × (lines (c ++ t) ≡ l ∷ rest)
     × (length c ≤ length l.content)
 first-line c t free some =
-    let first = go (closed (c ++ t)) (begun (c ++ t)) (first_content-long c t free) in
-    (first.0, first.1, lines-cut (c ++ t) ∙ first.2, first.3)
+    grind (arith, nat_tests, first_content-long c t free, lines-cut (c ++ t))
+
+-- a begun line that is too long, and the end, is so with all that follows
+long-stays : (rules : Rules) (before : List Line) (c more : List ℕ) (e : End) → NoLf c
+    → refusal_from rules before (long_line rules.limits c) ≡ Some e
+    → (refusal_from rules before (lines (c ++ more)) ≡ Some e) × (good_from rules before (lines (c ++ more)) ≡ [])
+long-stays rules before [] more e free h = absurd (grind (arith, nat_tests))
+long-stays rules before (b ∷ c) more e free h =
+    let first = first-line (b ∷ c) more free (omega arith) in
+    let long : rules.limits.line < length (b ∷ c) = grind (arith, nat_tests) in
+    let n = length before + 1 in
+    let v = verdict-long rules n (header_of rules before) (b ∷ c) long in
+    let w = verdict-long rules n (header_of rules before) first.0.content (omega (arith, first.3, long)) in
+    rw first.2 (grind (arith, nat_tests, v, w), grind (arith, nat_tests, v, w))
+
+-- the refusal of what can be judged of a text is that of each text that begins so
+judged-stays : (rules : Rules) (q more : List ℕ) (e : End) → refusal_in rules (judged rules.limits q) ≡ Some e
+    → (refusal_in rules (lines (q ++ more)) ≡ Some e)
+    × (good_from rules [] (lines (q ++ more)) ≡ good_from rules [] (map ended_line (closed q)))
+judged-stays rules q more e k = rw (lines-more q more) (go (refusal_in rules (map ended_line (closed q))) refl)
   where
-    go : (cs : List (List ℕ)) (u : List ℕ) → length c ≤ length (first_of cs u) → (l : Line) × (rest : List Line)
-        × (map ended_line cs ++ last_line u ≡ l ∷ rest) × (length c ≤ length l.content)
-    go [] [] h = absurd (omega arith)
-    go [] (b ∷ u) h = (record { content = b ∷ u; lf = false }, [], refl, h)
-    go (d ∷ ds) u h = (ended_line d, map ended_line ds ++ last_line u, refl, h)
-
--- lines after a refusal change nothing of what is good
-pub good-stays : (rules : Rules) (before xs ys : List Line) (e : End) → refusal_from rules before xs ≡ Some e
-    → good_from rules before (xs ++ ys) ≡ good_from rules before xs
-good-stays rules before [] ys e h = absurd (none-some e h)
-good-stays rules before (x ∷ xs) ys e h =
-    step (refusal_of rules (length before + 1) (verdict rules before x.content))
-    (good-stays rules (before ++ x ∷ []) xs ys e) h
-  where
-    step : (first : Option End)
-        → (refusal_from rules (before ++ x ∷ []) xs ≡ Some e
-        → good_from rules (before ++ x ∷ []) (xs ++ ys) ≡ good_from rules (before ++ x ∷ []) xs)
-        → cond (is_some first) first (refusal_from rules (before ++ x ∷ []) xs) ≡ Some e
-        → cond (is_some first) [] (x ∷ good_from rules (before ++ x ∷ []) (xs ++ ys))
-        ≡ cond (is_some first) [] (x ∷ good_from rules (before ++ x ∷ []) xs)
-    step None later h = ap (λ z. x ∷ z) (later h)
-    step (Some y) later h = refl
-
--- a line that is too long, and is the end
-refusal-long : (rules : Rules) (before : List Line) (l : Line) (rest : List Line) → rules.limits.line < length l.content
-    → goes_on rules (length before + 1) ≡ false
-    → (refusal_from rules before (l ∷ rest) ≡ Some (Refused (length before + 1) rules.limits.line LineTooLong))
-    × (good_from rules before (l ∷ rest) ≡ [])
-refusal-long rules before l rest long on = let v =
-    verdict-long rules (length before + 1) (header_of rules before) l.content long in (rw (v, on) refl, rw (v, on) refl)
-
--- a line that is too long, and none that reading goes on after, since it is the end
-long-ends : (rules : Rules) (before : List Line) (l : Line) (e : End) → rules.limits.line < length l.content
-    → refusal_from rules before (l ∷ []) ≡ Some e → goes_on rules (length before + 1) ≡ false
-long-ends rules before l e long k = go (goes_on rules (length before + 1)) refl
-  where
-    go : (b : Bool) → goes_on rules (length before + 1) ≡ b → goes_on rules (length before + 1) ≡ false
-    go true is =
-        let v = verdict-long rules (length before + 1) (header_of rules before) l.content long in
-        absurd (none-some e (let h = rw (v, is) at k in h))
-    go false is = is
-
-module _ (rules : Rules) (q more : List ℕ) (e : End) where
-  -- the refusal of what can be judged of a text is that of each text that begins so
-  Stays : Type 0
-  Stays = (refusal_in rules (lines (q ++ more)) ≡ Some e)
-      × (good_from rules [] (lines (q ++ more)) ≡ good_from rules [] (map ended_line (closed q)))
-
-  ended-stays : (x : End) → refusal_in rules (map ended_line (closed q)) ≡ Some x
-      → refusal_in rules (judged rules.limits q) ≡ Some e → Stays
-  unfolding Stays
-  ended-stays x h k =
-      let cs = map ended_line (closed q) in
-      let stays = refusal-stays rules [] (map ended_line (closed q)) (long_line rules.limits (begun q)) x h in
-      let same : ◌≡◌ {A = Option End} (Some x) (Some e) = sym stays ∙ k in
-      rw (lines-more q more) (
-        refusal-stays rules [] cs (lines (begun q ++ more)) x h
-            ∙ same,
-        good-stays rules [] cs (lines (begun q ++ more)) x h,
-      )
-
-  long-stays : (is : Bool) → ltb rules.limits.line (length (begun q)) ≡ is
-      → refusal_in rules (map ended_line (closed q)) ≡ None
-      → refusal_from rules (map ended_line (closed q)) (cond is (last_line (begun q)) []) ≡ Some e → Stays
-  unfolding Stays
-  long-stays true is h k =
-      let cs = map ended_line (closed q) in
-      let long : rules.limits.line < length (begun q) = ltb-true rules.limits.line (length (begun q)) is in
-      let first = first-line (begun q) more (NoLf-begun q) (omega arith) in
-      let on = ends_now (begun q) long k in
-      let later = refusal-long rules (map ended_line (closed q)) first.0 first.1 (omega (arith, first.3, long)) on in
-      let now = refused_now (begun q) long on k in
-      rw (lines-more q more, first.2) (
-        refusal-append rules [] cs (first.0 ∷ first.1) h ∙ (later.0 ∙ now),
-        good-append rules [] cs (first.0 ∷ first.1) h
-            ∙ (ap (λ z. cs ++ z) later.1 ∙ (append-nil cs ∙ sym (good-all rules [] cs h))),
-      )
-    where
-      ends_now : (c : List ℕ) → rules.limits.line < length c
-          → refusal_from rules (map ended_line (closed q)) (last_line c) ≡ Some e
-          → goes_on rules (length (map ended_line (closed q)) + 1) ≡ false
-      ends_now [] long k = absurd (omega arith)
-      ends_now (b ∷ c) long k =
-          long-ends rules (map ended_line (closed q)) (record { content = b ∷ c; lf = false }) e long k
-
-      refused_now : (c : List ℕ) → rules.limits.line < length c → goes_on rules (length (map ended_line (closed q)) + 1)
-          ≡ false → refusal_from rules (map ended_line (closed q)) (last_line c) ≡ Some e
-          → Some (Refused (length (map ended_line (closed q)) + 1) rules.limits.line LineTooLong) ≡ Some e
-      refused_now [] long on k = absurd (omega arith)
-      refused_now (b ∷ c) long on k =
-          sym (refusal-long rules (map ended_line (closed q)) (record { content = b ∷ c; lf = false }) [] long on).0 ∙ k
-  long-stays false is h k = absurd (none-some e k)
-
-  judged-stays : refusal_in rules (judged rules.limits q) ≡ Some e → Stays
-  judged-stays k = go (refusal_in rules (map ended_line (closed q))) refl
-    where
-      go : (o : Option End) → refusal_in rules (map ended_line (closed q)) ≡ o → Stays
-      go None h =
-          let later = refusal-append rules [] (map ended_line (closed q)) (long_line rules.limits (begun q)) h in
-          long-stays (ltb rules.limits.line (length (begun q))) refl h (sym later ∙ k)
-      go (Some x) h = ended-stays x h k
+    go : (o : Option End) → refusal_in rules (map ended_line (closed q)) ≡ o
+        → (refusal_in rules (map ended_line (closed q) ++ lines (begun q ++ more)) ≡ Some e)
+        × (good_from rules [] (map ended_line (closed q) ++ lines (begun q ++ more))
+        ≡ good_from rules [] (map ended_line (closed q)))
+    go None h =
+        let cs = map ended_line (closed q) in
+        let later = sym (refusal-append rules [] cs (long_line rules.limits (begun q)) h) ∙ k in
+        let stays = long-stays rules cs (begun q) more e (NoLf-begun q) later in (
+          refusal-append rules [] cs (lines (begun q ++ more)) h ∙ stays.0,
+          good-append rules [] cs (lines (begun q ++ more)) h
+              ∙ rw (stays.1, append-nil cs) (sym (good-all rules [] cs h)),
+        )
+    go (Some x) h =
+        let cs = map ended_line (closed q) in (
+          refusal-stays rules [] cs (lines (begun q ++ more)) x h
+              ∙ (sym (refusal-stays rules [] cs (long_line rules.limits (begun q)) x h) ∙ k),
+          good-stays rules [] cs (lines (begun q ++ more)) x h,
+        )
 
 -- the ending of a text, what is kept and reported of it, and its handled lines, where what came first of it was the end
 pub refused-more : (rules : Rules) (q more : List ℕ) (e : End) → refusal_in rules (judged rules.limits q) ≡ Some e
     → (ending rules (q ++ more) ≡ e) × (kept rules (q ++ more) ≡ kept rules q)
     × (reported rules (q ++ more) ≡ reported rules q) × (good rules (q ++ more) ≡ good rules q)
-unfolding Stays
 refused-more rules q more e k =
     let all = judged-stays rules q more e k in
     let front = judged-stays rules q [] e k in

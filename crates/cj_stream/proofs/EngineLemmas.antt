@@ -1,13 +1,13 @@
 -- What an engine holds, tells and delivers, from what its framer did.
-use Rattle.cj_stream.proofs.Common.{Bool, Complete, Counts, Delivers, End, EngineState, Faults, Going, HasRoom, HoldsFew, Invalid, IsBelow, IsBounded, IsWithin, Item, LacksMemory, LimitPair, Line, List, Memory, None, Option, Peaks, ReadFault, ReadLimit, Reading, Reads, Refused, Rules, Scanned, Scanning, SinkLaw, Some, StandsFor, Stops, Tells, WriteFault, [], ap, append-nil, append_assoc, arith, begun, bytes_bound, closed, cond, ended_line, false, first_content, further, goes_on, header_of, held_by, is_lenient, judged, kept_first, kept_from, last_line, length, length-append, limits_of, lines, map, nat_lt, peaks_of, refl, refusal_from, refusal_in, slice_get, some-none, stretch, sym, take, true, up_to, verdict, with_sink, ℕ, ◌++◌, ◌+◌, ◌<◌, ◌∙◌, ◌∷◌, ◌≡◌, ◌≤◌}
+use Rattle.cj_stream.proofs.Common.{Bool, Counts, Delivers, End, EngineState, Faults, Going, HasRoom, HoldsFew, Invalid, IsBelow, IsBounded, IsWithin, Item, LacksMemory, LimitPair, Line, List, Memory, None, Option, Peaks, Reading, Reads, Refused, Rules, Scanned, Scanning, SinkLaw, Some, StandsFor, Stops, Tells, WriteFault, [], ap, append-nil, append_assoc, arith, begun, bytes_bound, closed, cond, ended_line, false, first_content, further, goes_on, held_by, is_lenient, judged, kept_from, last_line, length, length-append, limits_of, lines, map, nat_lt, nat_tests, peaks_of, refl, refusal_from, refusal_in, slice_get, some-none, stretch, sym, take, true, up_to, verdict, with_sink, ℕ, ◌++◌, ◌+◌, ◌<◌, ◌∙◌, ◌∷◌, ◌≡◌, ◌≤◌}
 use Rattle.std.proofs.Common.{ltb}
 use Rattle.cj_stream.specs.Reading.{IsSound, kept_closed, Advances, IsNext, HasCause, stop_at}
 use Rattle.cj_stream.proofs.FirstLemmas.{take-front, lines-front, first-front, first-closed_lines}
 use Rattle.cj_stream.proofs.LineLemmas.{closed-grows, first_content-grows, first-length, lines-cut, none-from_length}
 use Rattle.cj_stream.proofs.IsLinesLemmas.{lines-whole}
-use Rattle.cj_stream.proofs.VerdictLemmas.{refusal-append, verdict-long}
 use Rattle.cj_stream.proofs.ScanningLemmas.{few-scanned, first-closed}
 use Rattle.cj_stream.proofs.ReadingLemmas.{length-map_lines, dropped-long}
+use Rattle.cj_stream.proofs.RulingLemmas.{refusal-append}
 
 -- what is held is within the peaks
 pub held-below : (e : EngineState) → IsWithin e.reading.header → IsWithin e.reading.line
@@ -107,8 +107,12 @@ pub next-refusal : (rules : Rules) (n place : ℕ) (reason : _) (p q : List ℕ)
     ≡ Invalid place reason → goes_on rules n ≡ false
     → refusal_in rules (judged rules.limits q) ≡ Some (Refused n place reason)
 next-refusal rules n place reason p q l h e good v on =
-    let at : length (map ended_line (closed p)) + 1 ≡ n = omega (arith, length-map_lines (closed p), e) in
-    rw (h.1, refusal-append rules [] (map ended_line (closed p)) (l ∷ h.0) good, v, at, on) refl
+    grind (
+      arith,
+      nat_tests,
+      length-map_lines (closed p),
+      refusal-append rules [] (map ended_line (closed p)) (l ∷ h.0) good,
+    )
 
 pub Tells-cause : {S : Type 0} (law : SinkLaw S) (rules : Rules) (p q : List ℕ) (n : ℕ) (s t : S) (e : End)
     → n ≡ length (closed p)
@@ -137,20 +141,19 @@ begun-good f q h = go f.dropped refl
         → refusal_from f.rules (map ended_line (closed q)) (last_line c) ≡ None
     after [] long on = absurd (omega arith)
     after (b ∷ c) long on =
-        let v = verdict-long f.rules (length (map ended_line (closed q)) + 1)
-        (header_of f.rules (map ended_line (closed q))) (b ∷ c) long in
-        let at : length (map ended_line (closed q)) + 1 ≡ f.lines + 1 =
-        omega (arith, length-map_lines (closed q), h.lines) in
-        rw (v, at, on) refl
+        grind (arith, nat_tests, length-map_lines (closed q))
 
     go : (d : Bool) → f.dropped ≡ d → refusal_in f.rules (judged f.rules.limits q) ≡ None
     go false held =
         let short : ltb f.rules.limits.line (length (begun q)) ≡ false = sym h.begun.dropped ∙ held in
         rw (short, append-nil (map ended_line (closed q))) h.good
     go true dropped =
-        let long : ltb f.rules.limits.line (length (begun q)) ≡ true = sym h.begun.dropped ∙ dropped in
-        rw (long, refusal-append f.rules [] (map ended_line (closed q)) (last_line (begun q)) h.good)
-        (after (begun q) (dropped-long f (begun q) h.begun dropped) (h.lenient dropped))
+        grind (
+          arith,
+          nat_tests,
+          refusal-append f.rules [] (map ended_line (closed q)) (last_line (begun q)) h.good,
+          dropped-long f (begun q) h.begun dropped,
+        )
 
 pub Going-reads : (e : EngineState) (q : List ℕ) → Reads e.reading q → Scanned (limits_of e) (closed q) e.scanning
     → Going e q

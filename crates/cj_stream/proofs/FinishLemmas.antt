@@ -1,13 +1,13 @@
 -- What the end of a text makes of an engine.
-use Rattle.cj_stream.proofs.Common.{Blank, Bool, Complete, Concludes, Counts, Deals, Delivers, End, Err, Faults, Finishes, FinishesWith, HasRoom, HoldsFew, Invalid, IsExact, IsLeft, IsWithin, Item, JudgedAs, Kept, LeftOut, LimitPair, Line, List, Memory, NoHeader, None, Ok, OnErr, OnOk, Passes, ReadFault, ReadLimit, Reading, Reads, Reason, Refused, Refuses, Result, Rules, Scanned, Scanning, ScansNext, Settles, SinkLaw, Some, StandsFor, Verdict, WriteFault, [], answer_of, ap, append-nil, arith, begun, begun_after, bytes_bound, closed, contents, end_of, ended_line, ending, ending_of, exact_peaks, false, first_content, goes_on, greatest, held_length, if◌then◌else◌, inl, inr, is_kept, is_lenient, item_after, judged_next, kept_first, kept_from, last_line, later_of, length, length-append, lines, map, max, nat_tests, next_item, next_verdict, refl, refusal_from, refusal_in, refusal_of, some-none, stretch, sym, take, take_all, true, unwrap_or, up_to, verdict, with_sink, ℕ, ◌++◌, ◌+◌, ◌<◌, ◌∙◌, ◌∷◌, ◌≡◌, ◌≤◌, ◌⊎◌}
+use Rattle.cj_stream.proofs.Common.{Complete, Concludes, Counts, Delivers, End, Err, Faults, Finishes, FinishesWith, HasRoom, HoldsFew, IsExact, IsLeft, IsWithin, LimitPair, Line, List, Memory, NoHeader, None, Ok, OnErr, OnOk, Reading, Reads, Refused, Result, Rules, Scanned, Scanning, ScansNext, Settles, SinkLaw, Some, StandsFor, WriteFault, [], answer_of, ap, append-nil, arith, begun, begun_after, bytes_bound, closed, contents, end_of, ended_line, ending, ending_of, exact_peaks, false, first_content, goes_on, greatest, held_length, if◌then◌else◌, inl, inr, is_lenient, item_after, judged_next, kept_first, last_line, later_of, length, length-append, lines, map, max, nat_tests, next_verdict, refl, refusal_from, refusal_in, some-none, stretch, sym, take, take_all, true, unwrap_or, up_to, with_sink, ℕ, ◌++◌, ◌+◌, ◌<◌, ◌∙◌, ◌∷◌, ◌≡◌, ◌≤◌, ◌⊎◌}
 use Rattle.std.proofs.Common.{eqb}
 use Rattle.cj_stream.proofs.LineLemmas.{lines-cut, none-from_length, begun_after-empty}
 use Rattle.cj_stream.proofs.DealtLemmas.{Came, passed, refused, failed, lacked, came}
-use Rattle.cj_stream.proofs.VerdictLemmas.{refusal-append, kept-append}
 use Rattle.cj_stream.proofs.ReadingLemmas.{length-map_lines, left-same, zero_or, kept-next, refused-next, greatest-later, held-nothing}
 use Rattle.cj_stream.proofs.GoodLemmas.{good-complete, good-refused}
 use Rattle.cj_stream.proofs.EngineLemmas.{held-below, peaks-bounded, same-peaks, get-next, Counts-front}
 use Rattle.cj_stream.proofs.FirstLemmas.{lines-front}
+use Rattle.cj_stream.proofs.RulingLemmas.{kept-append, refusal-append}
 
 -- the end of a text, by the number of its lines
 abbrev pub Concluded : Rules → List ℕ → ℕ → End → Type 0
@@ -269,13 +269,8 @@ module _ {S : Type 0} (law : SinkLaw S) (f g : Reading) (s t : S) (p : List ℕ)
   -- only an answer Ok makes a text complete
   pub finished-ok : (r : Result (Unit {0}) End) → Finishes law p (with_sink f s) r (with_sink g t) → end_of r ≡ Complete
       → r ≡ Ok tt
-  finished-ok r d done = go r (came-last r d) done
-    where
-      go : (r : Result (Unit {0}) End) → CameLast law f g s t p r → end_of r ≡ Complete → r ≡ Ok tt
-      go r (nothing none z e same still) done = cc
-      go r (whole z e same still) done = refl
-      go r (last b c x e (passed put refuses d fine k bad took)) done = refl
-      go r (last b c x e other) done = cc
+  finished-ok r d done =
+      grind (arith, nat_tests, came-last r d)
 
   -- and of all three counts
   pub peaks-finished : (r : Result (Unit {0}) End) (sc : Scanning) → Finishes law p (with_sink f s) r (with_sink g t)

@@ -1,9 +1,9 @@
 -- What is said of the first lines of a text, be it what is kept of them or what is reported.
-use Rattle.cj_stream.proofs.Common.{Line, List, None, Rules, [], ap, append-nil, append_assoc, begun, closed, drop, ended_line, good, good_from, last_line, length, lines, map, refl, refusal_in, sym, take, take-append-drop, whole, ℕ, ◌++◌, ◌∙◌, ◌∷◌, ◌≡◌}
-use Rattle.cj_stream.proofs.GoodLemmas.{good-take, good-append, good-all}
+use Rattle.cj_stream.proofs.Common.{Line, List, None, Rules, [], ap, append-nil, append_assoc, arith, begun, closed, drop, ended_line, good, good_from, last_line, length, lines, map, nat_tests, refl, refusal_in, sym, take, take-append-drop, whole, ℕ, ◌++◌, ◌∙◌, ◌∷◌, ◌≡◌}
 use Rattle.cj_stream.proofs.IsLinesLemmas.{lines-whole}
 use Rattle.cj_stream.proofs.LineLemmas.{closed-then, lines-cut}
 use Rattle.cj_stream.proofs.ReadingLemmas.{length-map_lines, map_lines-append}
+use Rattle.cj_stream.proofs.RulingLemmas.{good-all, good-append, good-take}
 
 pub take-front : (xs ys : List Line) (n : ℕ) → n ≡ length xs → take n (xs ++ ys) ≡ xs
 take-front xs ys n e = rw e (go xs ys)
@@ -55,9 +55,13 @@ module _ {X : Type 0} (from : List Line → List Line → List X) where
     pub first-whole : refusal_in rules (lines (whole r)) ≡ None → n ≡ length (lines (whole r))
         → from [] (take n (lines r)) ≡ from [] (good rules (whole r))
     first-whole none e =
-        first-closed_lines n r (e ∙ (ap length (lines-whole r) ∙ length-map_lines (closed r)))
-        ∙ (ap (λ z. from [] z) (sym (lines-whole r))
-        ∙ ap (λ z. from [] z) (sym (good-all rules [] (lines (whole r)) none)))
+        grind (
+          arith,
+          nat_tests,
+          first-closed_lines n r (e ∙ (ap length (lines-whole r) ∙ length-map_lines (closed r))),
+          lines-whole r,
+          good-all rules [] (lines (whole r)) none,
+        )
 
     -- of the first lines, of which none is the end, and then of the others
     pub first-split : ((before xs ys : List Line) → from before (xs ++ ys) ≡ from before xs ++ from (before ++ xs) ys)

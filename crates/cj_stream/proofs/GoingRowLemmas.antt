@@ -1,7 +1,5 @@
 -- Small streams in which reading goes on after invalid lines, computed.
-use Rattle.cj_stream.proofs.Common.{Blank, Complete, Invalid, Judgement, Kept, Line, LineTooLong, List, MissingMember, NotUtf8, Reason, Refused, Rules, Syntax, Tree, [], broken, cond, ended_line, ending_of, good_from, is_blank_byte, is_utf8, length, list_all, lit<, nat_lt, not, raw, refl, reported_from, small_feature, small_header, spelled, sunk, text_verdict, tight_rules, true, utf8_valid_len, verdict, verdict_at, wide_rules, ℕ, ◌&&◌, ◌++◌, ◌∙◌, ◌∷◌, ◌≡◌}
-use Rattle.std.proofs.Common.{ltb}
-use Rattle.cj_spans.proofs.Judgements.{judgement}
+use Rattle.cj_stream.proofs.Common.{Complete, Invalid, Kept, Line, LineTooLong, List, MissingMember, Reason, Refused, Rules, Syntax, Tree, [], arith, ended_line, ending_of, good_from, lit<, nat_tests, raw, refl, reported_from, small_feature, small_header, tight_rules, true, verdict, verdict_at, wide_rules, ℕ, ◌++◌, ◌∙◌, ◌∷◌, ◌≡◌}
 use Rattle.cj_stream.specs.GoingRows.{going, BetweenRow, FirstRow, LastRow}
 use Rattle.cj_stream.proofs.RowLemmas.{header_first, header_tight, feature_first, feature_third, comma_second, written, open_line}
 use Rattle.cj_stream.proofs.VerdictLemmas.{verdict-long}
@@ -10,18 +8,8 @@ use Rattle.cj_stream.proofs.VerdictLemmas.{verdict-long}
 pub same-verdict : (rules : Rules) (n : ℕ) (header : Tree) (c : List ℕ)
     → verdict_at (going rules) n header c ≡ verdict_at rules n header c
 unfolding verdict_at
-same-verdict rules n header c = go (judgement c rules.limits.depth)
-  where
-    go : {d : ℕ} (j : Judgement c d)
-        → cond (ltb rules.limits.line (length c)) (Invalid rules.limits.line LineTooLong)
-        (cond (not (is_utf8 c)) (Invalid (utf8_valid_len c) NotUtf8)
-        (cond (nat_lt 1 n && list_all is_blank_byte c) Blank (text_verdict (going rules) n header j)))
-        ≡ cond (ltb rules.limits.line (length c)) (Invalid rules.limits.line LineTooLong)
-        (cond (not (is_utf8 c)) (Invalid (utf8_valid_len c) NotUtf8)
-        (cond (nat_lt 1 n && list_all is_blank_byte c) Blank (text_verdict rules n header j)))
-    go (spelled t json shallow) = refl
-    go (broken i at none) = refl
-    go (sunk i at) = refl
+same-verdict rules n header c =
+    grind (arith, nat_tests)
 
 module _ (rules : Rules) (on : rules.options.keep_going ≡ true) (place : ℕ) (reason : Reason) where
   -- a refused line between two good ones, and at the end

@@ -1,5 +1,5 @@
 -- What the headline says, by what a run tells, and by what pieces tell.
-use Rattle.cj_stream.proofs.Common.{Account, Appends, BeginsWell, Bool, Channel, Complete, Copies, End, Ends, Fate, HasPeaks, HasRisen, Headline, IsBounded, IsExact, IsUnhindered, IsUnread, Keeps, Kept, LacksMemory, Line, List, Memory, None, NotesPieces, NotesRun, Option, Outputs, Peaks, ReadFault, ReadLimit, Reason, Refused, RefusedMemory, Report, Rules, Run, SinkLaw, Some, Took, WriteFault, [], ap, append-nil, arith, begun, closed, ended_line, ending, false, in_pieces, inl, inr, joined, judged, judged_lines, judged_list, last_line, lines, map, none-some, output, outputs, refl, refusal_in, reported, slice_get, stream_of, subst, sym, tree_of, true, verdict, verdict_at, ℕ, ◌++◌, ◌∙◌, ◌∷◌, ◌≡◌, ◌⊎◌}
+use Rattle.cj_stream.proofs.Common.{Account, Appends, BeginsWell, Channel, Complete, Copies, End, Ends, Fate, HasPeaks, HasRisen, Headline, IsBounded, IsExact, IsUnhindered, IsUnread, Keeps, Kept, LacksMemory, Line, List, Memory, None, NotesPieces, NotesRun, Option, Outputs, Peaks, ReadFault, ReadLimit, Reason, Refused, RefusedMemory, Report, Rules, Run, SinkLaw, Some, Took, WriteFault, [], ap, append-nil, arith, begun, closed, ended_line, ending, in_pieces, inl, inr, joined, judged, judged_lines, judged_list, last_line, lines, map, output, outputs, refl, refusal_in, reported, slice_get, stream_of, subst, sym, tree_of, verdict, ℕ, ◌++◌, ◌∙◌, ◌∷◌, ◌≡◌, ◌⊎◌}
 use Rattle.cj_stream.specs.Run.{fate_of, HeadlineOfRun, LacksRoom, Runs, Writes}
 use Rattle.cj_stream.specs.Meaning.Judged.{output_in, reported_in, ending_in}
 use Rattle.cj_stream.proofs.AgreeLemmas.{ending-in, output-in, reported-in}
@@ -59,29 +59,16 @@ first-stays r more c h =
     go : (cs : List (List ℕ)) (b : List ℕ) (ds : List (List ℕ)) (d : List ℕ)
         → slice_get (map ended_line cs ++ last_line b) 0 ≡ Some (ended_line c)
         → slice_get (map ended_line (cs ++ ds) ++ last_line d) 0 ≡ Some (ended_line c)
-    go [] [] ds d h = absurd (none-some (ended_line c) h)
-    go [] (b ∷ s) ds d h = absurd (clash h)
-      where
-        clash : ◌≡◌ {A = Option Line} (Some (record { content = b ∷ s; lf = false })) (Some (ended_line c)) → ⊥
-        clash e = let k : false ≡ true = ap lf_of e in cc
-          where
-            lf_of : Option Line → Bool
-            lf_of None = true
-            lf_of (Some l) = l.lf
+    go [] [] ds d h = absurd (cc h)
+    go [] (b ∷ s) ds d h = grind arith
     go (x ∷ cs) b ds d h = h
 
 begins-list : (rules : Rules) (ls : List Line) (c : List ℕ) → slice_get ls 0 ≡ Some (ended_line c)
     → verdict rules [] c ≡ Kept → BeginsWell (judged_list rules ls)
-begins-list rules [] c h v = absurd (none-some (ended_line c) h)
+begins-list rules [] c h v = absurd (cc h)
 begins-list rules (l ∷ ls) c h v =
-    let same : l ≡ ended_line c = some-same h in (
-      ap (λ (x : Line). verdict_at rules 1 no_tree x.content) same
-          ∙ (verdict-first rules no_tree (tree_of rules.limits.depth []) c ∙ v),
-      ap (λ (x : Line). x.lf) same,
-    )
-  where
-    some-same : ◌≡◌ {A = Option Line} (Some l) (Some (ended_line c)) → l ≡ ended_line c
-    some-same y = cc
+    let same : l ≡ ended_line c = grind arith in
+    rw same (verdict-first rules no_tree (tree_of rules.limits.depth []) c ∙ v, refl)
 
 pub begins-well : (rules : Rules) (r more : List ℕ) (n : ℕ) → LacksMemory rules r n
     → BeginsWell (judged_lines rules (r ++ more))

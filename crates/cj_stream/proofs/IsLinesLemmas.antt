@@ -1,6 +1,6 @@
 -- `lines` are the lines of a text, and no others are.
-use Rattle.cj_stream.proofs.Common.{Bool, Line, List, NoLf, [], ap, append-nil, append_assoc, begun, begun_with, closed, cond, ended_line, false, flat_map, flat_map-append, inl, inr, last_line, lines, map, onto_first, raw, refl, subst, sym, true, whole, ℕ, ◌++◌, ◌∙◌, ◌∷◌, ◌≡◌}
-use Rattle.std.proofs.Common.{eqb, eqb-true}
+use Rattle.cj_stream.proofs.Common.{Bool, Line, List, NoLf, [], ap, append-nil, append_assoc, arith, begun, closed, cond, ended_line, false, flat_map, flat_map-append, inl, inr, last_line, lines, map, nat_tests, onto_first, raw, refl, subst, sym, true, whole, ℕ, ◌++◌, ◌∙◌, ◌∷◌, ◌≡◌}
+use Rattle.std.proofs.Common.{eqb}
 use Rattle.cj_stream.specs.IsLines.{AreEnded, HaveNoLf, IsLines, IsWhole}
 use Rattle.cj_stream.proofs.LineLemmas.{closed-none, begun-none, lines-cut, NoLf-begun}
 
@@ -38,16 +38,9 @@ pub only-lines : (s : List ℕ) (ls : List Line) → IsLines s ls → ls ≡ lin
 only-lines s ls h = lines-of ls h.contents h.ended ∙ ap lines h.joined
 
 -- what LF ended, joined again, and then what it has not ended
-joined-byte : (b : ℕ) (is : Bool) (cs : List (List ℕ)) (u s : List ℕ) → eqb b 10 ≡ is → flat_map raw (map ended_line cs)
-    ++ u ≡ s
-    → flat_map raw (map ended_line (cond is ([] ∷ cs) (onto_first b cs))) ++ cond is u (begun_with cs b u) ≡ b ∷ s
-joined-byte b true cs u s h e = let lf : b ≡ 10 = eqb-true b 10 h in rw lf (ap (λ z. 10 ∷ z) e)
-joined-byte b false [] u s h e = ap (λ z. b ∷ z) e
-joined-byte b false (c ∷ cs) u s h e = ap (λ z. b ∷ z) e
-
 pub whole-begun : (s : List ℕ) → whole s ++ begun s ≡ s
 whole-begun [] = refl
-whole-begun (b ∷ s) = joined-byte b (eqb b 10) (closed s) (begun s) s refl (whole-begun s)
+whole-begun (b ∷ s) = grind (arith, nat_tests, whole-begun s)
 
 HaveNoLf-append : (xs ys : List Line) → HaveNoLf xs → HaveNoLf ys → HaveNoLf (xs ++ ys)
 HaveNoLf-append [] ys p q = q

@@ -1,5 +1,5 @@
 -- Each line has exactly one verdict, and each stream one list of judged lines.
-use Rattle.cj_stream.proofs.Common.{Blank, Bool, Finding, Invalid, IsVerdict, Json, Judgement, Kept, LeftOut, Line, LineTooLong, List, None, NotUtf8, Option, Reason, Rules, Some, Syntax, TooDeep, Tree, Verdict, [], ap, arith, array, broken, by_least, cond, false, findings, is_blank, is_blank_line, is_kept_if_valid, is_utf8, judged_at, judged_behind, judged_later, judged_list, least, length, nat_tests, nest, no_items, not, read_tree, refl, spelled, spelled_tree, subst, sunk, sym, text_verdict, tree_verdict, true, utf8_valid_len, verdict_at, ℕ, ◌&&◌, ◌+◌, ◌<◌, ◌∙◌, ◌∷◌, ◌≡◌, ◌≤◌}
+use Rattle.cj_stream.proofs.Common.{Blank, Bool, Finding, Invalid, IsVerdict, Json, Judgement, Kept, Line, LineTooLong, List, None, NotUtf8, Option, Rules, Some, Syntax, TooDeep, Tree, Verdict, [], ap, arith, array, broken, by_least, cond, false, findings, is_blank, is_blank_line, is_kept_if_valid, is_utf8, judged_at, judged_behind, judged_later, judged_list, least, length, nat_tests, nest, no_items, not, read_tree, refl, spelled, spelled_tree, subst, sunk, sym, text_verdict, tree_verdict, true, utf8_valid_len, verdict_at, ℕ, ◌&&◌, ◌+◌, ◌<◌, ◌∙◌, ◌∷◌, ◌≡◌, ◌≤◌}
 use Rattle.std.proofs.Common.{eqb, ltb, ltb-true}
 use Rattle.cj_spans.specs.Meaning.Prefix.{SyntaxAt, DeepAt, NowhereDeep}
 use Rattle.cj_spans.proofs.Judgements.{judgement, say_same}
@@ -157,48 +157,11 @@ module _ (rules : Rules) (n : ℕ) (x : Tree) (header : Option Tree) (fits : Fit
 
 -- ---- verdicts by themselves
 
-pub invalid-kept : (place : ℕ) (reason : Reason) → Invalid place reason ≡ Kept → ⊥
-invalid-kept place reason e = cc
-
-pub blank-kept : Blank ≡ Kept → ⊥
-blank-kept e = cc
-
-pub left-kept : LeftOut ≡ Kept → ⊥
-left-kept e = cc
-
 -- a kept line has a tree
 pub kept-tree : (rules : Rules) (header : Option Tree) (c : List ℕ) (t : Option Tree) (v : Verdict)
     → IsVerdict rules header c t v → v ≡ Kept → (u : Tree) × (t ≡ Some u) × Spells rules header c u
-kept-tree rules header c t v (too_long h) e = absurd (invalid-kept _ _ e)
-kept-tree rules header c t v (not_utf8 h u) e = absurd (invalid-kept _ _ e)
-kept-tree rules header c t v (blank_line h u b) e = absurd (blank-kept e)
-kept-tree rules header c t v (too_deep i read s) e = absurd (invalid-kept _ _ e)
-kept-tree rules header c t v (no_json i read h s) e = absurd (invalid-kept _ _ e)
-kept-tree rules header c t v (faulty u f spells k) e = absurd (invalid-kept _ _ e)
-kept-tree rules header c t v (leaves_out u spells k s) e = absurd (left-kept e)
 kept-tree rules header c t v (keeps u spells k s) e = (u, refl, spells)
-
--- a first line is invalid or kept
-pub data IsFirst : Verdict → Type 0 where
-  refused : (place : ℕ) (reason : Reason) → IsFirst (Invalid place reason)
-  accepted : IsFirst Kept
-
-pub first-verdict : (rules : Rules) (c : List ℕ) (t : Option Tree) (v : Verdict) → IsVerdict rules None c t v
-    → IsFirst v
-first-verdict rules c t v (too_long h) = refused _ _
-first-verdict rules c t v (not_utf8 h u) = refused _ _
-first-verdict rules c t v (blank_line h u b) = cc
-first-verdict rules c t v (too_deep i read s) = refused _ _
-first-verdict rules c t v (no_json i read h s) = refused _ _
-first-verdict rules c t v (faulty u f spells k) = refused _ _
-first-verdict rules c t v (leaves_out u spells k s) = cc
-first-verdict rules c t v (keeps u spells k s) = accepted
-
-pub first-blank : IsFirst Blank → ⊥
-first-blank h = elim h [ ]
-
-pub first-left : IsFirst LeftOut → ⊥
-first-left h = elim h [ ]
+kept-tree rules header c t v other e = absurd (cc e)
 
 -- ---- the lists
 
@@ -266,10 +229,7 @@ module _ (rules : Rules) where
       go Kept None e f =
           let k = kept-tree rules None l.content _ _ (first-is l).verdict e in
           let clash : None ≡ Some k.0 = sym f ∙ k.1 in cc
-      go (Invalid place reason) t e f =
-          no_header l ls _ (first-is l) (λ k. invalid-kept place reason (sym e ∙ k))
-      go Blank t e f = no_header l ls _ (first-is l) (λ k. blank-kept (sym e ∙ k))
-      go LeftOut t e f = no_header l ls _ (first-is l) (λ k. left-kept (sym e ∙ k))
+      go other t e f = no_header l ls _ (first-is l) (λ k. cc (e, k))
 
   behind-none : (v : Verdict) (t : Option Tree) (ls : List Line) → (v ≡ Kept → ⊥) → judged_behind rules v t ls ≡ []
   behind-none Kept t ls h = absurd (h refl)

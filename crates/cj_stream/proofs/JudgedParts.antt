@@ -1,5 +1,5 @@
 -- The list of judged lines of a stream that is read in two parts.
-use Rattle.cj_stream.proofs.Common.{Complete, IsCut, Kept, Line, List, None, Rules, Some, Tree, [], ap, arith, ended_line, ending, headed, judged_at, judged_later, judged_lines, judged_list, later_of, length, lines, map, moved_line, refl, sym, tree_of, verdict, ℕ, ◌++◌, ◌+◌, ◌<◌, ◌∙◌, ◌∷◌, ◌≡◌}
+use Rattle.cj_stream.proofs.Common.{Complete, IsCut, Kept, Line, List, None, Rules, Some, Tree, [], ap, arith, ended_line, ending, headed, judged_at, judged_later, judged_lines, judged_list, later_of, length, lines, map, moved_line, nat_tests, refl, sym, tree_of, verdict, ℕ, ◌++◌, ◌+◌, ◌<◌, ◌∙◌, ◌∷◌, ◌≡◌}
 use Rattle.cj_stream.proofs.JudgedLemmas.{behind-some, first-is, kept-tree, later-fits, no_tree, only-verdict, verdict-is}
 use Rattle.cj_stream.proofs.PartsLemmas.{all-lines, back-lines, front-lines, header-valid}
 use Rattle.cj_stream.proofs.VerdictLemmas.{verdict-first}
@@ -10,9 +10,7 @@ module _ (rules : Rules) (h : Tree) where
       → judged_later rules h n (xs ++ ys) ≡ judged_later rules h n xs ++ judged_later rules h (n + length xs) ys
   later-append n [] ys = let none : n + 0 ≡ n = omega arith in rw none refl
   later-append n (x ∷ xs) ys =
-      let next : n + 1 + length xs ≡ n + length (x ∷ xs) = omega arith in
-      ap (λ js. judged_at rules n (Some h) x ∷ js) (later-append (n + 1) xs ys
-      ∙ ap (λ m. judged_later rules h (n + 1) xs ++ judged_later rules h m ys) next)
+      grind (arith, nat_tests, later-append (n + 1) xs ys)
 
   -- the same lines by other numbers
   line-moved : (n k : ℕ) → 1 < n → (l : Line)
@@ -32,10 +30,7 @@ module _ (rules : Rules) (h : Tree) where
       → judged_later rules h (n + k) ls ≡ map (moved_line k) (judged_later rules h n ls)
   later-moved n k later [] = refl
   later-moved n k later (l ∷ ls) =
-      let next : n + k + 1 ≡ n + 1 + k = omega arith in
-      ap (λ j. j ∷ judged_later rules h (n + k + 1) ls) (line-moved n k later l)
-      ∙ ap (λ js. moved_line k (judged_at rules n (Some h) l) ∷ js) (ap (λ m. judged_later rules h m ls) next
-      ∙ later-moved (n + 1) k (omega (arith, later)) ls)
+      grind (arith, nat_tests, line-moved n k later l, later-moved (n + 1) k (omega (arith, later)) ls)
 
 module _ (rules : Rules) (l : Line) (valid : verdict rules [] l.content ≡ Kept) where
   first-kept : (judged_at rules 1 None l).verdict ≡ Kept
@@ -71,10 +66,11 @@ pub judged-parts : (rules : Rules) (h a b : List ℕ) → IsCut h a → ending r
     → judged_lines rules (headed h (a ++ b)) ≡ judged_lines rules (headed h a)
     ++ map (moved_line (length (lines a))) (later_of (judged_lines rules (headed h b)))
 judged-parts rules h a b cut done =
-    let moved = map (moved_line (length (lines a))) in
-    ap (judged_list rules) (all-lines rules h a cut b)
-    ∙ (list-joined rules (ended_line h) (header-valid rules h a cut done) (lines a) (lines b)
-    ∙ (ap (λ ls. judged_list rules ls ++ moved (later_of (judged_list rules (ended_line h ∷ lines b))))
-    (sym (front-lines rules h a cut))
-    ∙ ap (λ ls. judged_lines rules (headed h a) ++ moved (later_of (judged_list rules ls)))
-    (sym (back-lines rules h a cut b))))
+    grind (
+      arith,
+      nat_tests,
+      all-lines rules h a cut b,
+      list-joined rules (ended_line h) (header-valid rules h a cut done) (lines a) (lines b),
+      front-lines rules h a cut,
+      back-lines rules h a cut b,
+    )

@@ -1,27 +1,19 @@
 -- What was held at most of a complete stream is what its judged lines say.
-use Rattle.cj_stream.proofs.Common.{Blank, Bool, Complete, HasPeaks, Invalid, IsExact, Judgement, Kept, LeftOut, Line, LineTooLong, List, NoHeader, None, NotUtf8, Option, Peaks, Reason, Refused, Rules, Some, Tree, Verdict, [], ap, arith, begun, broken, by_least, closed, cond, drop, ended_line, ending, exact_peaks, false, first_content, first_line, first_of, greatest, held_length, is_blank, is_blank_byte, is_readable, is_some, is_spelled, is_text, is_utf8, judged_at, judged_behind, judged_later, judged_lines, judged_list, judged_nest, judged_size, last_line, later_of, length, lines, list_all, map, max, nat_tests, not, read_tree, refl, spelled, spelled_tree, subst, sunk, sym, text_verdict, tree_nest, tree_size, true, utf8_valid_len, verdict_at, ℕ, ◌&&◌, ◌++◌, ◌+◌, ◌<◌, ◌∙◌, ◌∷◌, ◌≡◌}
-use Rattle.std.proofs.Common.{ltb, ◌||◌, option_and_then, find}
+use Rattle.cj_stream.proofs.Common.{Bool, Complete, HasPeaks, Invalid, IsExact, Judgement, Kept, Line, List, None, Option, Peaks, Reason, Refused, Rules, Some, Tree, Verdict, [], ap, arith, broken, cond, drop, ending, exact_peaks, false, first_content, greatest, held_length, is_blank, is_blank_byte, is_readable, is_text, judged_at, judged_later, judged_lines, judged_list, judged_nest, judged_size, later_of, length, lines, list_all, map, max, nat_tests, not, read_tree, refl, refusal_of, spelled, spelled_tree, subst, sunk, sym, tree_nest, tree_size, true, verdict_at, ℕ, ◌&&◌, ◌+◌, ◌<◌, ◌∙◌, ◌∷◌, ◌≡◌}
 use Rattle.cj_spans.proofs.Judgements.{judgement}
 use Rattle.cj_stream.specs.Bound.{is_legible as are_readable}
-use Rattle.cj_stream.specs.Meaning.Bound.{held_bytes, is_blank_verdict, is_legible, nest_if, peaks_in, size_if}
-use Rattle.cj_stream.specs.Meaning.Judged.{JudgedLine, ends, end_of_report, ending_in, report_by, report_of}
+use Rattle.cj_stream.specs.Meaning.Bound.{held_bytes, is_legible, nest_if, peaks_in, size_if}
+use Rattle.cj_stream.specs.Meaning.Judged.{JudgedLine, ending_in}
 use Rattle.cj_stream.proofs.AgreeLemmas.{ending-in}
 use Rattle.cj_stream.proofs.BlankLemmas.{blank-tree}
 use Rattle.cj_stream.proofs.LineLemmas.{lines-cut}
-use Rattle.cj_stream.proofs.JudgedLemmas.{IsFirst, behind-some, first-blank, first-is, first-left, first-verdict, kept-tree}
-
-or-true : (x : Bool) → x || true ≡ true
-or-true true = refl
-or-true false = refl
+use Rattle.cj_stream.proofs.JudgedLemmas.{behind-some, first-is, kept-tree, no_tree}
+use Rattle.cj_stream.proofs.VerdictLemmas.{valid-first}
 
 -- the first line begins a stream
 first-line : (s : List ℕ) (l : Line) (ls : List Line) → lines s ≡ l ∷ ls → first_content s ≡ l.content
-first-line s l ls e = go (closed s) (begun s) (sym (lines-cut s) ∙ e)
-  where
-    go : (cs : List (List ℕ)) (b : List ℕ) → map ended_line cs ++ last_line b ≡ l ∷ ls → first_of cs b ≡ l.content
-    go [] [] e = cc
-    go [] (b ∷ s) e = ap first_line e
-    go (c ∷ cs) b e = ap first_line e
+first-line s l ls e =
+    grind (arith, nat_tests, lines-cut s)
 
 -- ---- one line
 
@@ -58,30 +50,11 @@ module _ (rules : Rules) where
       nested-by (is_text rules.limits c) (is_blank header c) (judgement c rules.limits.depth)
       (λ b. (blank-tree rules.limits c (all-blank header c b)).1)
 
-  not-blank : (n : ℕ) (h t : Tree) (keep : Bool) → is_blank_verdict (by_least keep None) ≡ false
-  not-blank n h t true = refl
-  not-blank n h t false = refl
-
   legible : (n : ℕ) (h : Tree) (l : Line) → 1 < n
       → is_readable rules.limits l.content ≡ is_legible (judged_at rules n (Some h) l)
   unfolding verdict_at
   legible n h l later =
-      let is_later : ltb 1 n ≡ true = grind (arith, nat_tests) in
-      rw is_later (go (ltb rules.limits.line (length l.content)) (is_utf8 l.content)
-      (list_all is_blank_byte l.content) (judgement l.content rules.limits.depth))
-    where
-      go : {c : List ℕ} {d : ℕ} (long text blanks : Bool) (j : Judgement c d)
-          → (not long && text) && (blanks || is_spelled j)
-          ≡ is_blank_verdict (cond long (Invalid rules.limits.line LineTooLong)
-          (cond (not text) (Invalid (utf8_valid_len l.content) NotUtf8)
-          (cond blanks Blank (text_verdict rules n h j))))
-          || is_some (cond ((not long && text) && not blanks) (spelled_tree j) None)
-      go true text blanks j = refl
-      go false false blanks j = refl
-      go false true true j = refl
-      go false true false (spelled t k m) = sym (or-true _)
-      go false true false (broken i s m) = refl
-      go false true false (sunk i s) = refl
+      grind (arith, nat_tests)
 
   -- ---- the later lines
 
@@ -107,26 +80,16 @@ module _ (rules : Rules) where
       → (judged_at rules 1 None l).verdict ≡ Invalid place reason
       → ending_in rules (judged_list rules (l ∷ ls)) ≡ Refused 1 place reason
   refused-first l ls place reason e =
-      let at : ends rules (judged_at rules 1 None l) ≡ true = rw e refl in
-      let rest = judged_behind rules (judged_at rules 1 None l).verdict (judged_at rules 1 None l).tree ls in
-      ap (λ b. end_of_report (option_and_then report_of
-      (cond b (Some (judged_at rules 1 None l)) (find (ends rules) rest)))) at
-      ∙ ap (λ v. end_of_report (report_by 1 v)) e
+      grind (arith, nat_tests)
 
   pub kept-first : (l : Line) (ls : List Line) → ending_in rules (judged_list rules (l ∷ ls)) ≡ Complete
       → (judged_at rules 1 None l).verdict ≡ Kept
-  kept-first l ls h =
-      go (judged_at rules 1 None l).verdict refl (first-verdict rules l.content _ _ (first-is rules l).verdict)
+  kept-first l ls h = valid-first rules no_tree l.content (go (judged_at rules 1 None l).verdict refl)
     where
-      clash : (place : ℕ) (reason : Reason) → Refused 1 place reason ≡ Complete → ⊥
-      clash place reason e = cc
-
-      go : (v : Verdict) → (judged_at rules 1 None l).verdict ≡ v → IsFirst v
-          → (judged_at rules 1 None l).verdict ≡ Kept
-      go (Invalid place reason) e k = absurd (clash place reason (sym (refused-first l ls place reason e) ∙ h))
-      go Blank e k = absurd (first-blank k)
-      go LeftOut e k = absurd (first-left k)
-      go Kept e k = e
+      go : (v : Verdict) → (judged_at rules 1 None l).verdict ≡ v
+          → refusal_of rules 1 (judged_at rules 1 None l).verdict ≡ None
+      go (Invalid place reason) e = absurd (cc (refused-first l ls place reason e, h))
+      go other e = rw e refl
 
   record SamePeaks (s : List ℕ) (js : List JudgedLine) : Type 0 where
     peaks : exact_peaks rules.limits s ≡ peaks_in rules.limits js
@@ -158,12 +121,9 @@ module _ (rules : Rules) where
   same-peaks : (s : List ℕ) → ending rules s ≡ Complete → SamePeaks s (judged_lines rules s)
   same-peaks s h = go (lines s) refl (sym (ending-in rules s) ∙ h)
     where
-      clash : Refused 1 0 NoHeader ≡ Complete → ⊥
-      clash e = cc
-
       go : (ls : List Line) → lines s ≡ ls → ending_in rules (judged_list rules ls) ≡ Complete
           → SamePeaks s (judged_list rules ls)
-      go [] e h = absurd (clash h)
+      go [] e h = absurd (cc h)
       go (l ∷ ls) e h =
           let k = kept-first l ls h in
           let u = kept-tree rules None l.content _ _ (first-is rules l).verdict k in

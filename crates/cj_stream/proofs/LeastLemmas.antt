@@ -1,5 +1,5 @@
 -- What was held at most is no less than the lines that were dealt with need.
-use Rattle.cj_stream.proofs.Common.{End, EngineState, Err, Finishes, FinishesWith, HeldAll, HeldUntil, IsBelow, LimitPair, Line, List, Ok, OnOk, Reading, Reads, Result, Rises, Scanned, Scanning, SinkLaw, Stays, [], ap, append-nil, append_assoc, arith, begun, begun_after, closed, contents, ended_line, exact_peaks, first_content, first_lines, first_of, flat_map, greatest, held_length, is_lenient, last_line, later_of, length, limits_of, lines, lines_of, map, max, peaks_of, raw, refl, sym, take, take_all, whole, with_sink, ℕ, ◌++◌, ◌+◌, ◌∙◌, ◌∷◌, ◌≡◌, ◌≤◌}
+use Rattle.cj_stream.proofs.Common.{End, EngineState, Err, Finishes, HeldAll, HeldUntil, IsBelow, LimitPair, Line, List, Ok, OnOk, Reading, Reads, Result, Rises, Scanned, Scanning, SinkLaw, Stays, [], ap, append-nil, append_assoc, arith, begun, begun_after, closed, contents, ended_line, exact_peaks, first_content, first_lines, first_of, flat_map, greatest, held_length, last_line, later_of, length, limits_of, lines, lines_of, map, max, nat_tests, peaks_of, raw, refl, sym, take_all, whole, with_sink, ℕ, ◌++◌, ◌+◌, ◌∙◌, ◌∷◌, ◌≡◌, ◌≤◌}
 use Rattle.cj_stream.proofs.FirstLemmas.{lines-front}
 use Rattle.cj_stream.proofs.FinishLemmas.{Finishes-concludes, contents-closed, contents-last, peaks-finished}
 use Rattle.cj_stream.proofs.GoodLemmas.{good-complete}
@@ -7,7 +7,6 @@ use Rattle.cj_stream.proofs.LineLemmas.{lines-cut}
 use Rattle.cj_stream.proofs.IsLinesLemmas.{lines-are_lines, lines-whole}
 use Rattle.cj_stream.proofs.ReadingLemmas.{greatest-later, held-nothing}
 use Rattle.cj_stream.proofs.ScanningLemmas.{first-closed}
-use Rattle.cj_stream.proofs.StaysLemmas.{settled-err}
 
 pub held-scanned : (limits : LimitPair) (cs : List (List ℕ)) (s : Scanning) → Scanned limits cs s → HeldAll limits cs s
 held-scanned limits cs s k =
@@ -50,14 +49,7 @@ contents-whole q = rw (lines-whole q) (contents-ended (closed q))
 -- the first line is the first of the contents
 first-contents : (s : List ℕ) → length (first_content s) ≡ length (first_of (contents s) [])
 first-contents s =
-    go (closed s) (begun s)
-    ∙ ap (λ ls. length (first_of (map (λ (l : Line). l.content) ls) [])) (sym (lines-cut s))
-  where
-    go : (cs : List (List ℕ)) (b : List ℕ)
-        → length (first_of cs b) ≡ length (first_of (map (λ l. l.content) (map ended_line cs ++ last_line b)) [])
-    go [] [] = refl
-    go [] (x ∷ b) = refl
-    go (c ∷ cs) b = refl
+    grind (arith, nat_tests, lines-cut s)
 
 -- as many lines as LF ended in a prefix are that prefix, but for what has begun in it
 first-front : (n : ℕ) (q more : List ℕ) → n ≡ length (closed q) → first_lines n (q ++ more) ≡ whole q
@@ -67,9 +59,14 @@ first-front n q more e = ap (λ ls. flat_map raw ls) (lines-front n q more e)
 same-closed : (n : ℕ) (a x b y : List ℕ) → a ++ x ≡ b ++ y → n ≡ length (closed a) → n ≡ length (closed b)
     → closed a ≡ closed b
 same-closed n a x b y same e f =
-    let both : map ended_line (closed a) ≡ map ended_line (closed b) = sym (lines-front n a x e)
-    ∙ (ap (λ z. take n (lines z)) same ∙ lines-front n b y f) in
-    sym (contents-ended (closed a)) ∙ (ap (λ ls. map (λ l. l.content) ls) both ∙ contents-ended (closed b))
+    grind (
+      arith,
+      nat_tests,
+      lines-front n a x e,
+      lines-front n b y f,
+      contents-ended (closed a),
+      contents-ended (closed b),
+    )
 
 least-peaks : (limits : LimitPair) (q : List ℕ) (s : Scanning) (bytes : ℕ)
     → length (first_of (closed q) []) + greatest (held_length limits) (later_of (closed q)) ≤ bytes
@@ -145,11 +142,8 @@ module _ {S : Type 0} (law : SinkLaw S) where
   -- an error leaves the count of lines
   finished-err : (f g : Reading) (s t : S) (p : List ℕ) (e : End) → Finishes law p (with_sink f s) (Err e)
       (with_sink g t) → g.lines ≡ f.lines
-  finished-err f g s t p e d = go (begun p) d
-    where
-      go : (x : List ℕ) → FinishesWith law x (with_sink f s) (Err e) (with_sink g t) → g.lines ≡ f.lines
-      go [] d = ap (λ x. x.lines) d.1
-      go (b ∷ c) d = settled-err law (is_lenient f) _ _ f g s t e d
+  finished-err f g s t p e d =
+      grind (arith, nat_tests)
 
   pub least-finished : (old new : EngineState) (s t : S) (p : List ℕ) (r : Result (Unit {0}) End) → Reads old.reading p
       → Finishes law p (with_sink old.reading s) r (with_sink new.reading t)

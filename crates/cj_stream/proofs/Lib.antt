@@ -49,6 +49,7 @@ pub mod QueryRowLemmas
 pub mod Ranges
 pub mod ReadingLemmas
 pub mod RowLemmas
+pub mod RulingLemmas
 pub mod RunLemmas
 pub mod ScanningLemmas
 pub mod SelectionLemmas

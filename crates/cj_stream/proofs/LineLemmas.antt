@@ -1,5 +1,5 @@
 -- The lines of a text that goes on.
-use Rattle.cj_stream.proofs.Common.{Bool, Line, List, NoLf, [], ap, append-nil, arith, begun, begun_after, begun_with, closed, cond, ended_line, false, first_content, first_of, get_or, in_front, last_line, length, length-append, lines, map, of_first, onto_first, refl, suc, true, ℕ, ◌++◌, ◌<◌, ◌∙◌, ◌∷◌, ◌≡◌, ◌≤◌}
+use Rattle.cj_stream.proofs.Common.{Bool, Line, List, NoLf, [], ap, append-nil, arith, begun, begun_after, begun_with, closed, cond, ended_line, false, first_content, first_of, get_or, last_line, length, length-append, lines, map, of_first, refl, suc, true, ℕ, ◌++◌, ◌<◌, ◌∙◌, ◌∷◌, ◌≡◌, ◌≤◌}
 use Rattle.std.proofs.Common.{eqb}
 
 -- a test that is not true is false
@@ -23,33 +23,9 @@ pub begun-ended : (c t : List ℕ) → NoLf c → begun (c ++ 10 ∷ t) ≡ begu
 begun-ended [] t h = refl
 begun-ended (b ∷ c) t h = rw (h.0, closed-ended c t h.1, begun-ended c t h.1)
 
-onto_first-then : (b : ℕ) (cs : List (List ℕ)) (u t : List ℕ) → eqb b 10 ≡ false
-    → onto_first b (cs ++ closed (u ++ t)) ≡ onto_first b cs ++ closed (begun_with cs b u ++ t)
-onto_first-then b [] u t h = rw h
-onto_first-then b (c ∷ cs) u t h = refl
-
-closed-then-byte : (b : ℕ) (is : Bool) (s t : List ℕ) → eqb b 10 ≡ is
-    → closed (s ++ t) ≡ closed s ++ closed (begun s ++ t)
-    → cond is ([] ∷ closed (s ++ t)) (onto_first b (closed (s ++ t)))
-    ≡ cond is ([] ∷ closed s) (onto_first b (closed s))
-    ++ closed (cond is (begun s) (begun_with (closed s) b (begun s)) ++ t)
-closed-then-byte b true s t h e = ap (λ x. [] ∷ x) e
-closed-then-byte b false s t h e = rw e (onto_first-then b (closed s) (begun s) t h)
-
 pub closed-then : (p t : List ℕ) → closed (p ++ t) ≡ closed p ++ closed (begun p ++ t)
 closed-then [] t = refl
-closed-then (b ∷ s) t = closed-then-byte b (eqb b 10) s t refl (closed-then s t)
-
-begun_with-then : (b : ℕ) (cs : List (List ℕ)) (u t : List ℕ) → eqb b 10 ≡ false
-    → begun_with (cs ++ closed (u ++ t)) b (begun (u ++ t)) ≡ begun (begun_with cs b u ++ t)
-begun_with-then b [] u t h = rw h
-begun_with-then b (c ∷ cs) u t h = refl
-
-begun-then-byte : (b : ℕ) (is : Bool) (s t : List ℕ) → eqb b 10 ≡ is → begun (s ++ t) ≡ begun (begun s ++ t)
-    → cond is (begun (s ++ t)) (begun_with (closed (s ++ t)) b (begun (s ++ t)))
-    ≡ begun (cond is (begun s) (begun_with (closed s) b (begun s)) ++ t)
-begun-then-byte b true s t h e = e
-begun-then-byte b false s t h e = rw (closed-then s t, e) (begun_with-then b (closed s) (begun s) t h)
+closed-then (b ∷ s) t = grind (arith, closed-then s t)
 
 -- more bytes end as many lines, or more
 pub closed-grows : (p t : List ℕ) → length (closed p) ≤ length (closed (p ++ t))
@@ -57,7 +33,7 @@ closed-grows p t = rw (closed-then p t) (omega (arith, length-append (closed p) 
 
 pub begun-then : (p t : List ℕ) → begun (p ++ t) ≡ begun (begun p ++ t)
 begun-then [] t = refl
-begun-then (b ∷ s) t = begun-then-byte b (eqb b 10) s t refl (begun-then s t)
+begun-then (b ∷ s) t = grind (arith, closed-then s t, begun-then s t)
 
 NoLf-begun_with : (cs : List (List ℕ)) (b : ℕ) (s : List ℕ) → eqb b 10 ≡ false → NoLf s → NoLf (begun_with cs b s)
 NoLf-begun_with [] b s h k = (h, k)
@@ -117,41 +93,18 @@ pub none-from_length : {A : Type 0} (cs : List A) → length cs ≡ 0 → cs ≡
 none-from_length [] h = refl
 none-from_length (c ∷ cs) h = absurd (omega arith)
 
-first_of-onto : (b : ℕ) (cs : List (List ℕ)) (s : List ℕ)
-    → first_of (onto_first b cs) (begun_with cs b s) ≡ b ∷ first_of cs s
-first_of-onto b [] s = refl
-first_of-onto b (c ∷ cs) s = refl
-
 -- ---- the lines, by what LF ended and what it did not end
-
-front-last : (b : ℕ) (u : List ℕ) → in_front b (last_line u) ≡ last_line (b ∷ u)
-front-last b [] = refl
-front-last b (c ∷ u) = refl
-
-lines-byte : (b : ℕ) (is : Bool) (ls : List Line) (cs : List (List ℕ)) (u : List ℕ)
-    → ls ≡ map ended_line cs ++ last_line u
-    → cond is (ended_line [] ∷ ls) (in_front b ls)
-    ≡ map ended_line (cond is ([] ∷ cs) (onto_first b cs)) ++ last_line (cond is u (begun_with cs b u))
-lines-byte b true ls cs u e = ap (λ z. ended_line [] ∷ z) e
-lines-byte b false ls [] u e = ap (in_front b) e ∙ front-last b u
-lines-byte b false ls (c ∷ cs) u e = ap (in_front b) e
 
 pub lines-cut : (s : List ℕ) → lines s ≡ map ended_line (closed s) ++ last_line (begun s)
 lines-cut [] = refl
-lines-cut (b ∷ s) = lines-byte b (eqb b 10) (lines s) (closed s) (begun s) (lines-cut s)
+lines-cut (b ∷ s) = grind (arith, lines-cut s)
 
 pub first-length : (s : List ℕ) → of_first (λ (l : Line). length l.content) (lines s) ≡ length (first_content s)
-first-length s = ap (of_first (λ (l : Line). length l.content)) (lines-cut s) ∙ go (closed s) (begun s)
-  where
-    go : (cs : List (List ℕ)) (b : List ℕ)
-        → of_first (λ (l : Line). length l.content) (map ended_line cs ++ last_line b) ≡ length (first_of cs b)
-    go [] [] = refl
-    go [] (b ∷ s) = refl
-    go (c ∷ cs) b = refl
+first-length s = grind (arith, lines-cut s)
 
 -- a byte that is no LF begins the first line
 first_content-byte : (b : ℕ) (s : List ℕ) → eqb b 10 ≡ false → first_content (b ∷ s) ≡ b ∷ first_content s
-first_content-byte b s h = rw h (first_of-onto b (closed s) (begun s))
+first_content-byte b s h = grind arith
 
 pub first_content-long : (c t : List ℕ) → NoLf c → length c ≤ length (first_content (c ++ t))
 first_content-long [] t h = omega arith

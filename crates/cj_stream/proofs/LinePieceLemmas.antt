@@ -1,5 +1,5 @@
 -- Pieces for a reader of lines, added up.
-use Rattle.cj_stream.proofs.Common.{Complete, Counts, Delivers, End, Ends, IsUnread, Item, LeavesNext, LineEnd, List, Memory, None, Option, Peaks, PutsPieces, ReadFault, ReadLimit, Refused, Rules, SinkLaw, Some, Took, TookFront, TookWhole, WriteFault, [], ap, append_assoc, arith, begun, closed, drop, drop-append_seam, ended_line, ending, given_after, good, in_pieces, inl, inr, item_after, joined, judged, kept, kept_first, kept_from, last_line, length, line_end, lines, map, prefixes, refl, refusal_in, stretch, subst, sym, take, take-append-le, whole, writes_law, ℕ, ◌++◌, ◌+◌, ◌∙◌, ◌∷◌, ◌≡◌, ◌≤◌, ◌⊎◌}
+use Rattle.cj_stream.proofs.Common.{Complete, Counts, Delivers, End, Ends, IsUnread, Item, LeavesNext, LineEnd, List, Memory, None, Option, Peaks, PutsPieces, Refused, Rules, SinkLaw, Some, Took, TookFront, TookWhole, WriteFault, [], ap, append_assoc, arith, begun, closed, drop-append_seam, ended_line, ending, given_after, good, in_pieces, inl, item_after, joined, judged, kept, kept_first, kept_from, last_line, length, line_end, lines, map, prefixes, refl, refusal_in, stretch, subst, sym, take, take-append-le, whole, writes_law, ℕ, ◌++◌, ◌+◌, ◌∙◌, ◌∷◌, ◌≡◌, ◌≤◌, ◌⊎◌}
 use Rattle.cj_stream.specs.declared.line_pieces.LinesOutcome.{LinesOutcome}
 use Rattle.cj_stream.specs.declared.ending.LineEnd.TheVariants.{Complete as LineComplete, Refused as LineRefused, WriteFault as LineWriteFault}
 use Rattle.cj_stream.specs.LinePieces.{kept_after, PutsLines, CopiesLines, later_pieces}
@@ -12,7 +12,7 @@ use Rattle.cj_stream.proofs.OutputLemmas.{Took-appends, kept-next_line, writes_p
 use Rattle.cj_stream.proofs.PieceLemmas.{Took-append}
 use Rattle.cj_stream.proofs.ReadingLemmas.{length-map_lines}
 use Rattle.cj_stream.proofs.RunLemmas.{Delivers-join}
-use Rattle.cj_stream.proofs.VerdictLemmas.{kept-append}
+use Rattle.cj_stream.proofs.RulingLemmas.{kept-append}
 
 module _ {S : Type 0} (law : SinkLaw S) (rules : Rules) (p : List ℕ) (n : ℕ) (first : n ≡ length (closed p)) (s t : S)
   where
@@ -138,17 +138,11 @@ module _ {S : Type 0} (law : SinkLaw S) (rules : Rules) (p : List ℕ) (n : ℕ)
         lines-put LineComplete peaks ends w =
             let d = Delivers-whole pieces k m Complete w in
             let x = all-put Complete (inl ends.2) ends.0 ends.1 d d.fault in
-            record { ends = λ _. sym x.0; took = λ _. x.1; fault = λ h. absurd (apart h) }
-          where
-            apart : LineComplete ≡ LineWriteFault → ⊥
-            apart h = cc
+            record { ends = λ _. sym x.0; took = λ _. x.1; fault = λ h. absurd (cc h) }
         lines-put (LineRefused line place reason) peaks ends w =
             let d = Delivers-whole pieces k m (Refused line place reason) w in
             let x = all-put (Refused line place reason) ends.2 ends.0 ends.1 d d.fault in
-            record { ends = λ _. sym x.0; took = λ _. x.1; fault = λ h. absurd (apart h) }
-          where
-            apart : LineRefused line place reason ≡ LineWriteFault → ⊥
-            apart h = cc
+            record { ends = λ _. sym x.0; took = λ _. x.1; fault = λ h. absurd (cc h) }
         lines-put LineWriteFault peaks ends w =
             record { ends = λ h. absurd (h refl); took = λ h. absurd (h refl); fault = λ _. fault-put w }
 

@@ -1,5 +1,5 @@
 -- A stream in any number of parts.
-use Rattle.cj_stream.proofs.Common.{AreComplete, Complete, IsCut, Item, List, Rules, [], ap, append_assoc, arith, closed, drop, ended_line, ending, flat_map, flat_map-append, headed, item_after, joined, kept, kept_from, later_of, length, lines, map, moved_end, output, raw, raw_item, refl, suc, sym, whole, ℕ, ◌++◌, ◌+◌, ◌∙◌, ◌∷◌, ◌≡◌}
+use Rattle.cj_stream.proofs.Common.{AreComplete, Complete, IsCut, Item, List, Rules, [], ap, append_assoc, arith, closed, drop, ended_line, ending, flat_map, flat_map-append, headed, item_after, joined, kept, kept_from, later_of, length, lines, map, moved_end, nat_tests, output, raw, raw_item, refl, suc, sym, whole, ℕ, ◌++◌, ◌+◌, ◌∙◌, ◌∷◌, ◌≡◌}
 use Rattle.cj_stream.proofs.AccountLemmas.{closed-parts}
 use Rattle.cj_stream.proofs.PartsLemmas.{header-valid, front-good, back-kept, kept-first, kept-parts, ending-parts}
 use Rattle.cj_stream.proofs.ReadingLemmas.{map_lines-append}
@@ -7,10 +7,13 @@ use Rattle.cj_stream.proofs.ReadingLemmas.{map_lines-append}
 -- whole lines, and more of them
 whole-parts : (a b : List ℕ) → whole a ≡ a → whole b ≡ b → whole (a ++ b) ≡ a ++ b
 whole-parts a b u v =
-    ap (λ z. flat_map raw (map ended_line z)) (closed-parts a b u)
-    ∙ (ap (flat_map raw) (map_lines-append (closed a) (closed b))
-    ∙ (flat_map-append raw (map ended_line (closed a)) (map ended_line (closed b))
-    ∙ (ap (λ z. z ++ whole b) u ∙ ap (λ z. a ++ z) v)))
+    grind (
+      arith,
+      nat_tests,
+      closed-parts a b u,
+      map_lines-append (closed a) (closed b),
+      flat_map-append raw (map ended_line (closed a)) (map ended_line (closed b)),
+    )
 
 module _ (rules : Rules) (h : List ℕ) (alone : IsCut h []) (done : ending rules (headed h []) ≡ Complete) where
   pub complete-parts : (parts : List (List ℕ)) → AreComplete rules h parts → IsCut h (joined parts)
@@ -39,9 +42,7 @@ module _ (rules : Rules) (h : List ℕ) (alone : IsCut h []) (done : ending rule
       → kept rules (headed h (joined parts)) ≡ header-item ∷ flat_map (λ a. later_of (kept rules (headed h a))) parts
   all-kept [] all = header-kept
   all-kept (a ∷ parts) all =
-      let rest = flat_map (λ a. later_of (kept rules (headed h a))) parts in
-      kept-parts rules h a all.0 all.1 (joined parts)
-      ∙ (ap (λ z. kept rules (headed h a) ++ later_of z) (all-kept parts all.2) ∙ ap (λ z. z ++ rest) (part-kept a))
+      grind (arith, nat_tests, kept-parts rules h a all.0 all.1 (joined parts), all-kept parts all.2, part-kept a)
 
   pub kept-all_parts : (parts : List (List ℕ)) → AreComplete rules h parts
       → kept rules (headed h (joined parts)) ≡ kept rules (headed h [])

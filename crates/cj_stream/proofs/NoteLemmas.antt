@@ -1,37 +1,28 @@
 -- What a sink of reports has noted of a text, line by line and call by call.
-use Rattle.cj_stream.proofs.Common.{Blank, Bool, Collects, Complete, End, Ends, Err, Invalid, Item, JudgedAs, Kept, LeftOut, Line, LineEnd, List, Memory, NoLf, None, Notes, NotesPieces, NotesRun, Ok, OnErr, OnOk, Peaks, ReadFault, ReadLimit, Reading, Reads, Refused, Report, Result, Rules, Run, RunsNoting, Settles, SinkLaw, Some, Stores, Took, Verdict, WriteFault, [], ap, append-nil, append_assoc, arith, begun, closed, drop, drop-append_seam, ended_line, false, good, good_from, in_pieces, inl, inr, joined, judged, last_line, length, length-append, line_end, lines, map, refl, refusal_in, reported, reported_first, reported_from, reports_of, some-none, stream_of, stretch, subst, suc, sym, take, take_all, told_verdict, true, verdict, whole, with_sink, zero, ℕ, ◌++◌, ◌+◌, ◌<◌, ◌∙◌, ◌∷◌, ◌≡◌, ◌≤◌, ◌⊎◌}
+use Rattle.cj_stream.proofs.Common.{Bool, Collects, Complete, End, Ends, Err, Item, JudgedAs, Line, LineEnd, List, Memory, NoLf, None, Notes, NotesPieces, NotesRun, Ok, OnErr, OnOk, Peaks, ReadFault, ReadLimit, Reading, Reads, Refused, Report, Result, Rules, Run, RunsNoting, Settles, SinkLaw, Stores, Took, Verdict, WriteFault, [], ap, append-nil, append_assoc, arith, begun, closed, drop, drop-append_seam, ended_line, false, good, good_from, in_pieces, inl, joined, last_line, length, length-append, line_end, lines, map, nat_tests, refl, refusal_in, reported, reported_first, reported_from, reports_of, stream_of, stretch, subst, suc, sym, take, take_all, told_verdict, true, verdict, with_sink, zero, ℕ, ◌++◌, ◌+◌, ◌<◌, ◌∙◌, ◌∷◌, ◌≡◌, ◌≤◌}
 use Rattle.cj_stream.specs.declared.ending.LineEnd.TheVariants.{Complete as LineComplete, Refused as LineRefused, WriteFault as LineWriteFault}
 use Rattle.cj_stream.specs.LinePieces.{reported_after, NotesLines, later_pieces}
 use Rattle.cj_stream.proofs.CutLemmas.{given-told}
 use Rattle.cj_stream.proofs.EngineLemmas.{Counts-front}
 use Rattle.cj_stream.proofs.FirstLemmas.{lines-front, first-either, first-good, first-same, first-split, first-whole}
 use Rattle.cj_stream.proofs.PieceLemmas.{Took-append}
-use Rattle.cj_stream.proofs.ReadingLemmas.{length-map_lines, map_lines-append, next-verdict, told-verdict, reported-append, Reads-stored}
+use Rattle.cj_stream.proofs.ReadingLemmas.{length-map_lines, map_lines-append, next-verdict, told-verdict, Reads-stored}
 use Rattle.cj_stream.proofs.LineLemmas.{closed-lf, lines-cut}
 use Rattle.cj_stream.proofs.StaysLemmas.{settled-err}
+use Rattle.cj_stream.proofs.RulingLemmas.{reported-append}
 
 -- ---- what is reported of the first line
 
 -- nothing is reported of a first line that is not the end
 unreported : (rules : Rules) (l : Line) → refusal_in rules (l ∷ []) ≡ None → reported_from rules [] (l ∷ []) ≡ []
-unreported rules l h = go (verdict rules [] l.content) refl h
-  where
-    go : (v : Verdict) → verdict rules [] l.content ≡ v → refusal_in rules (l ∷ []) ≡ None
-        → reports_of 1 (verdict rules [] l.content) ++ [] ≡ []
-    go (Invalid place reason) e h = absurd (some-none (Refused 1 place reason) (rw e at h))
-    go Blank e h = rw e refl
-    go LeftOut e h = rw e refl
-    go Kept e h = rw e refl
+unreported rules l h = grind arith
 
 pub first-unreported : (rules : Rules) (k : ℕ) (q : List ℕ) → k ≤ 1 → refusal_in rules (take k (lines q)) ≡ None
     → reported_first rules k q ≡ []
 first-unreported rules zero q few h = refl
 first-unreported rules (suc (suc k)) q few h = absurd (omega arith)
-first-unreported rules (suc zero) q few h = go (lines q) h
-  where
-    go : (ls : List Line) → refusal_in rules (take 1 ls) ≡ None → reported_from rules [] (take 1 ls) ≡ []
-    go [] h = refl
-    go (l ∷ ls) h = unreported rules l h
+first-unreported rules (suc zero) q few h =
+    grind (arith, nat_tests)
 
 -- ---- what was noted
 
@@ -140,19 +131,13 @@ module _ {N : Type 0} (notes : N → Report → N → Type 0) (rules : Rules) wh
       lines-noted LineComplete peaks ends = record {
         noted = λ _. noted-after (joined (take (k + 1) pieces)) (joined pieces) m h ends.1
             (given-told rules p pieces k Complete (inl ends.2) ends.0).2;
-        fault = λ z. absurd (apart z);
+        fault = λ z. absurd (cc z);
       }
-        where
-          apart : LineComplete ≡ LineWriteFault → ⊥
-          apart z = cc
       lines-noted (LineRefused line place reason) peaks ends = record {
         noted = λ _. noted-after (joined (take (k + 1) pieces)) (joined pieces) m h ends.1
             (given-told rules p pieces k (Refused line place reason) ends.2 ends.0).2;
-        fault = λ z. absurd (apart z);
+        fault = λ z. absurd (cc z);
       }
-        where
-          apart : LineRefused line place reason ≡ LineWriteFault → ⊥
-          apart z = cc
       lines-noted LineWriteFault peaks ends =
           let text = p ++ joined (take (k + 1) pieces) in
           let others =

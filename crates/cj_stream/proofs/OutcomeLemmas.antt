@@ -1,5 +1,5 @@
 -- How runs over two parts went, as one: with counts that stop at the greatest u64.
-use Rattle.cj_stream.proofs.Common.{Account, Blank, Bool, Complete, Counts, End, Ends, Invalid, IsCut, Kept, LeftOut, Line, List, Memory, Outcome, Peaks, ReadFault, ReadLimit, Refused, Rules, Verdict, WriteFault, [], ap, arith, both_outcomes, capped, capped_end, capped_outcome, cond, false, filter, headed, is_feature, is_kept, item_after, kept_from, length, length-append, length-take, lines, moved_end, refl, reported_from, reports_of, subst, sym, take, true, verdict, ℕ, ◌++◌, ◌+◌, ◌-◌, ◌<◌, ◌^◌, ◌∙◌, ◌∷◌, ◌≡◌, ◌≤◌}
+use Rattle.cj_stream.proofs.Common.{Account, Blank, Bool, Complete, Counts, End, Ends, Invalid, IsCut, Kept, LeftOut, Line, List, Outcome, Peaks, Refused, Rules, Verdict, [], ap, arith, both_outcomes, capped, capped_end, capped_outcome, filter, headed, is_feature, kept_from, length, length-append, length-take, lines, moved_end, refl, reported_from, reports_of, subst, sym, take, verdict, ℕ, ◌++◌, ◌+◌, ◌-◌, ◌<◌, ◌^◌, ◌∙◌, ◌∷◌, ◌≡◌, ◌≤◌}
 use Rattle.cj_stream.proofs.GoodLemmas.{good-refused}
 use Rattle.cj_stream.proofs.PartsLemmas.{front-good}
 use Rattle.cj_stream.proofs.AccountLemmas.{run_over, Account-joined}
@@ -8,23 +8,11 @@ use Rattle.cj_stream.proofs.AccountLemmas.{run_over, Account-joined}
 
 filter-short : {X : Type 0} (p : X → Bool) (xs : List X) → length (filter p xs) ≤ length xs
 filter-short p [] = omega arith
-filter-short p (x ∷ xs) = go (p x) (filter-short p xs)
-  where
-    go : (b : Bool) → length (filter p xs) ≤ length xs
-        → length (cond b (x ∷ filter p xs) (filter p xs)) ≤ length (x ∷ xs)
-    go true k = omega (arith, k)
-    go false k = omega (arith, k)
+filter-short p (x ∷ xs) = grind (arith, filter-short p xs)
 
 kept-short : (rules : Rules) (before ls : List Line) → length (kept_from rules before ls) ≤ length ls
 kept-short rules before [] = omega arith
-kept-short rules before (l ∷ ls) =
-    go (is_kept (verdict rules before l.content)) (kept-short rules (before ++ l ∷ []) ls)
-  where
-    go : (b : Bool) → length (kept_from rules (before ++ l ∷ []) ls) ≤ length ls
-        → length (cond b (item_after rules before l ∷ kept_from rules (before ++ l ∷ []) ls)
-        (kept_from rules (before ++ l ∷ []) ls)) ≤ length (l ∷ ls)
-    go true k = omega (arith, k)
-    go false k = omega (arith, k)
+kept-short rules before (l ∷ ls) = grind (arith, kept-short rules (before ++ l ∷ []) ls)
 
 reported-short : (rules : Rules) (before ls : List Line) → length (reported_from rules before ls) ≤ length ls
 reported-short rules before [] = omega arith

@@ -1,10 +1,10 @@
 -- The bytes that a writer gets in a run.
-use Rattle.cj_stream.proofs.Common.{Account, Appends, AppendsMore, AppendsPart, Complete, Counts, Delivers, End, Ends, Item, Keeps, LeavesNext, Line, List, Memory, None, Option, Puts, ReadFault, ReadLimit, Refused, Rules, Run, SinkLaw, Some, Took, TookFront, WriteFault, [], ap, append-nil, drop, flat_map, flat_map-append, good, good_from, is_kept, item_after, kept, kept_first, kept_from, length, lines, output_first, prefixes, raw_item, refl, refusal_in, slice_get, stream_of, stretch, sym, take, true, up_to, verdict, whole, writes_law, ℕ, ◌++◌, ◌∙◌, ◌∷◌, ◌≡◌}
+use Rattle.cj_stream.proofs.Common.{Account, Appends, AppendsMore, AppendsPart, Complete, Counts, Delivers, End, Ends, Item, Keeps, LeavesNext, Line, List, Memory, None, Option, Puts, ReadFault, ReadLimit, Refused, Rules, Run, SinkLaw, Some, Took, TookFront, WriteFault, [], ap, arith, drop, flat_map, flat_map-append, good, good_from, is_kept, item_after, kept, kept_first, kept_from, length, lines, nat_tests, output_first, prefixes, raw_item, refl, refusal_in, slice_get, stream_of, stretch, sym, take, true, up_to, verdict, whole, writes_law, ℕ, ◌++◌, ◌∙◌, ◌∷◌, ◌≡◌}
 use Rattle.cj_stream.specs.Run.{Runs, Writes, WritesLines}
 use Rattle.cj_stream.proofs.FirstLemmas.{first-good, first-whole, first-split}
 use Rattle.cj_stream.proofs.GoodLemmas.{drop-next, kept-head}
-use Rattle.cj_stream.proofs.VerdictLemmas.{kept-append}
 use Rattle.cj_stream.proofs.KnownLemmas.{Appends-then, Appends-nothing, AppendsPart-after, AppendsPart-front}
+use Rattle.cj_stream.proofs.RulingLemmas.{kept-append}
 
 -- lines that a writer took, one after another
 pub Took-appends : {S : Type 0} (contents : S → Option (List ℕ)) (s t : S) (ls : List Item)
@@ -92,10 +92,8 @@ Runs-told law run at_end s t account sink = record {
 pub memory-sink : {S : Type 0} (law : SinkLaw S) (rules : Rules) (q : List ℕ) (n : ℕ) (s t : S) (e : End) → e ≡ Memory
     → n ≡ 0
     → Delivers law (stretch rules q 0 n) s t (Some e) → t ≡ s
-memory-sink law rules q n s t e is none h = go (rw (is, none) at h)
-  where
-    go : Delivers law (stretch rules q 0 0) s t (Some Memory) → t ≡ s
-    go h = let took = rw (sym h.kept) at h.took in h.fault ∙ took
+memory-sink law rules q n s t e is none h =
+    grind (arith, nat_tests)
 
 module _ {S : Type 0} (contents : S → Option (List ℕ)) where
   abbrev pub writes : S → Item → S → Type 0

@@ -1,16 +1,13 @@
 -- A stream in parts: its lines, and what is said of them.
-use Rattle.cj_stream.proofs.Common.{Blank, Bool, Complete, End, Finding, Invalid, IsCut, Judgement, Kept, LeftOut, LimitPair, Line, LineTooLong, List, NoLf, None, NotUtf8, Option, Peaks, Refused, Rules, Some, Tree, Verdict, [], ap, append-nil, append_assoc, arith, begun, broken, by_least, closed, cond, contents, ended_line, ending, ending_of, exact_peaks, false, filter, filter-append, findings, first_content, flat_map, flat_map-append, good, good_from, greater_peaks, greatest, headed, held_length, is_blank_byte, is_feature, is_utf8, item_after, kept, kept_from, later_of, least, length, length-append, length-map, lines, list_all, map, map-append, max, moved_end, moved_report, not, option_map, output, raw_item, refl, refusal_from, refusal_in, refusal_of, reported, reported_from, some-none, spelled, sunk, sym, text_verdict, tree_nest, tree_size, true, unwrap_or, utf8_valid_len, verdict, verdict_at, whole, ℕ, ◌&&◌, ◌++◌, ◌+◌, ◌∙◌, ◌∷◌, ◌≡◌}
-use Rattle.std.proofs.Common.{ltb}
-use Rattle.cj_spans.proofs.Judgements.{judgement}
-use Rattle.cj_stream.proofs.CutLemmas.{lines-more, good-stays}
+use Rattle.cj_stream.proofs.Common.{Complete, End, IsCut, Kept, LimitPair, Line, List, NoLf, None, Option, Peaks, Rules, Some, [], ap, append-nil, append_assoc, arith, begun, closed, contents, ended_line, ending, ending_of, exact_peaks, filter, filter-append, first_content, flat_map, flat_map-append, good, good_from, greater_peaks, greatest, headed, held_length, is_feature, item_after, kept, kept_from, later_of, length, length-append, length-map, lines, map, map-append, max, moved_end, moved_report, nat_tests, option_map, output, raw_item, refl, refusal_from, refusal_in, refusal_of, reported, reported_from, sym, tree_nest, tree_size, unwrap_or, verdict, whole, ℕ, ◌++◌, ◌+◌, ◌∙◌, ◌∷◌, ◌≡◌}
+use Rattle.cj_stream.proofs.CutLemmas.{lines-more}
 use Rattle.cj_stream.proofs.EngineLemmas.{same-peaks}
-use Rattle.cj_stream.proofs.GoodLemmas.{good-append, good-all, complete-none, ending-refused}
+use Rattle.cj_stream.proofs.GoodLemmas.{complete-none, ending-refused}
 use Rattle.cj_stream.proofs.IsLinesLemmas.{lines-ended, whole-begun}
-use Rattle.cj_stream.proofs.LineLemmas.{closed-ended, begun-ended, lines-cut, none-from_length}
+use Rattle.cj_stream.proofs.LineLemmas.{closed-ended, lines-cut, none-from_length}
 use Rattle.cj_stream.proofs.MovedLemmas.{refusal-moved, good-moved, kept-moved, reported-moved}
-use Rattle.cj_stream.proofs.ReadingLemmas.{reported-append}
-use Rattle.cj_stream.proofs.RunLemmas.{refusal-stays}
-use Rattle.cj_stream.proofs.VerdictLemmas.{blank-is, refusal-append, kept-append, refusal-step}
+use Rattle.cj_stream.proofs.VerdictLemmas.{valid-first}
+use Rattle.cj_stream.proofs.RulingLemmas.{good-all, good-append, good-stays, kept-append, refusal-append, refusal-stays, refusal-step, reported-append}
 
 -- ---- the lines of a part
 
@@ -28,79 +25,28 @@ lines-parts a b w =
     let none = none-begun a w in
     lines-more a b ∙ rw (lines-cut a, none, append-nil (map ended_line (closed a))) refl
 
--- ---- a first line that is not refused
-
--- a header is never left out
-first-not_left_out : (rules : Rules) (header : Tree) (c : List ℕ) → verdict_at rules 1 header c ≡ LeftOut → ⊥
-unfolding verdict_at
-first-not_left_out rules header c h =
-    go (ltb rules.limits.line (length c)) (is_utf8 c) (judgement c rules.limits.depth) h
-  where
-    asked : (o : Option Finding) → by_least true o ≡ LeftOut → ⊥
-    asked None e = cc
-    asked (Some f) e = cc
-
-    go : {d : ℕ} (long text : Bool) (j : Judgement c d)
-        → cond long (Invalid rules.limits.line LineTooLong)
-        (cond (not text) (Invalid (utf8_valid_len c) NotUtf8)
-        (cond (false && list_all is_blank_byte c) Blank (text_verdict rules 1 header j))) ≡ LeftOut → ⊥
-    go true text j e = cc
-    go false false j e = cc
-    go false true (spelled t json shallow) e = asked (least None (findings rules 1 header t)) e
-    go false true (broken i s k) e = cc
-    go false true (sunk i s) e = cc
-
-valid-first : (rules : Rules) (c : List ℕ) → refusal_of rules 1 (verdict rules [] c) ≡ None → verdict rules [] c ≡ Kept
-valid-first rules c h = go (verdict rules [] c) refl
-  where
-    go : (v : Verdict) → verdict rules [] c ≡ v → verdict rules [] c ≡ Kept
-    go (Invalid place reason) e = absurd (some-none (Refused 1 place reason) (rw e at h))
-    go Blank e = let late = (blank-is rules 1 _ c e).0 in absurd (omega (arith, late))
-    go LeftOut e = absurd (first-not_left_out rules _ c e)
-    go Kept e = e
-
 -- ---- lines, and more lines, behind a header that is valid
 
 module _ (rules : Rules) (l : Line) (valid : verdict rules [] l.content ≡ Kept) where
   pub kept-first : (zs : List Line) → kept_from rules [] (l ∷ zs) ≡ item_after rules [] l ∷ kept_from rules (l ∷ []) zs
   kept-first zs = rw valid refl
 
-  pub reported-first : (zs : List Line) → reported_from rules [] (l ∷ zs) ≡ reported_from rules (l ∷ []) zs
-  reported-first zs = rw valid refl
-
-  good-first : (zs : List Line) → good_from rules [] (l ∷ zs) ≡ l ∷ good_from rules (l ∷ []) zs
-  good-first zs = rw valid refl
-
-  pub refusal-first : (zs : List Line) → refusal_in rules (l ∷ zs) ≡ refusal_from rules (l ∷ []) zs
-  refusal-first zs = rw valid refl
-
   pub kept-joined : (xs zs : List Line) → kept_from rules [] (l ∷ xs ++ zs) ≡ kept_from rules [] (l ∷ xs)
       ++ later_of (kept_from rules [] (l ∷ zs))
-  kept-joined xs zs = kept-append rules [] (l ∷ xs) zs
-      ∙ ap (λ z. kept_from rules [] (l ∷ xs) ++ z) (kept-moved rules l xs [] zs ∙ sym (ap later_of (kept-first zs)))
+  kept-joined xs zs = kept-append rules [] (l ∷ xs) zs ∙ rw (kept-moved rules l xs zs, valid) refl
 
   pub reported-joined : (xs zs : List Line) → reported_from rules [] (l ∷ xs ++ zs) ≡ reported_from rules [] (l ∷ xs)
       ++ map (moved_report (length xs)) (reported_from rules [] (l ∷ zs))
-  reported-joined xs zs =
-      reported-append rules [] (l ∷ xs) zs
-      ∙ ap (λ z. reported_from rules [] (l ∷ xs) ++ z)
-      (reported-moved rules l xs [] zs (length xs) (omega arith)
-      ∙ sym (ap (map (moved_report (length xs))) (reported-first zs)))
+  reported-joined xs zs = reported-append rules [] (l ∷ xs) zs ∙ rw (reported-moved rules l xs zs, valid) refl
 
   module _ (xs : List Line) (none : refusal_in rules (l ∷ xs) ≡ None) where
     pub refusal-joined : (zs : List Line)
         → refusal_in rules (l ∷ xs ++ zs) ≡ option_map (moved_end (length xs)) (refusal_in rules (l ∷ zs))
-    refusal-joined zs =
-        refusal-append rules [] (l ∷ xs) zs none
-        ∙ (refusal-moved rules l xs [] zs (length xs) (omega arith)
-        ∙ sym (ap (option_map (moved_end (length xs))) (refusal-first zs)))
+    refusal-joined zs = refusal-append rules [] (l ∷ xs) zs none ∙ rw (refusal-moved rules l xs zs, valid) refl
 
     pub good-joined : (zs : List Line) → good_from rules [] (l ∷ xs ++ zs) ≡ l ∷ xs
         ++ later_of (good_from rules [] (l ∷ zs))
-    good-joined zs =
-        good-append rules [] (l ∷ xs) zs none
-        ∙ ap (λ z. l ∷ xs ++ z) (good-moved rules l xs [] zs (length xs) (omega arith)
-        ∙ sym (ap later_of (good-first zs)))
+    good-joined zs = good-append rules [] (l ∷ xs) zs none ∙ rw (good-moved rules l xs zs, valid) refl
 
 -- ---- streams
 
@@ -126,7 +72,7 @@ module _ (rules : Rules) (h a : List ℕ) (cut : IsCut h a) where
 
     pub header-valid : verdict rules [] h ≡ Kept
     header-valid =
-        valid-first rules h (refusal-step (refusal_of rules 1 (verdict rules [] h))
+        valid-first rules _ h (refusal-step (refusal_of rules 1 (verdict rules [] h))
         (refusal_from rules (ended_line h ∷ []) (lines a)) front-none).0
 
     pub front-good : good rules (headed h a) ≡ ended_line h ∷ lines a
@@ -135,28 +81,19 @@ module _ (rules : Rules) (h a : List ℕ) (cut : IsCut h a) where
     module _ (b : List ℕ) where
       good-parts : good rules (headed h (a ++ b)) ≡ ended_line h ∷ lines a ++ later_of (good rules (headed h b))
       good-parts =
-          ap (λ z. good_from rules [] z) (all-lines b)
-          ∙ (good-joined rules (ended_line h) header-valid (lines a) front-none (lines b)
-          ∙ ap (λ z. ended_line h ∷ lines a ++ later_of (good_from rules [] z)) (sym (back-lines b)))
+          rw (all-lines b, back-lines b)
+          (good-joined rules (ended_line h) header-valid (lines a) front-none (lines b))
 
       pub back-good : good rules (headed h b) ≡ ended_line h ∷ later_of (good rules (headed h b))
-      back-good = let k = ap (λ z. good_from rules [] z) (back-lines b)
-          ∙ good-first rules (ended_line h) header-valid (lines b) in
-          k ∙ ap (λ z. ended_line h ∷ z) (sym (ap later_of k))
+      back-good = rw (back-lines b, header-valid) refl
 
       pub back-kept : kept rules (headed h b) ≡ item_after rules [] (ended_line h) ∷ later_of (kept rules (headed h b))
-      back-kept =
-          let k = ap (λ z. kept_from rules [] z) back-good
-          ∙ kept-first rules (ended_line h) header-valid (later_of (good rules (headed h b))) in
-          k ∙ ap (λ z. item_after rules [] (ended_line h) ∷ z) (sym (ap later_of k))
+      back-kept = rw (back-good, header-valid) refl
 
       pub kept-parts : kept rules (headed h (a ++ b)) ≡ kept rules (headed h a) ++ later_of (kept rules (headed h b))
       kept-parts =
-          let later = later_of (good rules (headed h b)) in
-          ap (λ z. kept_from rules [] z) good-parts
-          ∙ (kept-joined rules (ended_line h) header-valid (lines a) later
-          ∙ (ap (λ z. kept_from rules [] z ++ later_of (kept_from rules [] (ended_line h ∷ later))) (sym front-good)
-          ∙ ap (λ z. kept rules (headed h a) ++ later_of (kept_from rules [] z)) (sym back-good)))
+          rw (good-parts, front-good, back-good)
+          (kept-joined rules (ended_line h) header-valid (lines a) (later_of (good rules (headed h b))))
 
       pub output-parts : (rest : List ℕ) × (output rules (headed h b) ≡ headed h rest)
           × (output rules (headed h (a ++ b)) ≡ output rules (headed h a) ++ rest)
@@ -164,27 +101,25 @@ module _ (rules : Rules) (h a : List ℕ) (cut : IsCut h a) where
           let later = later_of (kept rules (headed h b)) in (
             flat_map raw_item later,
             ap (λ z. flat_map raw_item z) back-kept ∙ append_assoc h (10 ∷ []) (flat_map raw_item later),
-            ap (λ z. flat_map raw_item z) kept-parts ∙ flat_map-append raw_item (kept rules (headed h a)) later,
+            rw kept-parts (flat_map-append raw_item (kept rules (headed h a)) later),
           )
 
       pub ending-parts : ending rules (headed h (a ++ b)) ≡ moved_end (length (lines a)) (ending rules (headed h b))
       ending-parts =
-          ap (λ z. ending_of rules z) (all-lines b)
-          ∙ (ap (λ o. unwrap_or o Complete)
-          (refusal-joined rules (ended_line h) header-valid (lines a) front-none (lines b))
-          ∙ (moved-ending (length (lines a)) (refusal_in rules (ended_line h ∷ lines b))
-          ∙ ap (λ z. moved_end (length (lines a)) (ending_of rules z)) (sym (back-lines b))))
+          grind (
+            arith,
+            nat_tests,
+            all-lines b,
+            back-lines b,
+            refusal-joined rules (ended_line h) header-valid (lines a) front-none (lines b),
+            moved-ending (length (lines a)) (refusal_in rules (ended_line h ∷ lines b)),
+          )
 
       pub reported-parts : reported rules (headed h (a ++ b)) ≡ reported rules (headed h a)
           ++ map (moved_report (length (lines a))) (reported rules (headed h b))
       reported-parts =
-          let later = later_of (good rules (headed h b)) in
-          let moved = map (moved_report (length (lines a))) in
-          ap (λ z. reported_from rules [] z) good-parts
-          ∙ (reported-joined rules (ended_line h) header-valid (lines a) later
-          ∙ (ap (λ z. reported_from rules [] z ++ moved (reported_from rules [] (ended_line h ∷ later)))
-          (sym front-good)
-          ∙ ap (λ z. reported rules (headed h a) ++ moved (reported_from rules [] z)) (sym back-good)))
+          rw (good-parts, front-good, back-good)
+          (reported-joined rules (ended_line h) header-valid (lines a) (later_of (good rules (headed h b))))
 
       -- ---- counts
 
@@ -289,8 +224,12 @@ module _ (limits : LimitPair) (h : List ℕ) where
       → exact_peaks limits (headed h (a ++ b)) ≡ greater_peaks (exact_peaks limits (headed h a))
       (exact_peaks limits (headed h b))
   exact-parts a b cut =
-      exact-headed (a ++ b) cut.header
-      ∙ (ap (λ z. peaks_behind limits h z) (contents-parts a b cut.lines)
-      ∙ (peaks-two (contents a) (contents b)
-      ∙ (ap (λ p. greater_peaks p (peaks_behind limits h (contents b))) (sym (exact-headed a cut.header))
-      ∙ ap (λ q. greater_peaks (exact_peaks limits (headed h a)) q) (sym (exact-headed b cut.header)))))
+      grind (
+        arith,
+        nat_tests,
+        exact-headed (a ++ b) cut.header,
+        contents-parts a b cut.lines,
+        peaks-two (contents a) (contents b),
+        exact-headed a cut.header,
+        exact-headed b cut.header,
+      )

@@ -1,10 +1,10 @@
 -- How a framer advances over a piece, and where it stops.
-use Rattle.cj_stream.proofs.Common.{Blank, Bool, Deals, End, Err, Invalid, IsLeft, Item, JudgedAs, Kept, LeftOut, LimitPair, LineTooLong, List, Memory, NoLf, None, Ok, Passes, Reading, Reads, Reason, Refused, Refuses, Result, Rules, Settles, SinkLaw, Some, Stops, Stores, Took, TookMore, Unstored, Verdict, WriteFault, [], ap, append-nil, append_assoc, arith, begun, begun_of, closed, ended_line, false, further, if◌then◌else◌, inl, inr, is_kept, is_lenient, item_after, judged_next, length, length-append, lines, long_line, map, nat_tests, next_verdict, refl, refusal_of, slice_get, subst, sym, told_verdict, true, verdict, with_sink, ℕ, ◌++◌, ◌+◌, ◌<◌, ◌∙◌, ◌∷◌, ◌≡◌}
+use Rattle.cj_stream.proofs.Common.{Bool, End, Err, Invalid, IsLeft, Item, JudgedAs, LimitPair, LineTooLong, List, Memory, NoLf, Ok, Reading, Reads, Reason, Refused, Result, Rules, Settles, SinkLaw, Some, Stops, Stores, Took, TookMore, Unstored, Verdict, WriteFault, [], ap, append-nil, append_assoc, arith, begun, begun_of, closed, ended_line, false, further, is_kept, is_lenient, judged_next, length, length-append, lines, long_line, map, nat_tests, next_verdict, refl, slice_get, subst, sym, told_verdict, true, with_sink, ℕ, ◌++◌, ◌+◌, ◌<◌, ◌∙◌, ◌∷◌, ◌≡◌}
 use Rattle.std.proofs.Common.{ltb}
 use Rattle.cj_stream.specs.Reading.{IsBegun, kept_closed, Advances, IsNext, HasCause, stop_at}
 use Rattle.cj_stream.proofs.LineLemmas.{closed-more, begun-more, closed-lf, begun-lf, none-from_length}
 use Rattle.cj_stream.proofs.VerdictLemmas.{verdict-long}
-use Rattle.cj_stream.proofs.ReadingLemmas.{left-same, strict-first, Reads-left, Reads-stored, Reads-passed, is_refused, held-whole, dropped-long, told-verdict, next-verdict, next-item, kept_closed-lf, map_lines-append}
+use Rattle.cj_stream.proofs.ReadingLemmas.{left-same, strict-first, Reads-left, Reads-stored, Reads-passed, held-whole, dropped-long, told-verdict, kept_closed-lf, map_lines-append}
 use Rattle.cj_stream.proofs.DealtLemmas.{Came, passed, refused, failed, lacked, came}
 use Rattle.cj_stream.proofs.EngineLemmas.{next-line}
 
@@ -82,16 +82,8 @@ module _ {S : Type 0} (law : SinkLaw S) where
       no-item : (x : Item) (place : ℕ) (reason : Reason) (v : Verdict) → v ≡ Invalid place reason
           → Settles law (JudgedAs (g.lines + 1) on v x) (with_sink g s) r (with_sink h t)
           → Settles law (judged_next g on v (record { content = c; lf = lf })) (with_sink g s) r (with_sink h t)
-      no-item x place reason v e k = rw e (other (rw e at k))
-        where
-          other : Settles law (JudgedAs (g.lines + 1) on (Invalid place reason) x) (with_sink g s) r (with_sink h t)
-              → Settles law (judged_next g on (Invalid place reason) (record { content = c; lf = lf }))
-              (with_sink g s) r (with_sink h t)
-          other (inl d) = inl d
-          other (inr m) = absurd (apart m.4)
-            where
-              apart : Invalid place reason ≡ Kept → ⊥
-              apart z = cc
+      no-item x place reason v e k =
+          grind (arith, nat_tests)
 
       go : (b : Bool) → g.dropped ≡ b → Settles law (judged_next g on (next_verdict g c)
           (record { content = begun_of g; lf = lf })) (with_sink g s) r (with_sink h t)

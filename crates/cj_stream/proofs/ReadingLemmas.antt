@@ -1,9 +1,10 @@
 -- What a framer has read after it stored a part, and after it dealt with a line.
-use Rattle.cj_stream.proofs.Common.{Blank, Bool, Invalid, IsLeft, IsWithin, Item, Kept, LeftOut, LimitPair, Line, LineTooLong, List, NoLf, None, Passes, Reading, Reads, Rules, Stores, Tree, Verdict, [], ap, append-nil, append_assoc, arith, begun, begun_after, begun_later, begun_of, closed, cond, ended_line, false, filter, filter-append, first_content, first_of, goes_on, greatest, header_of, held_length, if◌then◌else◌, inl, inr, is_feature, is_kept, is_lenient, item_after, item_at, kept_from, later_of, length, length-append, length-map, map, map-append, max, nat_lt, nat_tests, next_item, next_verdict, refl, refusal_of, reported_from, reports_of, suc, sym, told_verdict, true, verdict, verdict_at, zero, ℕ, ◌&&◌, ◌++◌, ◌+◌, ◌<◌, ◌∙◌, ◌∷◌, ◌≡◌, ◌≤◌, ◌⊎◌}
+use Rattle.cj_stream.proofs.Common.{Bool, Invalid, IsLeft, IsWithin, Item, LimitPair, Line, LineTooLong, List, NoLf, None, Passes, Reading, Reads, Rules, Stores, Tree, Verdict, [], ap, append-nil, arith, begun, begun_after, begun_later, begun_of, closed, cond, ended_line, false, filter, filter-append, first_content, first_of, goes_on, greatest, header_of, held_length, if◌then◌else◌, inl, inr, is_feature, is_kept, is_lenient, item_after, item_at, kept_from, later_of, length, length-append, length-map, map, map-append, max, nat_lt, nat_tests, next_item, next_verdict, refl, refusal_of, reported_from, reports_of, suc, sym, told_verdict, true, verdict, verdict_at, zero, ℕ, ◌&&◌, ◌++◌, ◌+◌, ◌<◌, ◌∙◌, ◌∷◌, ◌≡◌, ◌≤◌, ◌⊎◌}
 use Rattle.std.proofs.Common.{eqb, ltb, ltb-true}
 use Rattle.cj_stream.specs.Reading.{held_header, stored, IsBegun, Fits, Drops, StaysDropped, kept_closed}
 use Rattle.cj_stream.proofs.LineLemmas.{closed-more, begun-more, closed-lf, begun-lf, first_of-some, first_of-lf, begun_after-some, begun_after-empty, none-from_length}
-use Rattle.cj_stream.proofs.VerdictLemmas.{verdict-first, verdict-long, before-more, refusal-append, kept-append}
+use Rattle.cj_stream.proofs.VerdictLemmas.{verdict-first, verdict-long}
+use Rattle.cj_stream.proofs.RulingLemmas.{kept-append, refusal-append, reported-append}
 
 pub zero_or : (n : ℕ) → (n ≡ 0) ⊎ (0 < n)
 zero_or zero = inl refl
@@ -39,11 +40,8 @@ greatest-held limits (c ∷ cs) = omega (arith, greatest-held limits cs)
 
 -- reading goes on after later lines alone
 pub goes_on-later : (rules : Rules) (n : ℕ) → goes_on rules (n + 1) ≡ true → 0 < n
-goes_on-later rules n e = go (ltb 1 (n + 1)) refl e
-  where
-    go : (b : Bool) → ltb 1 (n + 1) ≡ b → b && rules.options.keep_going ≡ true → 0 < n
-    go true is h = let lt = ltb-true 1 (n + 1) is in omega (arith, lt)
-    go false is h = cc
+goes_on-later rules n e =
+    grind (arith, nat_tests)
 
 pub true-false : (b : Bool) → b ≡ true → b ≡ false → ⊥
 true-false true x y = cc
@@ -62,11 +60,8 @@ dropped-long f c is dropped = long-from f.rules.limits.line (length c) (sym is.d
 -- whether a line has begun
 pub has-begun : (f : Reading) (c : List ℕ) → IsBegun f c → (0 < length (begun_of f)) ⊎ (f.dropped ≡ true) → 0 < length c
 has-begun f c is (inr dropped) = omega (arith, dropped-long f c is dropped)
-has-begun f c is (inl some) = go f.dropped refl
-  where
-    go : (b : Bool) → f.dropped ≡ b → 0 < length c
-    go true d = omega (arith, dropped-long f c is d)
-    go false d = omega (arith, ap length (held-whole f c is d).0, some)
+has-begun f c is (inl some) =
+    grind (arith, nat_tests)
 
 -- its verdict, by what is known of it
 pub told-verdict : (f : Reading) (c : List ℕ) → IsBegun f c → told_verdict f ≡ next_verdict f c
@@ -82,29 +77,16 @@ told-verdict f c is = go f.dropped refl
 module _ (f g : Reading) (p part : List ℕ) (h : Reads f p) (s : Stores f part g) where
   -- of the first line, all is held
   first-fits : f.lines ≡ 0 → Fits f part g
-  first-fits z = go s.grows
-    where
-      go : Fits f part g ⊎ Drops f part g ⊎ StaysDropped f g → Fits f part g
-      go (inl w) = w
-      go (inr (inl w)) = let later = goes_on-later f.rules f.lines w.lenient in absurd (omega (arith, z))
-      go (inr (inr w)) = let later = goes_on-later f.rules f.lines (h.lenient w.0) in absurd (omega (arith, z))
+  first-fits z =
+      grind (arith, nat_tests)
 
   same-header_later : 0 < f.lines → g.header ≡ f.header
-  same-header_later z = go s.grows
-    where
-      go : Fits f part g ⊎ Drops f part g ⊎ StaysDropped f g → g.header ≡ f.header
-      go (inl w) = (w.later z).1
-      go (inr (inl w)) = w.header
-      go (inr (inr w)) = ap (λ x. x.header) w.1
+  same-header_later z =
+      grind (arith, nat_tests)
 
   grown : Fits f part g → begun_of g ≡ begun_of f ++ part
-  grown w = go (zero_or f.lines)
-    where
-      go : (f.lines ≡ 0) ⊎ (0 < f.lines) → begun_of g ≡ begun_of f ++ part
-      go (inl z) = begun_of-first g (s.lines ∙ z)
-          ∙ ((w.first z).0.elements ∙ ap (λ x. x ++ part) (sym (begun_of-first f z)))
-      go (inr z) = begun_of-later g (omega (arith, s.lines))
-          ∙ ((w.later z).0.elements ∙ ap (λ x. x ++ part) (sym (begun_of-later f z)))
+  grown w =
+      grind (arith, nat_tests)
 
   limit : g.rules.limits.line ≡ f.rules.limits.line
   limit = ap (λ x. x.limits.line) s.rules
@@ -145,15 +127,8 @@ module _ (f g : Reading) (p part : List ℕ) (h : Reads f p) (s : Stores f part 
           }
 
   lenient-stored : g.dropped ≡ true → is_lenient g ≡ true
-  lenient-stored d = go s.grows
-    where
-      same : is_lenient g ≡ is_lenient f
-      same = rw (s.rules, s.lines) refl
-
-      go : Fits f part g ⊎ Drops f part g ⊎ StaysDropped f g → is_lenient g ≡ true
-      go (inl w) = absurd (true-false g.dropped d w.dropped)
-      go (inr (inl w)) = same ∙ w.lenient
-      go (inr (inr w)) = same ∙ h.lenient w.0
+  lenient-stored d =
+      grind (arith, nat_tests)
 
   -- the most that was held of later lines
   peak-stored : 0 < f.lines
@@ -200,13 +175,8 @@ module _ (f g : Reading) (p part : List ℕ) (h : Reads f p) (s : Stores f part 
       go (inr (inr w)) = omega (arith, ap (λ x. x.line.peak) w.1, before, dropped-long f (begun p) h.begun w.0, joined)
 
   line_within-stored : IsWithin g.line
-  line_within-stored = go s.grows (zero_or f.lines)
-    where
-      go : Fits f part g ⊎ Drops f part g ⊎ StaysDropped f g → (f.lines ≡ 0) ⊎ (0 < f.lines) → IsWithin g.line
-      go (inl w) (inl z) = rw (w.first z).1 h.line_within
-      go (inl w) (inr z) = (w.later z).0.within
-      go (inr (inl w)) z = w.line.within
-      go (inr (inr w)) z = rw w.1 h.line_within
+  line_within-stored =
+      grind (arith, nat_tests)
 
   pub Reads-stored : NoLf part → Reads g (p ++ part)
   Reads-stored n = record {
@@ -308,28 +278,17 @@ module _ (f : Reading) (p : List ℕ) (h : Reads f p) where
   number : f.lines + 1 ≡ length (map ended_line (closed p)) + 1
   number = omega (arith, h.lines, length-map_lines (closed p))
 
-  same-header : (d : List ℕ) (ds : List (List ℕ)) → closed p ≡ d ∷ ds
-      → held_header f ≡ header_of f.rules (map ended_line (closed p))
-  same-header d ds e = rw (h.header, e) refl
-
   -- what hangs on its number and, if it is not the first, on the header, by what is held and by the lines before it
   next-same : {X : Type 0} (say : ℕ → Tree → X) → ((x y : Tree) → say 1 x ≡ say 1 y)
       → say (f.lines + 1) (held_header f)
       ≡ say (length (map ended_line (closed p)) + 1) (header_of f.rules (map ended_line (closed p)))
-  next-same say first = go (closed p) refl
+  next-same say first = ap (λ n. say n (held_header f)) number ∙ go (closed p) refl
     where
-      by-one : (n : ℕ) (x y : Tree) → n ≡ 1 → say n x ≡ say n y
-      by-one n x y e = rw e (first x y)
-
       go : (cs : List (List ℕ)) → closed p ≡ cs
-          → say (f.lines + 1) (held_header f)
+          → say (length (map ended_line (closed p)) + 1) (held_header f)
           ≡ say (length (map ended_line (closed p)) + 1) (header_of f.rules (map ended_line (closed p)))
-      go [] e =
-          let one : f.lines + 1 ≡ 1 = omega (arith, h.lines, ap length e) in
-          by-one (f.lines + 1) (held_header f) (header_of f.rules (map ended_line (closed p))) one
-          ∙ ap (λ n. say n (header_of f.rules (map ended_line (closed p)))) number
-      go (d ∷ ds) e = ap (λ x. say (f.lines + 1) x) (same-header d ds e)
-          ∙ ap (λ n. say n (header_of f.rules (map ended_line (closed p)))) number
+      go [] e = rw e (first _ _)
+      go (d ∷ ds) e = rw (h.header, e) refl
 
   -- so its verdict, and the item that it is
   pub next-verdict : (c : List ℕ) → next_verdict f c ≡ verdict f.rules (map ended_line (closed p)) c
@@ -401,30 +360,10 @@ held-nothing limits = omega arith
 
 -- ---- what is reported
 
-pub reported-append : (rules : Rules) (before xs ys : List Line)
-    → reported_from rules before (xs ++ ys) ≡ reported_from rules before xs ++ reported_from rules (before ++ xs) ys
-reported-append rules before [] ys = rw (append-nil before) refl
-reported-append rules before (x ∷ xs) ys =
-    let r = reported-append rules (before ++ x ∷ []) xs ys in
-    let now = reports_of (length before + 1) (verdict rules before x.content) in
-    ap (λ z. now ++ z) (r ∙ ap (λ z. reported_from rules (before ++ x ∷ []) xs ++ reported_from rules z ys)
-    (before-more before x xs))
-    ∙ sym (append_assoc now (reported_from rules (before ++ x ∷ []) xs) (reported_from rules (before ++ x ∷ xs) ys))
-
 -- a refused line
 abbrev pub is_refused : Verdict → Bool
 is_refused (Invalid place reason) = true
 is_refused other = false
-
-pub count-reported : (n : ℕ) (v : Verdict) → length (reports_of n v) ≡ (if is_refused v then 1 else 0)
-count-reported n (Invalid place reason) = refl
-count-reported n Blank = refl
-count-reported n LeftOut = refl
-count-reported n Kept = refl
-
-one-more : (b : Bool) (n m : ℕ) → m ≡ (if b then 1 else 0) → (if b then n + 1 else n) ≡ n + m
-one-more true n m e = omega (arith, e)
-one-more false n m e = omega (arith, e)
 
 -- the lines that were refused, after one line more
 pub refused-next : (f g : Reading) (xs : List Line) (l : Line) (put refused : Bool)
@@ -432,16 +371,8 @@ pub refused-next : (f g : Reading) (xs : List Line) (l : Line) (put refused : Bo
     → refused ≡ is_refused (verdict f.rules xs l.content) → g.refused ≡ length (reported_from f.rules [] (xs ++ l ∷ []))
 refused-next f g xs l put refused k s e =
     let v = verdict f.rules xs l.content in
-    let now = reports_of (length xs + 1) v in
-    let count : length (reports_of (length xs + 1) (verdict f.rules xs l.content)) ≡ (if refused then 1 else 0) =
-    rw e (count-reported (length xs + 1) v) in
-    rw (
-      s.refused,
-      reported-append f.rules [] xs (l ∷ []),
-      append-nil (reports_of (length xs + 1) (verdict f.rules xs l.content)),
-    )
-    (one-more refused f.refused (length now) count
-    ∙ (ap (λ z. z + length now) k ∙ sym (length-append (reported_from f.rules [] xs) now)))
+    rw (s.refused, reported-append f.rules [] xs (l ∷ []), append-nil (reports_of (length xs + 1) v))
+    (grind (arith, length-append (reported_from f.rules [] xs) (reports_of (length xs + 1) v)))
 
 pub Reads-passed : (f g : Reading) (p : List ℕ) (put refused : Bool) → Reads f p → Passes put refused f g
     → refusal_of f.rules (length (map ended_line (closed p)) + 1)

@@ -1,15 +1,16 @@
 -- How the calls of a run add up.
-use Rattle.cj_stream.proofs.Common.{Bool, Complete, Concludes, Consumes, Counts, Delivers, End, Ends, EngineState, Faults, HasRisen, IfSome, IsBelow, IsUnread, Keeps, Line, List, Memory, None, Option, ReadFault, ReadLimit, Reading, Reads, Refused, Rules, Run, Scanned, SinkLaw, Some, StandsFor, Tells, Took, WriteFault, [], ap, append-nil, append_assoc, arith, closed, cond, ending, ending_of, exact_peaks, false, first_lines, inl, inr, is_some, judged, kept_first, last_line, length, length-append, limits_of, lines, lines_of, none-some, outcome_of, peaks_of, refl, refusal_from, refusal_in, refusal_of, rules_of, stretch, subst, suc, sym, true, up_to, verdict, whole, zero, ℕ, ◌++◌, ◌+◌, ◌-◌, ◌<◌, ◌∙◌, ◌∷◌, ◌≡◌, ◌≤◌, ◌⊎◌}
-use Rattle.std.proofs.Common.{ltb, ◌≢◌}
+use Rattle.cj_stream.proofs.Common.{Complete, Concludes, Consumes, Counts, Delivers, End, Ends, EngineState, Faults, HasRisen, IfSome, IsBelow, IsUnread, Keeps, List, Memory, None, Option, ReadFault, ReadLimit, Reading, Reads, Refused, Rules, Run, Scanned, SinkLaw, Some, StandsFor, Tells, Took, WriteFault, [], ap, append-nil, append_assoc, arith, closed, ending, exact_peaks, first_lines, inl, inr, judged, kept_first, length, length-append, limits_of, lines, lines_of, nat_tests, outcome_of, peaks_of, refl, refusal_in, rules_of, stretch, subst, suc, sym, up_to, whole, zero, ℕ, ◌++◌, ◌<◌, ◌∙◌, ◌∷◌, ◌≡◌, ◌≤◌}
+use Rattle.std.proofs.Common.{◌≢◌}
 use Rattle.cj_stream.specs.Engine.{EngineFailsToGrow, HasFailedToGrow}
 use Rattle.cj_stream.specs.Run.{Gave, HeldBegun, IsLastRead, IsReadWithin, LacksRoom, Runs, StopsInTime}
 use Rattle.cj_stream.proofs.PieceLemmas.{Took-append}
 use Rattle.cj_stream.proofs.EngineLemmas.{begun-good, judged-front}
-use Rattle.cj_stream.proofs.ReadingLemmas.{length-map_lines, zero_or}
+use Rattle.cj_stream.proofs.ReadingLemmas.{length-map_lines}
 use Rattle.cj_stream.proofs.IsLinesLemmas.{lines-whole}
 use Rattle.cj_stream.proofs.GoodLemmas.{good-refused, ending-refused}
 use Rattle.cj_stream.proofs.LeastLemmas.{held-scanned, least-read}
 use Rattle.cj_stream.proofs.OutputLemmas.{Runs-told}
+use Rattle.cj_stream.proofs.RulingLemmas.{refusal-stays}
 pub use Rattle.cj_stream.proofs.OutputLemmas.{memory-sink}
 
 pub Consumes-then : (a b c : Option (List ℕ)) (x y : List ℕ) → Consumes a b x → Consumes b c y → Consumes a c (x ++ y)
@@ -51,18 +52,6 @@ Ends-finished rules r n at_end (Refused number place reason) h c = (c.0, c.1, in
 Ends-finished rules r n at_end WriteFault h c = tt
 Ends-finished rules r n at_end Memory h c = tt
 Ends-finished rules r n at_end other h c = absurd c
-
-pub refusal-stays : (rules : Rules) (before xs ys : List Line) (e : End) → refusal_from rules before xs ≡ Some e
-    → refusal_from rules before (xs ++ ys) ≡ Some e
-refusal-stays rules before [] ys e h = absurd (none-some e h)
-refusal-stays rules before (x ∷ xs) ys e h =
-    step (refusal_of rules (length before + 1) (verdict rules before x.content)) _ _
-    (refusal-stays rules (before ++ x ∷ []) xs ys e) h
-  where
-    step : (first rest all : Option End) → (rest ≡ Some e → all ≡ Some e) → cond (is_some first) first rest ≡ Some e
-        → cond (is_some first) first all ≡ Some e
-    step None rest all k h = k h
-    step (Some y) rest all k h = h
 
 pub ending-told : (rules : Rules) (q : List ℕ) (e : End) → refusal_in rules (judged rules.limits q) ≡ Some e
     → ending rules q ≡ e
@@ -110,11 +99,8 @@ Runs-left law e r at_end s t end other ends still stands h = Runs-told law
 -- a count that rose in the last of some calls rose in all of them
 pub HasRisen-after : (a b c : ℕ) → a ≤ b → HasRisen b c → HasRisen a c
 HasRisen-after a b c le (inl lt) = inl (omega arith)
-HasRisen-after a b c le (inr h) = go (zero_or (c - a))
-  where
-    go : (c - a ≡ 0) ⊎ (0 < c - a) → HasRisen a c
-    go (inl z) = inr (omega (arith, h.0, h.1), h.1)
-    go (inr z) = inl (omega arith)
+HasRisen-after a b c le (inr h) =
+    grind (arith, nat_tests)
 
 -- a count that rose is not 0
 rose : (a b : ℕ) → HasRisen a b → 0 < b
@@ -229,21 +215,8 @@ pub Stops-memory : (rules : Rules) (at_start : Type 0) → at_start
         ended = Memory;
       };
     }) at_start
-Stops-memory rules at_start start = record {
-  front = [];
-  last = [];
-  cut = refl;
-  short = omega arith;
-  good = nothing (ltb rules.limits.line 0);
-  done = omega arith;
-  memory = λ h. inl (start, refl, refl);
-  least = record { bytes = omega arith; tokens = omega arith; depth = omega arith };
-  begun = tt;
-}
-  where
-    nothing : (long : Bool) → refusal_in rules (cond long (last_line []) []) ≡ None
-    nothing true = refl
-    nothing false = refl
+Stops-memory rules at_start start =
+    grind (arith, nat_tests)
 
 -- an end by a piece, a fault or the read limit is no completion
 pub told-not_complete : (rules : Rules) (q : List ℕ) (n : ℕ) (e : End) → Tells rules q n e → e ≡ Complete → ⊥

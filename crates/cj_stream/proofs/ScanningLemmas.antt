@@ -5,7 +5,7 @@ use Rattle.cj_spans.specs.Marks.{bare}
 use Rattle.cj_spans.specs.Scan.{KeepsLaw}
 use Rattle.cj_spans.proofs.Judgements.{judgement}
 use Rattle.cj_stream.proofs.LineLemmas.{closed-more, begun-more, closed-lf, first_content-grows}
-use Rattle.cj_stream.proofs.ReadingLemmas.{true-false, greatest-append, held-whole, dropped-long, IsBegun-stored}
+use Rattle.cj_stream.proofs.ReadingLemmas.{greatest-append, held-whole, dropped-long, IsBegun-stored}
 use Rattle.cj_stream.proofs.VerdictLemmas.{and-both}
 
 pub Rises-same : (f g : Scanning) → g ≡ f → Rises f g
@@ -76,15 +76,7 @@ unspelled (sunk i at) h = (refl, refl)
 pub unread-told : (limits : LimitPair) (c : List ℕ) → list_all is_blank_byte c ≡ false
     → is_utf8 c && is_spelled (judgement c limits.depth) ≡ false → IsUnread limits c
 unread-told limits c blank bad =
-    go (ltb limits.line (length c)) (is_utf8 c) (is_spelled (judgement c limits.depth)) refl refl refl bad
-  where
-    go : (long text found : Bool) → ltb limits.line (length c) ≡ long → is_utf8 c ≡ text
-        → is_spelled (judgement c limits.depth) ≡ found → text && found ≡ false → IsUnread limits c
-    go true text found l t s h = record { bad = rw l refl; size = rw l refl; nest = rw l refl }
-    go false false found l t s h = record { bad = rw (l, t) refl; size = rw (l, t) refl; nest = rw (l, t) refl }
-    go false true true l t s h = cc
-    go false true false l t s h = let k = unspelled (judgement c limits.depth) s in
-        record { bad = rw (l, t, blank, s) refl; size = rw (l, t) k.0; nest = rw (l, t) k.1 }
+    grind (arith, nat_tests)
 
 -- ---- a later line that was scanned
 
@@ -102,24 +94,8 @@ scans-none limits c f g same zero = rw same (record {
 pub scans-unread : (limits : LimitPair) (c : List ℕ) (f g : Scanning) → HasRoom limits f → length c ≤ limits.line
     → g.header ≡ f.header → KeepsLaw c f.line g.line f.opened g.opened → IsUnread limits c
     → ScansLine limits c f g
-scans-unread limits c f g room short same k u = record {
-  header = same;
-  line = record { least = omega (arith, u.size, k.token_peak); exact = unread };
-  opened = record { least = omega (arith, u.nest, k.stack_peak); exact = unread };
-  law = omega (
-    arith,
-    k.law,
-    k.token_peak,
-    k.stack_within.below_peak,
-    k.stack_within.below_limit,
-    k.stack_limit,
-    room.opened,
-    short,
-  );
-}
-  where
-    unread : {P : Type 0} → is_readable limits c ≡ true → P
-    unread r = absurd (true-false (is_readable limits c) r u.bad)
+scans-unread limits c f g room short same k u =
+    grind (arith, nat_tests)
 
 -- it was dealt with
 scanned-later : (limits : LimitPair) (c : List ℕ) (f g h : Scanning) → Forgets g h → ScansLine limits c f g

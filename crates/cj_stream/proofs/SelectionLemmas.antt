@@ -1,10 +1,10 @@
 -- A stream keeps the same where lines are left out of it that are not kept.
-use Rattle.cj_stream.proofs.Common.{Bool, Complete, End, Line, List, NoLf, None, Option, Rules, Some, [], ap, arith, cond, ended_line, ending, ending_of, false, flat_map, good_from, headed, is_kept, item_after, kept, kept_from, lines, moved_end, option_map, output, raw_item, refl, refusal_from, refusal_in, refusal_of, suc, sym, true, unwrap_or, verdict, ℕ, ◌∙◌, ◌∷◌, ◌≡◌}
+use Rattle.cj_stream.proofs.Common.{Bool, Complete, End, Line, List, NoLf, None, Option, Rules, Some, [], ap, arith, cond, ended_line, ending, flat_map, headed, is_kept, item_after, kept, kept_from, lines, moved_end, option_map, output, raw_item, refl, refusal_from, refusal_in, refusal_of, suc, sym, unwrap_or, verdict, ℕ, ◌∙◌, ◌∷◌, ◌≡◌}
 use Rattle.cj_stream.specs.Selection.{LeavesKept, all_lines, staying}
-use Rattle.cj_stream.proofs.GoodLemmas.{good-all, complete-none}
-use Rattle.cj_stream.proofs.VerdictLemmas.{refusal-step}
+use Rattle.cj_stream.proofs.GoodLemmas.{complete-none}
 use Rattle.cj_stream.proofs.MovedLemmas.{kept-moved, refusal-moved}
 use Rattle.cj_stream.proofs.PartsLemmas.{lines-headed}
+use Rattle.cj_stream.proofs.RulingLemmas.{good-all, refusal-step}
 
 map-none : (f : End → End) (o : Option End) → option_map f o ≡ None → o ≡ None
 map-none f None h = refl
@@ -14,51 +14,31 @@ module _ (rules : Rules) (e : Line) where
   -- one line more before some others changes nothing
   none-before : (l : Line) (zs : List Line) → refusal_from rules (e ∷ l ∷ []) zs ≡ None
       → refusal_from rules (e ∷ []) zs ≡ None
-  none-before l zs h = map-none (moved_end 1) _ (sym (refusal-moved rules e (l ∷ []) [] zs 1 refl) ∙ h)
+  none-before l zs h = map-none (moved_end 1) _ (sym (refusal-moved rules e (l ∷ []) zs) ∙ h)
 
   none-after : (l : Line) (zs : List Line) → refusal_from rules (e ∷ []) zs ≡ None
       → refusal_from rules (e ∷ l ∷ []) zs ≡ None
-  none-after l zs h = refusal-moved rules e (l ∷ []) [] zs 1 refl ∙ ap (option_map (moved_end 1)) h
-
-  none-step : (l : Line) (stays : Bool) (zs ms : List Line)
-      → (refusal_from rules (e ∷ []) zs ≡ None → refusal_from rules (e ∷ []) ms ≡ None)
-      → refusal_from rules (e ∷ []) (l ∷ zs) ≡ None → refusal_from rules (e ∷ []) (cond stays (l ∷ ms) ms) ≡ None
-  none-step l stays zs ms later h = go stays
-    where
-      both : (refusal_of rules 2 (verdict rules (e ∷ []) l.content) ≡ None)
-          × (refusal_from rules (e ∷ l ∷ []) zs ≡ None)
-      both = refusal-step _ _ h
-
-      go : (b : Bool) → refusal_from rules (e ∷ []) (cond b (l ∷ ms) ms) ≡ None
-      go true = rw both.0 (none-after l ms (later (none-before l zs both.1)))
-      go false = later (none-before l zs both.1)
+  none-after l zs h = refusal-moved rules e (l ∷ []) zs ∙ ap (option_map (moved_end 1)) h
 
   -- no refusal is an end among the lines that stay
   none-staying : (xs : List (Line × Bool)) → refusal_from rules (e ∷ []) (all_lines xs) ≡ None
       → refusal_from rules (e ∷ []) (staying xs) ≡ None
   none-staying [] h = refl
-  none-staying (x ∷ xs) h = none-step x.0 x.1 (all_lines xs) (staying xs) (none-staying xs) h
-
-  kept-after : (l : Line) (zs ms : List Line) → kept_from rules (e ∷ []) ms ≡ kept_from rules (e ∷ []) zs
-      → kept_from rules (e ∷ l ∷ []) ms ≡ kept_from rules (e ∷ l ∷ []) zs
-  kept-after l zs ms h = kept-moved rules e (l ∷ []) [] ms ∙ (h ∙ sym (kept-moved rules e (l ∷ []) [] zs))
-
-  kept-step : (l : Line) (stays : Bool) (zs ms : List Line)
-      → (stays ≡ false → is_kept (verdict rules (e ∷ []) l.content) ≡ false)
-      → kept_from rules (e ∷ []) ms ≡ kept_from rules (e ∷ []) zs
-      → kept_from rules (e ∷ []) (cond stays (l ∷ ms) ms) ≡ kept_from rules (e ∷ []) (l ∷ zs)
-  kept-step l true zs ms left same =
-      ap (λ z. cond (is_kept (verdict rules (e ∷ []) l.content)) (item_after rules (e ∷ []) l ∷ z) z)
-      (kept-after l zs ms same)
-  kept-step l false zs ms left same = rw (left refl) (same ∙ sym (kept-moved rules e (l ∷ []) [] zs))
+  none-staying (x ∷ xs) h =
+      grind (arith, none-staying xs, none-before x.0 (all_lines xs), none-after x.0 (staying xs))
 
   -- the same is kept of them
   kept-staying : (xs : List (Line × Bool)) → LeavesKept rules e xs
       → kept_from rules (e ∷ []) (staying xs) ≡ kept_from rules (e ∷ []) (all_lines xs)
   kept-staying [] h = refl
   kept-staying (x ∷ xs) h =
-      kept-step x.0 x.1 (all_lines xs) (staying xs) (h 0 x (omega arith))
-      (kept-staying xs (λ k d small. h (suc k) d (omega (arith, small))))
+      grind (
+        arith,
+        h 0 x (omega arith),
+        kept-moved rules e (x.0 ∷ []) (all_lines xs),
+        kept-moved rules e (x.0 ∷ []) (staying xs),
+        kept-staying xs (λ k d small. h (suc k) d (omega (arith, small))),
+      )
 
 module _ (rules : Rules) (h a b : List ℕ) (xs : List (Line × Bool)) (free : NoLf h) (all : lines a ≡ all_lines xs)
     (some : lines b ≡ staying xs)
@@ -80,19 +60,18 @@ module _ (rules : Rules) (h a b : List ℕ) (xs : List (Line × Bool)) (free : N
       rw (both.0, later) refl
 
   pub ending-selection : ending rules (headed h b) ≡ Complete
-  ending-selection = ap (λ z. ending_of rules z) part ∙ ap (λ o. unwrap_or o Complete) none-part
+  ending-selection = rw part (ap (λ o. unwrap_or o Complete) none-part)
 
   pub kept-selection : kept rules (headed h b) ≡ kept rules (headed h a)
   kept-selection =
-      let of_part =
-      ap (λ z. kept_from rules [] z)
-      (ap (λ z. good_from rules [] z) part ∙ good-all rules [] (ended_line h ∷ staying xs) none-part) in
-      let of_whole =
-      ap (λ z. kept_from rules [] z)
-      (ap (λ z. good_from rules [] z) whole ∙ good-all rules [] (ended_line h ∷ all_lines xs) none-whole) in
-      let same = ap (λ z. cond (is_kept (verdict rules [] h)) (item_after rules [] (ended_line h) ∷ z) z)
-      (kept-staying rules (ended_line h) xs left) in
-      of_part ∙ (same ∙ sym of_whole)
+      rw (
+        part,
+        whole,
+        good-all rules [] (ended_line h ∷ staying xs) none-part,
+        good-all rules [] (ended_line h ∷ all_lines xs) none-whole,
+      )
+      (ap (λ z. cond (is_kept (verdict rules [] h)) (item_after rules [] (ended_line h) ∷ z) z)
+      (kept-staying rules (ended_line h) xs left))
 
   pub output-selection : output rules (headed h b) ≡ output rules (headed h a)
   output-selection = ap (λ z. flat_map raw_item z) kept-selection

@@ -1,5 +1,5 @@
 -- Counts of what a sink took.
-use Rattle.cj_stream.proofs.Common.{Complete, End, Item, LeavesNext, List, Memory, None, Option, Puts, PutsPieces, ReadFault, ReadLimit, Refused, Rules, Some, Took, Tree, WriteFault, [], ap, arith, cond, filter, in_pieces, is_feature, is_header, is_some, joined, kept, length, min, never_fails, not, stream_of, take, whole, ℕ, ◌++◌, ◌+◌, ◌-◌, ◌^◌, ◌∙◌, ◌∷◌, ◌≡◌, ◌≤◌}
+use Rattle.cj_stream.proofs.Common.{End, Item, LeavesNext, List, Memory, None, Option, Puts, PutsPieces, ReadFault, ReadLimit, Rules, Some, Took, Tree, WriteFault, [], ap, arith, cond, filter, in_pieces, is_feature, is_header, is_some, joined, kept, length, min, never_fails, not, stream_of, take, whole, ℕ, ◌++◌, ◌+◌, ◌-◌, ◌^◌, ◌∙◌, ◌∷◌, ◌≡◌, ◌≤◌}
 use Rattle.cj_stream.specs.declared.sink.CountSink.{CountSink}
 use Rattle.cj_stream.specs.CountSink.{Counts, CountsBy, no_counts, counts_of, CountsRun, CountsPieces}
 

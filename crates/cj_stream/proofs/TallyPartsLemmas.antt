@@ -1,25 +1,14 @@
 -- The tally of a stream, from those of its parts.
-use Rattle.cj_stream.proofs.Common.{Bool, Complete, IsCut, IsRange, IsTallyOf, JoinsTallies, Line, List, None, Number, Option, Rules, Some, Tally, Tree, [], ap, append-nil, arith, beside, capped, chars, codes, cond, ended_line, ending, false, filter, filter-append, flat_map-append, get_or, good, headed, how_often, is_feature, is_header, is_kept, item_after, kept, kept_from, last_or, last_shown, later_of, length, lod_classes, map, nat_tests, numbers_on, option_map, over_features, refl, subst, sym, transform_values, true, type_numbers, verdict, wider, ℕ, ℤ, ◌++◌, ◌+◌, ◌∙◌, ◌∷◌, ◌≡◌}
-use Rattle.std.proofs.Common.{ltb}
+use Rattle.cj_stream.proofs.Common.{Complete, IsCut, IsRange, IsTallyOf, JoinsTallies, Line, List, None, Number, Option, Rules, Some, Tally, Tree, [], ap, append-nil, arith, beside, capped, chars, codes, ended_line, ending, filter, filter-append, flat_map-append, get_or, good, headed, how_often, is_header, kept, kept_from, last_or, last_shown, later_of, lod_classes, map, nat_tests, numbers_on, option_map, over_features, refl, subst, sym, transform_values, type_numbers, wider, ℕ, ℤ, ◌++◌, ◌+◌, ◌∙◌, ◌∷◌, ◌≡◌}
 use Rattle.cj_stream.proofs.PartsLemmas.{header-valid, back-good, back-kept, kept-first, kept-parts, features-counted}
 use Rattle.cj_stream.proofs.Ranges.{IsRange-two}
-use Rattle.cj_stream.proofs.ReadingLemmas.{after-feature}
 use Rattle.cj_stream.proofs.TallySinkLemmas.{how_often-append}
 
 -- behind a header there is none
 no-header : (rules : Rules) (l : Line) (xs zs : List Line) → filter is_header (kept_from rules (l ∷ xs) zs) ≡ []
 no-header rules l xs [] = refl
-no-header rules l xs (z ∷ zs) = go (is_kept (verdict rules (l ∷ xs) z.content)) (no-header rules l (xs ++ z ∷ []) zs)
-  where
-    feature : is_feature (item_after rules (l ∷ xs) z) ≡ true
-    feature = after-feature rules (l ∷ xs) z
-        ∙ (let some : ltb 0 (length (l ∷ xs)) ≡ true = grind (arith, nat_tests) in some)
-
-    go : (b : Bool) → filter is_header (kept_from rules (l ∷ xs ++ z ∷ []) zs) ≡ []
-        → filter is_header (cond b (item_after rules (l ∷ xs) z ∷ kept_from rules (l ∷ xs ++ z ∷ []) zs)
-        (kept_from rules (l ∷ xs ++ z ∷ []) zs)) ≡ []
-    go true k = rw feature k
-    go false k = k
+no-header rules l xs (z ∷ zs) =
+    grind (arith, nat_tests, no-header rules l (xs ++ z ∷ []) zs)
 
 module _ (rules : Rules) (h a b : List ℕ) (cut : IsCut h a) (done : ending rules (headed h a) ≡ Complete) where
   -- what stands behind the header of the second part

@@ -1,5 +1,5 @@
 -- Tallies of what a sink took.
-use Rattle.cj_stream.proofs.Common.{Complete, End, IsTallyOf, Item, LeavesNext, List, Memory, None, Number, Option, Puts, PutsPieces, ReadFault, ReadLimit, Refused, Rules, Some, Tally, Took, Tree, Widens, WriteFault, [], ap, arith, beside, capped, chars, codes, cond, filter, filter-append, get_or, how_often, in_pieces, is_feature, is_header, is_some, joined, kept, last_or, length, length-append, lod_classes, map, nat_eq, never_fails, not, numbers_on, option_map, over_features, refl, replicate, stream_of, subst, suc, sym, take, transform_values, type_numbers, whole, zero, ℕ, ℤ, ◌++◌, ◌+◌, ◌-◌, ◌<◌, ◌^◌, ◌∙◌, ◌∷◌, ◌≡◌, ◌≤◌}
+use Rattle.cj_stream.proofs.Common.{End, IsTallyOf, Item, LeavesNext, List, Memory, None, Number, Option, Puts, PutsPieces, ReadFault, ReadLimit, Rules, Some, Tally, Took, Tree, Widens, WriteFault, [], ap, arith, beside, capped, chars, codes, cond, filter, filter-append, get_or, how_often, in_pieces, is_feature, is_header, is_some, joined, kept, last_or, length, length-append, lod_classes, map, nat_eq, nat_tests, never_fails, numbers_on, option_map, over_features, refl, replicate, stream_of, subst, suc, sym, take, transform_values, type_numbers, whole, zero, ℕ, ℤ, ◌++◌, ◌+◌, ◌-◌, ◌<◌, ◌^◌, ◌∙◌, ◌∷◌, ◌≡◌, ◌≤◌}
 use Rattle.cj_stream.specs.TallySink.{no_tally, Shows, TalliesBy, Tallies, TalliesRun, TalliesPieces}
 use Rattle.cj_stream.proofs.Ranges.{Widens-no, Widens-two}
 
@@ -110,20 +110,7 @@ module _ (name : List ℕ) (numbers : Tally → Option (List Number))
         (map (λ i. transform_values (chars name) i.tree) (filter is_header is))
     shown-more a b [] took = ap (λ t. option_map (map Some) (numbers t)) took
     shown-more a b (i ∷ is) took =
-        one i.header i.tree took.0 i (filter is_header is) (step a i took.0 took.1) refl (shown-more took.0 b is took.2)
-      where
-        one : (o : Option Tree) (t : Tree) (m : Tally) (j : Item) (rest : List Item)
-            → IsSet name o t (numbers a) (numbers m) → j.tree ≡ t
-            → option_map (map Some) (numbers b) ≡ last_or (option_map (map Some) (numbers m))
-            (map (λ k. transform_values (chars name) k.tree) rest)
-            → option_map (map Some) (numbers b) ≡ last_or (option_map (map Some) (numbers a))
-            (map (λ k. transform_values (chars name) k.tree) (cond (not (is_some o)) (j ∷ rest) rest))
-        one None t m j rest set same later =
-            later ∙ ap (λ o. last_or o (map (λ k. transform_values (chars name) k.tree) rest))
-            (set ∙ ap (λ u. Some (transform_values (chars name) u)) (sym same))
-        one (Some header) t m j rest set same later =
-            later ∙ ap (λ o. last_or (option_map (map Some) o) (map (λ k. transform_values (chars name) k.tree) rest))
-            set
+        grind (arith, nat_tests, shown-more took.0 b is took.2)
 
 scale-set : (a : Tally) (o : Option Tree) (t : Tree) (b : Tally) → TalliesBy a o t b
     → IsSet (codes "scale") o t a.scale b.scale

@@ -1,5 +1,5 @@
 -- The counts of a run over pieces are of the whole stream.
-use Rattle.cj_stream.proofs.Common.{Complete, Counts, CountsAll, End, Ends, IsUnhindered, IsUnread, List, Memory, Peaks, ReadFault, ReadLimit, Refused, Rules, Some, WriteFault, [], ap, drop, ending, filter, good, inl, inr, is_feature, joined, judged, kept, kept_from, length, refusal_in, reported, reported_from, take, ℕ, ◌+◌, ◌∙◌, ◌≡◌, ◌⊎◌}
+use Rattle.cj_stream.proofs.Common.{Complete, Counts, CountsAll, End, Ends, IsUnhindered, IsUnread, List, Memory, Peaks, Refused, Rules, Some, WriteFault, [], ap, ending, filter, good, inl, is_feature, joined, judged, kept, kept_from, length, refusal_in, reported, reported_from, take, ℕ, ◌+◌, ◌∙◌, ◌≡◌, ◌⊎◌}
 use Rattle.cj_stream.proofs.CutLemmas.{given-told}
 use Rattle.cj_stream.proofs.FirstLemmas.{first-good}
 

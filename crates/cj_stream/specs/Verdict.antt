@@ -114,32 +114,62 @@ is_kept Blank = false
 is_kept LeftOut = false
 is_kept Kept = true
 
+-- What comes of a line: the item that it is, and whether that is kept; the end that it is, if reading ends at it; and
+-- what is reported of it, if reading goes on.
+pub record Ruling : Type 0 where
+  pub item : Item
+  pub kept : Bool
+  pub end : Option End
+  pub reports : List Report
+
+-- what comes of a line after these
+abbrev pub ruling_after : Rules → List Line → Line → Ruling
+ruling_after rules before l = record {
+  item = item_after rules before l;
+  kept = is_kept (verdict rules before l.content);
+  end = refusal_of rules (length before + 1) (verdict rules before l.content);
+  reports = reports_of (length before + 1) (verdict rules before l.content);
+}
+
+-- what comes of lines that come after others, line after line
+abbrev pub rulings : Rules → List Line → List Line → List Ruling
+rulings rules before [] = []
+rulings rules before (l ∷ ls) = ruling_after rules before l ∷ rulings rules (before ++ l ∷ []) ls
+
+-- the first end among them
+abbrev pub first_end : List Ruling → Option End
+first_end [] = None
+first_end (r ∷ rs) = if is_some r.end then r.end else first_end rs
+
+-- the lines before it
+abbrev pub lines_before : List Ruling → List Line
+lines_before [] = []
+lines_before (r ∷ rs) = if is_some r.end then [] else r.item.line ∷ lines_before rs
+
+-- the items that are kept
+abbrev pub kept_of : List Ruling → List Item
+kept_of [] = []
+kept_of (r ∷ rs) = if r.kept then r.item ∷ kept_of rs else kept_of rs
+
+-- what is reported
+abbrev pub reported_of : List Ruling → List Report
+reported_of rs = flat_map (λ (r : Ruling). r.reports) rs
+
 -- the first refusal that is an end, among lines that come after others
 abbrev pub refusal_from : Rules → List Line → List Line → Option End
-refusal_from rules before [] = None
-refusal_from rules before (l ∷ ls) =
-    let first = refusal_of rules (length before + 1) (verdict rules before l.content) in
-    if is_some first then first else refusal_from rules (before ++ l ∷ []) ls
+refusal_from rules before ls = first_end (rulings rules before ls)
 
 -- the handled lines: the longest prefix without a refusal that is an end
 abbrev pub good_from : Rules → List Line → List Line → List Line
-good_from rules before [] = []
-good_from rules before (l ∷ ls) =
-    if is_some (refusal_of rules (length before + 1) (verdict rules before l.content)) then []
-    else l ∷ good_from rules (before ++ l ∷ []) ls
+good_from rules before ls = lines_before (rulings rules before ls)
 
 -- the items of the lines that are kept: the header, and each feature that satisfies what is asked
 abbrev pub kept_from : Rules → List Line → List Line → List Item
-kept_from rules before [] = []
-kept_from rules before (l ∷ ls) =
-    if is_kept (verdict rules before l.content) then item_after rules before l ∷ kept_from rules (before ++ l ∷ []) ls
-    else kept_from rules (before ++ l ∷ []) ls
+kept_from rules before ls = kept_of (rulings rules before ls)
 
 -- what is reported of lines that come after others
 abbrev pub reported_from : Rules → List Line → List Line → List Report
-reported_from rules before [] = []
-reported_from rules before (l ∷ ls) =
-    reports_of (length before + 1) (verdict rules before l.content) ++ reported_from rules (before ++ l ∷ []) ls
+reported_from rules before ls = reported_of (rulings rules before ls)
 
 -- the first such refusal among the lines of a stream, or of a prefix of them
 abbrev pub refusal_in : Rules → List Line → Option End
