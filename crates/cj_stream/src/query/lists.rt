@@ -13,11 +13,14 @@ impl Query {
     ///
     /// # Errors
     ///
-    /// `Memory` if an allocation failed. Then the part has the items before that one.
+    /// `Memory` if an allocation failed. Then the part has the items before that one. Other parts
+    /// stay.
     pub fn set_ids(&mut self, list: &str, separator: char) -> Result<(), QueryFault>
         requires { separator < 128 }
         ensures ok { OnOk result
             (criteria self.new ≡ record (criteria self.old) { ids = Some (parted separator list.now) }) }
+        ensures err { OnErr result
+            (criteria self.new ≡ record (criteria self.old) { ids = (criteria self.new).ids }) }
         ensures memory { IfErr result (λ fault. fault ≡ Memory) }
         ensures cause { OnErr result (HasRisen (failed_growths_of self.old) (failed_growths_of self.new)) }
         ensures count { failed_growths_of self.new ≡ counted (failed_growths_of self.old) result }
@@ -36,7 +39,7 @@ impl Query {
     ///
     /// # Errors
     ///
-    /// The part then has the types before the item with the fault.
+    /// The part then has the types before the item with the fault. Other parts stay.
     ///
     /// - `UnknownTypeName` if an item is no type's name.
     /// - `Memory` if an allocation failed.
@@ -49,6 +52,8 @@ impl Query {
         requires { separator < 128 }
         ensures ok { OnOk result
             (setting_types extensions (parted separator list.now) (criteria self.old) ≡ Some (criteria self.new)) }
+        ensures err { OnErr result
+            (criteria self.new ≡ record (criteria self.old) { types = (criteria self.new).types }) }
         ensures declined { IfErr result (DeclinesTypes extensions (parted separator list.now)) }
         ensures cause { IfErr result
             (λ fault. fault ≡ Memory → HasRisen (failed_growths_of self.old) (failed_growths_of self.new)) }
@@ -65,11 +70,14 @@ impl Query {
     ///
     /// # Errors
     ///
-    /// `Memory` if an allocation failed. Then the part has the items before that one.
+    /// `Memory` if an allocation failed. Then the part has the items before that one. Other parts
+    /// stay.
     pub fn set_lods(&mut self, list: &str, separator: char) -> Result<(), QueryFault>
         requires { separator < 128 }
         ensures ok { OnOk result
             (criteria self.new ≡ record (criteria self.old) { lods = Some (parted separator list.now) }) }
+        ensures err { OnErr result
+            (criteria self.new ≡ record (criteria self.old) { lods = (criteria self.new).lods }) }
         ensures memory { IfErr result (λ fault. fault ≡ Memory) }
         ensures cause { OnErr result (HasRisen (failed_growths_of self.old) (failed_growths_of self.new)) }
         ensures count { failed_growths_of self.new ≡ counted (failed_growths_of self.old) result }
