@@ -40,7 +40,6 @@ pub mod LineRowLemmas
 pub mod ManyPartsLemmas
 pub mod MovedLemmas
 pub mod NoteLemmas
-pub mod OldRecursions
 pub mod OutcomeLemmas
 pub mod OutputLemmas
 pub mod PartsLemmas
