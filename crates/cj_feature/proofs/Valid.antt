@@ -90,8 +90,8 @@ pub valid-without : (templates : TemplateSource) (t : Tree) (tree extensions : B
     → of_kind is_object (feature_rules templates tree extensions) t ≡ []
     → of_kind is_object (feature_rules templates false true) t ≡ []
 valid-without templates t tree extensions h =
-    kind-fewer (is_object (kind_of t)) (feature_rules templates tree extensions t) (feature_rules templates false true t)
-    t h (λ rules.
+    kind-fewer (is_object (kind_of t)) (feature_rules templates tree extensions t)
+    (feature_rules templates false true t) t h (λ rules.
     let six = none-both _ _ rules in
     let five = none-both _ _ six.0 in
     let four = none-both _ _ five.0 in

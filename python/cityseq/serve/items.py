@@ -283,8 +283,8 @@ class Items(Cut):
     def _too_many(self) -> Problem:
         return Problem(
             400,
-            f"more than {self.limit:,} features may match: ask for less, or set limit and follow the"
-            " links to the next pages",
+            f"more than {self.limit:,} features may match: ask for less, or set limit and follow"
+            " the links to the next pages",
         )
 
     def _parameters(self, after: int, form: Format) -> dict[str, Any]:
