@@ -228,8 +228,8 @@ def _is_simple(text: bytes) -> bool:
 
 
 def _are_flat(joined: bytes) -> bool:
-    """Whether all texts are flat, each of which stands after an LF. No text has one, so each brace
-    then begins a text. Some texts may be no objects."""
+    """Whether all texts are flat. An LF is before each text, and in none, so each brace of flat
+    texts begins one. Some texts may be no objects."""
     return b"[" not in joined and joined.count(b"{") == joined.count(b"\n{")
 
 

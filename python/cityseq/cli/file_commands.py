@@ -247,8 +247,8 @@ def _told(what: str, sizes: ArchiveSize) -> str:
 
 
 def _is_of_blocks(path: str) -> bool:
-    """Whether a file can be read, and has blocks of BGZF alone, by the lengths that they give
-    themselves, up to the mark of the end."""
+    """Whether a file can be read, and has only blocks of BGZF up to the mark of the end. Each block
+    gives its own length."""
     with suppress(OSError), open(path, "rb") as file:
         at, end = 0, os.fstat(file.fileno()).st_size - len(LAST)
         while at < end:

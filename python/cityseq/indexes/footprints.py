@@ -71,8 +71,8 @@ class _Line:
         self._told = _read(b"".join(texts))
 
     def _array(self, value: Any, depth: int) -> list[Any]:
-        """Returns so many levels of lists. They may have been cut out, or some of their items. One
-        number stands for all of these that follow one another."""
+        """Returns lists of `depth` levels. They may have been cut out, or some of their items. One
+        number represents all of these that follow one another."""
         found: list[Any] = []
         if not isinstance(value, list):
             (found,) = self._cut_out(value)
@@ -87,7 +87,7 @@ class _Line:
         return found
 
     def _cut_out(self, number: int) -> list[Any]:
-        """Returns the arrays that a number stands for."""
+        """Returns the arrays that a number represents."""
         arrays: list[Any] = json.loads(b"[%s]" % self._arrays[-number - FIRST])
         return arrays
 

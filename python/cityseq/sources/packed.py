@@ -92,8 +92,8 @@ def _blocks(file: Any) -> bool:
 
 
 def read_some(file: Any, most: int) -> Any:
-    """Returns at most so many bytes of a file object, and none at its end. A buffered file that
-    does not block gives none too if none are ready: then this waits for the next one.
+    """Returns at most `most` bytes of a file object, and none at its end. A buffered file that does
+    not block gives none too if none are ready: then this waits for the next one.
 
     Raises:
         OSError: The file does not block, no bytes are ready, and nothing shows when they are.
