@@ -1,4 +1,4 @@
--- What comes of lines, one after another: of some lines and then others, and of the lines before an end.
+-- The results of lines, one after another: of some lines and then others, and of the lines before an end.
 use Rattle.cj_stream.proofs.Common.{Complete, End, Line, List, None, Option, Reason, Refused, Rules, Ruling, Some, [], append-nil, append_assoc, arith, cond, first_end, flat_map-append, good_from, is_some, kept_from, kept_of, length, length-append, lines_before, map, map-append, moved_end, moved_report, option_map, refl, refusal_from, reported_from, reported_of, rulings, sym, take, ℕ, ◌++◌, ◌+◌, ◌∙◌, ◌∷◌, ◌≡◌}
 
 -- ---- of any rulings

@@ -114,7 +114,7 @@ is_kept Blank = false
 is_kept LeftOut = false
 is_kept Kept = true
 
--- What comes of a line: the item that it is, and whether that is kept; the end that it is, if reading ends at it; and
+-- The result of a line: the item that it is, and whether that is kept; the end that it is, if reading ends at it; and
 -- what is reported of it, if reading goes on.
 pub record Ruling : Type 0 where
   pub item : Item
@@ -122,7 +122,7 @@ pub record Ruling : Type 0 where
   pub end : Option End
   pub reports : List Report
 
--- what comes of a line after these
+-- the result of a line after these
 abbrev pub ruling_after : Rules → List Line → Line → Ruling
 ruling_after rules before l = record {
   item = item_after rules before l;
@@ -131,7 +131,7 @@ ruling_after rules before l = record {
   reports = reports_of (length before + 1) (verdict rules before l.content);
 }
 
--- what comes of lines that come after others, line after line
+-- the results of lines that come after others, line after line
 abbrev pub rulings : Rules → List Line → List Line → List Ruling
 rulings rules before [] = []
 rulings rules before (l ∷ ls) = ruling_after rules before l ∷ rulings rules (before ++ l ∷ []) ls
