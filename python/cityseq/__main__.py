@@ -1,6 +1,11 @@
 """Runs the command: python3 -m cityseq."""
+from __future__ import annotations
+
 import os
-from typing import NoReturn
+
+TYPE_CHECKING = False  # `typing` takes long to load, and an interrupt may come meanwhile
+if TYPE_CHECKING:
+    from typing import NoReturn
 
 
 def _end(status: int, words: str) -> NoReturn:

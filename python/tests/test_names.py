@@ -68,6 +68,13 @@ class Loaded(unittest.TestCase):
         self.assertEqual(ran.stderr, b"")
         self.assertLessEqual(int(ran.stdout), 12)
 
+    def test_nothing_slow_is_loaded_before_interrupts_are_handled(self):
+        code = "import sys, cityseq.__main__; print({'re', 'typing'} & {*sys.modules})"
+        settings = {**os.environ, "PYTHONPATH": os.path.join(ROOT, "python")}
+        words = [sys.executable, "-S", "-c", code]  # `site` may load them
+        ran = subprocess.run(words, capture_output=True, env=settings)
+        self.assertEqual((ran.stdout, ran.stderr), (b"set()\n", b""))
+
 
 class Statuses(unittest.TestCase):
     """Each result and fault has a status, which is also the number that the command ends with."""
