@@ -60,6 +60,25 @@ class Names(InFolder):
         self.assertLess(len(repr(found)), 400)
         self.assertIn("id='a'", repr(found))
 
+    def test_a_result_is_short(self):
+        """It has the fields that are not empty. Of the reports it says how many there are."""
+        found = cityseq.check(HEADER + b"{}\n" * 1_000, keep_going=True)
+        self.assertEqual(len(found.reports), 1_000)
+        self.assertLess(len(repr(found)), 250)
+        for words in ("refused=1000", "reports=1000", "Status.INVALID"):
+            self.assertIn(words, repr(found))
+        ended = repr(cityseq.check(HEADER + b"{}\n"))
+        self.assertIn("Result(file='<bytes>'", ended)
+        self.assertIn("end='line 2, byte 0: 10 member missing'", ended)
+        self.assertNotIn("fault", ended)
+        self.assertTrue(repr(cityseq.info(GOOD)).startswith("Info(file="))
+
+    def test_an_index_is_short(self):
+        index = self.folder / "town.gpkg"
+        cityseq.index(self.file(GOOD), index)
+        with cityseq.Index(index) as opened:
+            self.assertEqual(repr(opened), f"Index({str(index)!r}, streams=1)")
+
     def test_a_result_is_true_if_the_stream_is_valid(self):
         found = [bool(cityseq.check(text)) for text in (GOOD, GOOD + b"{}\n")]
         self.assertEqual(found, [True, False])

@@ -122,6 +122,9 @@ class Index:
             self._base.close()
             raise
 
+    def __repr__(self) -> str:
+        return f"Index({self.path!r}, streams={len(self.streams)})"
+
     def __enter__(self) -> Index:
         return self
 

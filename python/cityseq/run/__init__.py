@@ -23,7 +23,7 @@ from __future__ import annotations
 import os
 from collections.abc import Callable, Iterable, Iterator
 from contextlib import contextmanager
-from dataclasses import dataclass, field
+from dataclasses import dataclass, field, fields
 from importlib import import_module
 from typing import TYPE_CHECKING, Any, Protocol
 
@@ -90,6 +90,13 @@ class Result:
     fault_file: str | None = None
     raises: CityseqError | None = field(default=None, repr=False, compare=False)
 
+    def __repr__(self) -> str:
+        """Returns the fields that are not empty, and how many reports there are."""
+        values = {each.name: getattr(self, each.name) for each in fields(self) if each.repr}
+        values["end"], values["reports"] = self.end and str(self.end), len(self.reports)
+        shown = [f"{name}={value!r}" for name, value in values.items() if value or value == 0]
+        return f"{type(self).__name__}({', '.join(shown)})"
+
     def __bool__(self) -> bool:
         return self.valid
 
@@ -120,7 +127,7 @@ class Result:
         return self
 
 
-@dataclass
+@dataclass(repr=False)
 class Info(Result):
     """The summary of a valid stream. All is empty if the stream is invalid.
 
