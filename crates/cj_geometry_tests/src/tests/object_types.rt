@@ -210,6 +210,11 @@ const IN_ORDER: [&str; 33] = [
 ];
 
 #[test]
+fn all_types_are_in_the_table(rt: HostRuntime) {
+    assert_eq!(rt; ObjectType::COUNT, IN_ORDER.len());
+}
+
+#[test]
 fn all_types_in_the_order_of_the_table(rt: HostRuntime) {
     for (object_type, name) in ObjectType::all().iter().zip(&IN_ORDER) {
         is_text(&rt, object_type.name(), *name, "types in order", *name);

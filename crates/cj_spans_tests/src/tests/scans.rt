@@ -911,7 +911,7 @@ fn a_failed_growth_is_memory(rt: HostRuntime) {
 }
 
 /// Each reason with its code and its text.
-const REASONS: [(Reason, u8, &str); 26] = [
+const REASONS: [(Reason, u8, &str); 27] = [
     (Reason::NoHeader, 1, "no header line"),
     (Reason::LineTooLong, 2, "line too long"),
     (Reason::NotUtf8, 3, "not UTF-8"),
@@ -938,6 +938,7 @@ const REASONS: [(Reason, u8, &str); 26] = [
     (Reason::TemplateIndex, 28, "template index out of range"),
     (Reason::BadInstance, 29, "bad instance"),
     (Reason::TransformNotFixed, 30, "transform not fixed"),
+    (Reason::NotReached, 31, "not reached from the main object"),
 ];
 
 fn has_code(rt: &impl Abort, reason: Reason, code: u8) {
