@@ -14,7 +14,7 @@ from importlib import import_module
 from typing import Any, NoReturn
 
 from .. import __version__
-from ..engine import CityseqError, RequestError, Status, WriteFault, shown
+from ..engine import BOX_FAULTS, CityseqError, RequestError, Status, WriteFault, shown
 from ..engine.judge import UnknownType
 from .options import Check, Filter, Info, Request, options_of
 from .output import brief, drop_output, flush, hold_descriptors, put, say, write_whole_outputs
@@ -34,7 +34,6 @@ STOPPED = 128  # plus the number of the signal
 WHERE = "to those who gave you cityseq"  # where to report an unexpected failure
 SHORT_OF_MEMORY = ("cannot allocate memory", "failed to map segment", "cannot map")
 BOX = "a box is minx,miny,maxx,maxy: four numbers in world coordinates, the least first"
-BOX_FAULTS = ("bad box", "box number out of range", "empty box")
 
 
 class Mistake(RequestError):

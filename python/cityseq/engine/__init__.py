@@ -22,7 +22,8 @@ MOST_SHOWN = 200  # characters of a text that are shown
 INTERFACE = 3
 LINE_LIMITS, DEPTH_LIMITS = (1, 1_073_741_824), (1, 1_024)
 USUAL_LINE, USUAL_DEPTH = 8_388_608, 64
-TYPES, LOD_CLASSES = 34, ("0", "1", "2", "3", "4", "other")
+TYPE_COUNTS = 34  # in a tally: of each type, and of all types of extensions
+LOD_CLASSES = ("0", "1", "2", "3", "4", "other")
 # Settings of `mallopt` in glibc (malloc.h). The first is how many free bytes make it return some
 # to the system. The second is how many bytes make it ask the system for a block. The third is how
 # many arenas there are. Each arena after the first reserves 64 MB of addresses, and has no room for
@@ -187,6 +188,7 @@ FAULTS = {
     8: "empty box",
     9: "the stream has more than 2^60 bytes",
 }
+BOX_FAULTS = FAULTS[6], FAULTS[7], FAULTS[8]
 
 
 def _members(kind: Any, names: str) -> list[tuple[str, Any]]:
@@ -242,7 +244,7 @@ class RawTally(ctypes.Structure):
 
     _fields_ = [
         ("features", c_uint64),
-        ("types", c_uint64 * TYPES),
+        ("types", c_uint64 * TYPE_COUNTS),
         ("lods", c_uint64 * len(LOD_CLASSES)),
         ("ranges", RawRange * 3),
         ("transformed", c_uint64),
@@ -429,7 +431,7 @@ class Library:
         of extensions. Asks for them once."""
         if not self._type_names:
             self._type_names = tuple(
-                self._text(self._calls.cityseq_type_name, number) for number in range(TYPES)
+                self._text(self._calls.cityseq_type_name, number) for number in range(TYPE_COUNTS)
             )
         return self._type_names
 

@@ -200,17 +200,20 @@ class Work:
 @lru_cache(maxsize=8)
 def _request(work: Work, ids: bytes | None, line_limit: int) -> RawRequest:
     """Returns a request. It is made once for many parts."""
-    texts = (ids, work.types, work.lods, work.box)
-    return RawRequest(
-        line_limit,
-        work.depth,
-        work.keep_going,
-        work.tree,
-        work.exclude,
-        work.extensions,
-        *(text is not None for text in texts),
-        *(given for text in texts for given in (text or b"", len(text or b""))),
+    request = RawRequest(
+        line_limit=line_limit,
+        depth_limit=work.depth,
+        keep_going=work.keep_going,
+        tree=work.tree,
+        exclude=work.exclude,
+        extensions=work.extensions,
     )
+    texts = {"ids": ids, "types": work.types, "lods": work.lods, "box": work.box}
+    for name, text in texts.items():
+        setattr(request, f"asks_{name}", text is not None)
+        setattr(request, name, text or b"")
+        setattr(request, f"{name}_length", len(text or b""))
+    return request
 
 
 def work_of(kind: str, options: Options, query: Query = Query(), exact_lods: bool = False) -> Work:
@@ -224,26 +227,33 @@ def work_of(kind: str, options: Options, query: Query = Query(), exact_lods: boo
             "what is in a stream is told of a valid one: filter it first, with keep_going"
         )
     work = Work(
-        kind,
-        _limit(options.limits.line, *LINE_LIMITS, "line limit"),
-        _limit(options.limits.depth, *DEPTH_LIMITS, "depth"),
-        bool(options.keep_going),
-        bool(options.tree),
-        bool(options.extensions),
-        bool(query.exclude),
-        _ids_of(query),
-        _asked_lines(query.types, "types"),
-        _asked_lines(query.lods, "LoDs"),
-        _box_of(query.box),
-        bool(exact_lods),
+        kind=kind,
+        line_limit=_limit(options.limits.line, *LINE_LIMITS, "line limit"),
+        depth=_limit(options.limits.depth, *DEPTH_LIMITS, "depth"),
+        keep_going=bool(options.keep_going),
+        tree=bool(options.tree),
+        extensions=bool(options.extensions),
+        exclude=bool(query.exclude),
+        ids=_ids_of(query),
+        types=_asked_lines(query.types, "types"),
+        lods=_asked_lines(query.lods, "LoDs"),
+        box=_box_of(query.box),
+        exact_lods=bool(exact_lods),
     )
-    answer = library().check(b"", b"", work.request(b"", b""), 0)[0]
-    if answer.status == CallStatus.BAD_REQUEST:
-        words = FAULTS.get(answer.code, f"bad request {answer.code}")
-        if answer.code == UNKNOWN_TYPE:
-            raise UnknownType(words, (work.types or b"").decode().split("\n")[answer.item])
-        raise RequestError(words)
+    _check_request(work)
     return work
+
+
+def _check_request(work: Work) -> None:
+    """Asks the library whether it takes the request, by a call that judges nothing. Raises
+    `RequestError` if it does not."""
+    answer = library().check(b"", b"", work.request(b"", b""), 0)[0]
+    if answer.status != CallStatus.BAD_REQUEST:
+        return
+    words = FAULTS.get(answer.code, f"bad request {answer.code}")
+    if answer.code == UNKNOWN_TYPE:
+        raise UnknownType(words, (work.types or b"").decode().split("\n")[answer.item])
+    raise RequestError(words)
 
 
 class UnknownType(RequestError):
@@ -315,7 +325,7 @@ class Answer:
 
     @property
     def refused(self) -> int:
-        """How many lines were reported."""
+        """How many invalid lines reading went on after."""
         return int(self.told.refused)
 
     @property
