@@ -1,15 +1,16 @@
 -- A header and a part are one text, of which an engine was given the header, or all.
-use Rattle.cityseq_c.proofs.Common.{AreCut, Complete, Counts, CountsAll, Delivers, End, Ends, Faults, Holds, IsBounded, IsJudged, IsUnhindered, Judged, Line, List, NoLf, None, Noted, Option, Outcome, Peaks, PutsPieces, Rules, SinkLaw, Some, Told, Took, WriteFault, [], add-one, ap, append-nil, append_assoc, arith, ended_line, ending, filter, flat_map, in_pieces, inl, inr, is_feature, is_kept, item_after, joined, kept, kept_from, length, lent, lines, raw, refl, slice_get, stream_of, subst, suc, sym, take, take-append-le, up_to, verdict, zero, ℕ, ◌++◌, ◌+◌, ◌∙◌, ◌∷◌, ◌≡◌, ◌≢◌, ◌≤◌, ◌⊎◌}
+use Rattle.cityseq_c.proofs.Common.{AreCut, Complete, Counts, CountsAll, Delivers, End, Ends, Faults, Holds, IsBounded, IsJudged, IsUnhindered, Judged, Line, List, NoLf, None, Noted, Option, Outcome, Peaks, PutsPieces, Rules, SinkLaw, Some, Told, Took, WriteFault, [], add-one, ap, append-nil, append_assoc, arith, ended_line, ending, flat_map, in_pieces, inl, inr, is_kept, item_after, joined, kept, length, lent, lines, raw, refl, slice_get, stream_of, subst, suc, sym, take, take-append-le, up_to, verdict, zero, ℕ, ◌++◌, ◌+◌, ◌∙◌, ◌∷◌, ◌≡◌, ◌≢◌, ◌≤◌, ◌⊎◌}
 use Rattle.cj_budget.specs.Meaning.Limits.{LimitPair}
 use Rattle.cj_stream.specs.declared.ending.End.TheVariants.{Refused, ReadFault, ReadLimit, Memory}
 use Rattle.cj_stream.specs.Bound.{IsBelow, IsExact, exact_peaks, first_lines}
 use Rattle.cj_stream.specs.Parts.{headed}
 use Rattle.cj_stream.proofs.LineLemmas.{first-length}
 use Rattle.cj_stream.specs.ReportSink.{Notes}
-use Rattle.cj_stream.specs.Verdict.{good, reported, reported_first, reported_from, refusal_in, stretch}
+use Rattle.cj_stream.specs.Verdict.{good, reported, reported_first, reported_from, stretch, rulings}
 use Rattle.cj_stream.proofs.PartsLemmas.{first-headed, lines-headed}
 use Rattle.cityseq_c.specs.ReportSlice.{count_of, noted_loan, noted_room, noted_text, NotesOne}
 use Rattle.cityseq_c.proofs.ReportLemmas.{all-held}
+use Rattle.cj_stream.proofs.TookLemmas.{More-all, More-over, over-kept, over-reported}
 
 take-nothing : (k : ℕ) → take {A = List ℕ} k [] ≡ []
 take-nothing zero = refl
@@ -78,9 +79,7 @@ module _ (rules : Rules) (h part : List ℕ) (free : NoLf h) (n : ℕ) (few : n 
   counts-more : (f k : ℕ) → Counts rules (headed h []) n f k → Counts rules (headed h part) n f k
   counts-more f k x = record {
     few = omega (arith, few, ap length front, ap length all);
-    good = ap (λ z. refusal_in rules z) first-same ∙ x.good;
-    kept = x.kept ∙ ap (λ z. length (filter is_feature (kept_from rules [] z))) (sym first-same);
-    refused = x.refused ∙ ap (λ z. length (reported_from rules [] z)) (sym first-same);
+    counted = rw first-same x.counted;
   }
 
   module _ {S : Type 0} (law : SinkLaw S) where
@@ -102,10 +101,8 @@ module _ (rules : Rules) (h part : List ℕ) (free : NoLf h) (n : ℕ) (few : n 
     delivers-more : (s t : S) (e : End) → Delivers law (stretch rules (headed h []) 0 n) s t (Some e)
         → Delivers law (stretch rules (headed h part) 0 n) s t (Some e)
     delivers-more s t e x = record {
-      added = x.added;
       middle = x.middle;
-      kept = ap (λ z. kept_from rules [] z) first-same ∙ x.kept;
-      took = x.took;
+      took = More-over law.takes over-kept refl (ap (rulings rules []) first-same) x.took;
       fault = faults-more x.middle t e x.fault;
     }
 
@@ -197,7 +194,7 @@ module _ {S : Type 0} (law : SinkLaw S) (rules : Rules) (header part : List ℕ)
     least = least;
     counts = counts;
     delivers = delivers;
-    noted = subst (λ z. Took NotesOne a z b) (sym notes.told) notes.noted;
+    noted = More-all NotesOne over-reported notes;
   })
 
   judged-end : IsJudged o.ended

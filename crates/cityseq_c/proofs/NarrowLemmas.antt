@@ -1,13 +1,16 @@
 -- What is told of a text does not hang on a line limit that is above all its lines.
-use Rattle.cityseq_c.proofs.Common.{AreCut, Bool, Complete, Counts, CountsAll, DeclinesCall, Delivers, End, Ends, Err, Faults, Holds, IfErr, IfOk, IsAsked, IsBounded, IsFit, IsJudged, Judged, Line, List, Memory, None, NotJudged, Ok, Outcome, Peaks, Request, Result, Rules, SinkLaw, Some, Told, Took, Tree, WriteFault, [], ap, append-nil, append_assoc, arith, cases_lt, cond, ended_line, ending, false, fault_of, filter, flat_map, good_from, greatest, inl, inr, is_feature, is_kept, kept, kept_first, kept_from, later_of, length, length-append, lent, lines, list_all, ltb, map, max, min, min-eq_left, nat_tests, needed_limits, of_first, raw, refl, slice_get, stream_of, subst, suc, sym, take, true, up_to, verdict, zero, ℕ, ◌++◌, ◌+◌, ◌<◌, ◌∙◌, ◌∷◌, ◌≡◌, ◌≤◌, ◌⊎◌}
+use Rattle.cityseq_c.proofs.Common.{AreCut, Bool, Complete, Counts, CountsAll, DeclinesCall, Delivers, End, Ends, Err, Faults, Holds, IfErr, IfOk, IsAsked, IsBounded, IsFit, IsJudged, Judged, Line, List, Memory, None, NotJudged, Ok, Outcome, Peaks, Request, Result, Rules, SinkLaw, Some, Told, Took, Tree, WriteFault, [], ap, append-nil, append_assoc, arith, cases_lt, cond, ended_line, ending, false, fault_of, filter, flat_map, good_from, greatest, inl, inr, is_feature, is_kept, kept, later_of, length, length-append, lent, lines, list_all, ltb, map, max, min, min-eq_left, nat_tests, needed_limits, of_first, raw, refl, slice_get, stream_of, subst, suc, sym, take, true, up_to, verdict, zero, ℕ, ◌++◌, ◌+◌, ◌<◌, ◌∙◌, ◌∷◌, ◌≡◌, ◌≤◌, ◌⊎◌}
+use Rattle.std.proofs.Common.{unwrap_or}
 use Rattle.cj_spans.specs.Meaning.Judgement.{Judgement, spelled, broken, sunk}
 use Rattle.cj_spans.proofs.Judgements.{judgement}
 use Rattle.cj_stream.specs.declared.ending.End.TheVariants.{Refused, ReadFault, ReadLimit, Memory as NoMemory}
 use Rattle.cj_stream.specs.Bound.{exact_peaks, first_lines, held_length, is_legible, is_readable, is_text, tree_nest, tree_size, IsExact, IsBelow}
-use Rattle.cj_stream.specs.Verdict.{ending_of, good, refusal_from, reported, reported_first, reported_from, text_verdict, verdict_at, stretch}
+use Rattle.cj_stream.specs.Verdict.{ending_of, good, reported, text_verdict, verdict_at, stretch}
 use Rattle.cj_stream.proofs.IsLinesLemmas.{lines-are_lines}
 use Rattle.cj_stream.proofs.PartsLemmas.{lines-headed}
 use Rattle.cityseq_c.proofs.FirstLemmas.{lines-first}
+use Rattle.cj_stream.specs.Verdict.{AreCounted, first_end, kept_of, lines_before, reported_of, rulings, rulings_first}
+use Rattle.cj_stream.proofs.TookLemmas.{More-over, over-kept}
 
 -- no content is longer than this
 abbrev AreShort : ℕ → List Line → Type 0
@@ -98,26 +101,13 @@ module _ (rules : Rules) (m : ℕ) (low : m ≤ rules.limits.line) where
 
   -- ---- some lines
 
-  refusal-same : (before ls : List Line) → AreShort m ls → refusal_from narrow before ls ≡ refusal_from rules before ls
-  refusal-same before [] h = refl
-  refusal-same before (l ∷ ls) h = rw (verdict-same before l.content h.0, refusal-same (before ++ l ∷ []) ls h.1) refl
-
-  good-same : (before ls : List Line) → AreShort m ls → good_from narrow before ls ≡ good_from rules before ls
-  good-same before [] h = refl
-  good-same before (l ∷ ls) h = rw (verdict-same before l.content h.0, good-same (before ++ l ∷ []) ls h.1) refl
-
-  kept-same : (before ls : List Line) → AreShort m ls → kept_from narrow before ls ≡ kept_from rules before ls
-  kept-same before [] h = refl
-  kept-same before (l ∷ ls) h = rw (verdict-same before l.content h.0, kept-same (before ++ l ∷ []) ls h.1) refl
-
-  reported-same : (before ls : List Line) → AreShort m ls
-      → reported_from narrow before ls ≡ reported_from rules before ls
-  reported-same before [] h = refl
-  reported-same before (l ∷ ls) h = rw (verdict-same before l.content h.0, reported-same (before ++ l ∷ []) ls h.1) refl
+  rulings-same : (before ls : List Line) → AreShort m ls → rulings narrow before ls ≡ rulings rules before ls
+  rulings-same before [] h = refl
+  rulings-same before (l ∷ ls) h = rw (verdict-same before l.content h.0, rulings-same (before ++ l ∷ []) ls h.1) refl
 
   ending-same : (ls : List Line) → AreShort m ls → ending_of narrow ls ≡ ending_of rules ls
   ending-same [] h = refl
-  ending-same (l ∷ ls) h = rw (refusal-same [] (l ∷ ls) h) refl
+  ending-same (l ∷ ls) h = ap (λ rs. unwrap_or (first_end rs) Complete) (rulings-same [] (l ∷ ls) h)
 
   -- a prefix of short lines
   short-good : (before ls : List Line) → AreShort m ls → AreShort m (good_from rules before ls)
@@ -169,22 +159,19 @@ module _ (rules : Rules) (m : ℕ) (low : m ≤ rules.limits.line) where
 
   module _ (s : List ℕ) (short : AreShort m (lines s)) where
     good-text : good narrow s ≡ good rules s
-    good-text = good-same [] (lines s) short
+    good-text = ap lines_before (rulings-same [] (lines s) short)
 
     kept-text : kept narrow s ≡ kept rules s
-    kept-text = rw good-text (kept-same [] (good rules s) (short-good [] (lines s) short))
+    kept-text = rw good-text (ap kept_of (rulings-same [] (good rules s) (short-good [] (lines s) short)))
 
     reported-text : reported narrow s ≡ reported rules s
-    reported-text = rw good-text (reported-same [] (good rules s) (short-good [] (lines s) short))
+    reported-text = rw good-text (ap reported_of (rulings-same [] (good rules s) (short-good [] (lines s) short)))
 
     ending-text : ending narrow s ≡ ending rules s
     ending-text = ending-same (lines s) short
 
-    kept_first-text : (n : ℕ) → kept_first narrow n s ≡ kept_first rules n s
-    kept_first-text n = kept-same [] (take n (lines s)) (short-take m n (lines s) short)
-
-    reported_first-text : (n : ℕ) → reported_first narrow n s ≡ reported_first rules n s
-    reported_first-text n = reported-same [] (take n (lines s)) (short-take m n (lines s) short)
+    first-text : (n : ℕ) → rulings_first narrow n s ≡ rulings_first rules n s
+    first-text n = rulings-same [] (take n (lines s)) (short-take m n (lines s) short)
 
     legible-text : is_legible narrow.limits s ≡ is_legible rules.limits s
     legible-text = later-all (is_readable narrow.limits) (is_readable rules.limits) readable-same (lines s) short
@@ -213,9 +200,7 @@ module _ (rules : Rules) (m : ℕ) (low : m ≤ rules.limits.line) where
     counts-text : (n features refusals : ℕ) → Counts narrow s n features refusals → Counts rules s n features refusals
     counts-text n features refusals x = record {
       few = x.few;
-      good = sym (refusal-same [] (take n (lines s)) (short-take m n (lines s) short)) ∙ x.good;
-      kept = x.kept ∙ ap (λ z. length (filter is_feature z)) (kept_first-text n);
-      refused = x.refused ∙ ap length (reported_first-text n);
+      counted = subst (λ rs. AreCounted rs features refusals) (first-text n) x.counted;
     }
 
     all-text : (o : Outcome) → CountsAll narrow s o → CountsAll rules s o
@@ -252,10 +237,8 @@ module _ (rules : Rules) (m : ℕ) (low : m ≤ rules.limits.line) where
       delivers-text : (from to : ℕ) (a b : S) (e : End) → Delivers law (stretch narrow s from to) a b (Some e)
           → Delivers law (stretch rules s from to) a b (Some e)
       delivers-text from to a b e x = record {
-        added = x.added;
         middle = x.middle;
-        kept = sym (kept_first-text to) ∙ (x.kept ∙ ap (λ z. z ++ x.added) (kept_first-text from));
-        took = x.took;
+        took = More-over law.takes over-kept (sym (first-text from)) (sym (first-text to)) x.took;
         fault = faults-text to x.middle b e x.fault;
       }
 
@@ -276,7 +259,7 @@ module _ (rules : Rules) (m : ℕ) (low : m ≤ rules.limits.line) where
               ends = λ free. t.ends free ∙ ending-text;
               counts = λ free. all-text o (t.counts free);
               reports = λ free. subst (λ z. Holds s z old new) reported-text (t.reports free);
-              first = subst (λ z. Holds s z old new) (reported_first-text o.lines) t.first;
+              first = subst (λ rs. Holds s (reported_of rs) old new) (first-text o.lines) t.first;
               least = least-text o.lines o.peaks t.least;
             };
             took = λ free. subst (λ z. Took law.takes a z b) kept-text (x.took free);

@@ -3,6 +3,7 @@ use Rattle.cityseq_c.proofs.Common.{Copied, Faults, IsFull, IsUnhindered, IsWrit
 use Rattle.cityseq_c.proofs.FitLemmas.{first-fits}
 use Rattle.cityseq_c.specs.Room.{room_bytes, room_loan, written_of, in_room, room_law}
 use Rattle.cityseq_c.specs.declared.room.Room.{Room}
+use Rattle.cj_stream.proofs.TookLemmas.{More-all, over-kept}
 
 -- what is behind a place is behind a later one
 drop-later : (m n : ℕ) (xs ys : List ℕ) → m ≤ n → drop m xs ≡ drop m ys → drop n xs ≡ drop n ys
@@ -67,14 +68,13 @@ module _ (rules : Rules) (text : List ℕ) (o : Outcome) (a b : Room) (reports n
   when-full is =
       let d = j.delivers in
       let fault = subst (λ e. Faults room_law (up_to rules text o.lines) d.middle b (Some e)) is d.fault in
-      let items : d.added ≡ kept_first rules o.lines text = sym d.kept in
-      let all = all-written a d.middle d.added d.took in
+      let took = More-all room_law.takes over-kept d.took in
+      let all = all-written a d.middle (kept_first rules o.lines text) took in
       let stays = fault.3 in
       let same : new ≡ room_bytes d.middle = back (stays.loan ∙ all.loan) ∙ stays.bytes in
       let many : written ≡ written_of d.middle = count ∙ stays.count in
       record {
-        first = subst (λ xs. IsWritten (flat_map raw_item xs) old new written) items
-            (first-written d.middle d.added d.took same many);
+        first = first-written d.middle (kept_first rules o.lines text) took same many;
         next = fault.0;
         at = fault.1;
         kept = fault.2;

@@ -1,5 +1,5 @@
 -- What is told of texts that the program writes.
-use Rattle.cityseq_command.proofs.Common.{Appends, AppendsPart, Channel, Check, Complete, End, Err, Filter, HasRisen, Info, Keeps, List, Memory, None, Ok, Option, Report, Result, RisesOnErr, Some, Took, Wrote, [], ap, arith, check_text, inl, inr, outputs, refl, rules_for, run_of, stream_of, subst, summary_text, sym, ℕ, ◌++◌, ◌∙◌, ◌≡◌}
+use Rattle.cityseq_command.proofs.Common.{Appends, AppendsPart, Channel, Check, Complete, End, Err, Filter, HasRisen, Info, Keeps, List, Memory, None, Ok, Option, Report, Result, RisesOnErr, Some, Wrote, [], ap, arith, check_text, inl, inr, outputs, refl, rules_for, run_of, stream_of, subst, summary_text, sym, ℕ, ◌++◌, ◌∙◌, ◌≡◌}
 use Rattle.std.proofs.Common.{◌<◌, ◌≤◌, ◌^◌, length, filter}
 use Rattle.cj_budget.specs.declared.limits.Peaks.{Peaks}
 use Rattle.cj_stream.specs.declared.ending.End.TheVariants.{Refused, ReadFault, ReadLimit, WriteFault}
@@ -16,6 +16,7 @@ use Rattle.cj_stream.specs.Bound.{exact_peaks}
 use Rattle.cj_stream.specs.TallySink.{Tally, IsTallyOf, no_tally}
 use Rattle.cityseq_command.specs.Performed.{end_of_writing, Says, SaysCheck, SaysSummary, Answers, Does, asked, ended_by, rules_of_ask, told_by, went}
 use Rattle.cityseq_command.specs.declared.ask.Ask.{Ask}
+use Rattle.cj_stream.proofs.TookLemmas.{More-all, over-reported}
 
 pub Keeps-refl : (a : Option (List ℕ)) → Keeps a a
 Keeps-refl None = tt
@@ -114,13 +115,13 @@ pub features-kept : (rules : Rules) (r : List ℕ) (n features refused : ℕ)
     → (n ≡ length (good rules r) → kept_first rules n r ≡ kept rules r)
     → Counts rules r n features refused → n ≡ length (good rules r)
     → features ≡ length (filter is_feature (kept rules r))
-features-kept rules r n features refused all counts lines = counts.kept
+features-kept rules r n features refused all counts lines = counts.counted.kept
     ∙ ap (λ is. length (filter is_feature is)) (all lines)
 
 pub lines-refused : (rules : Rules) (r : List ℕ) (n features refused : ℕ)
     → (n ≡ length (good rules r) → reported_first rules n r ≡ reported rules r)
     → Counts rules r n features refused → n ≡ length (good rules r) → refused ≡ length (reported rules r)
-lines-refused rules r n features refused all counts lines = counts.refused ∙ ap (λ rs. length rs) (all lines)
+lines-refused rules r n features refused all counts lines = counts.counted.refused ∙ ap (λ rs. length rs) (all lines)
 
 -- why memory was refused, whatever the reader is
 pub lacks-room : (run : Run) (at_start : Type 0) → LacksRoom run at_start → LacksRoom run (Unit {0})
@@ -138,7 +139,7 @@ pub Does-run : {N : Type 0} (notes : N → Report → N → Type 0) (ask : Ask) 
     → Does notes (asked ask r at_start at_end) told (told_by a n) (told_by b m)
 Does-run notes ask r at_start at_end outcome told a b n m rest account within noted stops collected answers cause =
     let all = reported_first (rules_of_ask ask) outcome.lines r in
-    let took = subst (λ rs. Took notes n rs m) (sym noted.reports.told) noted.reports.noted in
+    let took = More-all notes over-reported noted.reports in
     record {
       outcome = outcome;
       refused = all;
@@ -149,7 +150,7 @@ Does-run notes ask r at_start at_end outcome told a b n m rest account within no
       reported = record { collected = collected; took = took };
       answers = answers;
       cause = cause;
-      count = ap (λ (o : Outcome). o.refused) rest ∙ account.counts.refused;
+      count = ap (λ (o : Outcome). o.refused) rest ∙ account.counts.counted.refused;
     }
 
 -- a check or a summary after a complete run, of what that counted

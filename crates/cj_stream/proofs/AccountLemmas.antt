@@ -1,5 +1,5 @@
 -- The account of a run over a stream, from those of runs over its parts.
-use Rattle.cj_stream.proofs.Common.{Account, Complete, Counts, End, Ends, IsBounded, IsCut, IsExact, IsUnread, Kept, LimitPair, Line, List, Memory, NoLf, None, Outcome, Peaks, ReadFault, ReadLimit, Refused, Rules, Run, Some, WriteFault, [], ap, append-nil, append_assoc, arith, begun, both_outcomes, bytes_bound, closed, contents, ended_line, ending, ending_of, exact_peaks, filter, filter-append, good, greater_peaks, headed, inl, inr, is_feature, is_readable, judged, kept_first, kept_from, later_of, length, length-append, length-map, lines, list_all, list_all-append, long_line, map, max, min, moved_end, moved_report, nat_tests, option_map, refl, refusal_in, reported_first, reported_from, subst, suc, sym, take, take-append-add, take-append-le, true, verdict, whole, zero, ℕ, ◌&&◌, ◌++◌, ◌+◌, ◌-◌, ◌/◌, ◌∙◌, ◌∷◌, ◌≡◌, ◌≤◌, ◌⊎◌}
+use Rattle.cj_stream.proofs.Common.{Account, AreCounted, Complete, Counts, End, Ends, IsBounded, IsCut, IsExact, IsUnread, Kept, LimitPair, Line, List, Memory, NoLf, None, Outcome, Peaks, ReadFault, ReadLimit, Refused, Rules, Run, Some, WriteFault, [], ap, append-nil, append_assoc, arith, begun, both_outcomes, bytes_bound, closed, contents, ended_line, ending, ending_of, exact_peaks, filter, filter-append, good, greater_peaks, headed, inl, inr, is_feature, is_readable, judged, kept_from, later_of, length, length-append, length-map, lines, list_all, list_all-append, long_line, map, max, min, moved_end, moved_report, nat_tests, option_map, refl, refusal_in, reported_from, rulings, rulings_first, subst, suc, sym, take, take-append-add, take-append-le, true, verdict, whole, zero, ℕ, ◌&&◌, ◌++◌, ◌+◌, ◌-◌, ◌/◌, ◌∙◌, ◌∷◌, ◌≡◌, ◌≤◌, ◌⊎◌}
 use Rattle.cj_stream.specs.Meaning.Bound.{tokens_bound, of_first as first_measure}
 use Rattle.cj_stream.specs.Bound.{is_legible}
 use Rattle.cj_stream.proofs.FirstLemmas.{first-good}
@@ -48,21 +48,44 @@ whole-parts h a b cut =
 
 -- ---- counts
 
--- some lines, of which the first is a valid header, and the same without a number of them
-module _ (rules : Rules) (l : Line) (valid : verdict rules [] l.content ≡ Kept) (ys : List Line) where
-  features-same : (m : ℕ) → length (filter is_feature (kept_from rules [] (take m (l ∷ ys))))
-      ≡ length (filter is_feature (later_of (kept_from rules [] (l ∷ take (m - 1) ys))))
-  features-same zero = rw valid refl
-  features-same (suc k) = let one : suc k - 1 ≡ k = omega arith in rw (one, valid) refl
+-- some lines, of which the first is a valid header
+module _ (rules : Rules) (l : Line) (valid : verdict rules [] l.content ≡ Kept) where
+  -- the counts of the first m of them, with the header if m is 0
+  Counted-header : (ys : List Line) (m f k : ℕ) → AreCounted (rulings rules [] (take m (l ∷ ys))) f k
+      → AreCounted (rulings rules [] (l ∷ take (m - 1) ys)) f k
+  Counted-header ys zero f k h = rw valid (record { good = refl; kept = h.kept; refused = h.refused })
+  Counted-header ys (suc i) f k h = let one : suc i - 1 ≡ i = omega arith in rw one h
 
-  reported-same : (m : ℕ) → length (reported_from rules [] (take m (l ∷ ys)))
-      ≡ length (reported_from rules [] (l ∷ take (m - 1) ys))
-  reported-same zero = rw valid refl
-  reported-same (suc k) = let one : suc k - 1 ≡ k = omega arith in rw one refl
-
-  none-same : (m : ℕ) → refusal_in rules (take m (l ∷ ys)) ≡ None → refusal_in rules (l ∷ take (m - 1) ys) ≡ None
-  none-same zero h = rw valid refl
-  none-same (suc k) h = let one : suc k - 1 ≡ k = omega arith in rw one h
+  -- the counts of lines behind it, and of more lines behind it, of which none of the former is the end
+  Counted-joined : (xs zs : List Line) (f g r s : ℕ) → AreCounted (rulings rules [] (l ∷ xs)) f r
+      → AreCounted (rulings rules [] (l ∷ zs)) g s → AreCounted (rulings rules [] (l ∷ xs ++ zs)) (f + g) (r + s)
+  Counted-joined xs zs f g r s first second =
+      let front = kept_from rules [] (l ∷ xs) in
+      let back = later_of (kept_from rules [] (l ∷ zs)) in
+      let reports = reported_from rules [] (l ∷ zs) in
+      let moved = moved_report (length xs) in
+      let of_second : g ≡ length (filter is_feature back) = second.kept ∙ rw valid refl in
+      record {
+        good = refusal-joined rules l valid xs first.good zs ∙ ap (option_map (moved_end (length xs))) second.good;
+        kept =
+            omega (
+              arith,
+              first.kept,
+              of_second,
+              ap (λ z. length (filter is_feature z)) (kept-joined rules l valid xs zs),
+              ap length (filter-append is_feature front back),
+              length-append (filter is_feature front) (filter is_feature back),
+            );
+        refused =
+            omega (
+              arith,
+              first.refused,
+              second.refused,
+              ap length (reported-joined rules l valid xs zs),
+              length-append (reported_from rules [] (l ∷ xs)) (map moved reports),
+              length-map reports moved,
+            );
+      }
 
 module _ (rules : Rules) (h a : List ℕ) (cut : IsCut h a) (done : ending rules (headed h a) ≡ Complete) (b : List ℕ)
     (n m : ℕ) (all : n ≡ length (good rules (headed h a))) where
@@ -89,71 +112,20 @@ module _ (rules : Rules) (h a : List ℕ) (cut : IsCut h a) (done : ending rules
         length-append (ended_line h ∷ lines a) (lines b),
       )
 
-  good-so_far : refusal_in rules (take m (lines (headed h b))) ≡ None
-      → refusal_in rules (take (n + (m - 1)) (lines (headed h (a ++ b)))) ≡ None
-  good-so_far good =
-      let valid = header-valid rules h a cut done in
-      let zs = take (m - 1) (lines b) in
-      let later : refusal_in rules (ended_line h ∷ zs) ≡ None =
-      none-same rules (ended_line h) valid (lines b) m (let k = rw (back-lines rules h a cut b) at good in k) in
-      rw taken (refusal-joined rules (ended_line h) valid (lines a) (front-none rules h a cut done) zs
-      ∙ ap (option_map (moved_end (length (lines a)))) later)
-
-  features-joined : (f g : ℕ) → f ≡ length (filter is_feature (kept_first rules n (headed h a)))
-      → g ≡ length (filter is_feature (kept_first rules m (headed h b)))
-      → f + g ≡ length (filter is_feature (kept_first rules (n + (m - 1)) (headed h (a ++ b))))
-  features-joined f g first second =
-      let valid = header-valid rules h a cut done in
-      let zs = take (m - 1) (lines b) in
-      let front = kept_from rules [] (ended_line h ∷ lines a) in
-      let back = later_of (kept_from rules [] (ended_line h ∷ zs)) in
-      let of_first : f ≡ length (filter is_feature front) =
-      first ∙ rw (first-good (kept_from rules) rules n (headed h a) all, front-good rules h a cut done) refl in
-      let of_second : g ≡ length (filter is_feature back) =
-      second ∙ rw (back-lines rules h a cut b) (features-same rules (ended_line h) valid (lines b) m) in
-      rw taken (
-      omega (
-        arith,
-        of_first,
-        of_second,
-        ap (λ z. length (filter is_feature z)) (kept-joined rules (ended_line h) valid (lines a) zs),
-        ap length (filter-append is_feature front back),
-        length-append (filter is_feature front) (filter is_feature back),
-      )
-      )
-
-  refusals-joined : (f g : ℕ) → f ≡ length (reported_first rules n (headed h a))
-      → g ≡ length (reported_first rules m (headed h b))
-      → f + g ≡ length (reported_first rules (n + (m - 1)) (headed h (a ++ b)))
-  refusals-joined f g first second =
-      let valid = header-valid rules h a cut done in
-      let zs = take (m - 1) (lines b) in
-      let front = reported_from rules [] (ended_line h ∷ lines a) in
-      let back = reported_from rules [] (ended_line h ∷ zs) in
-      let moved = moved_report (length (lines a)) in
-      let of_first : f ≡ length front =
-      first ∙ rw (first-good (reported_from rules) rules n (headed h a) all, front-good rules h a cut done) refl in
-      let of_second : g ≡ length back =
-      second ∙ rw (back-lines rules h a cut b) (reported-same rules (ended_line h) valid (lines b) m) in
-      rw taken (
-      omega (
-        arith,
-        of_first,
-        of_second,
-        ap length (reported-joined rules (ended_line h) valid (lines a) zs),
-        length-append front (map moved back),
-        length-map back moved,
-      )
-      )
-
   Counts-joined : (f g r s : ℕ) → Counts rules (headed h a) n f r → Counts rules (headed h b) m g s
       → Counts rules (headed h (a ++ b)) (n + (m - 1)) (f + g) (r + s)
-  Counts-joined f g r s first second = record {
-    few = few-joined second.few;
-    good = good-so_far second.good;
-    kept = features-joined f g first.kept second.kept;
-    refused = refusals-joined r s first.refused second.refused;
-  }
+  Counts-joined f g r s first second =
+      let front : rulings_first rules n (headed h a) ≡ rulings rules [] (ended_line h ∷ lines a) =
+      first-good rules n (headed h a) all ∙ ap (rulings rules []) (front-good rules h a cut done) in
+      let valid = header-valid rules h a cut done in
+      let here = subst (λ rs. AreCounted rs f r) front first.counted in
+      let there = let k = rw (back-lines rules h a cut b) at second.counted in
+      Counted-header rules (ended_line h) valid (lines b) m g s k in
+      record {
+        few = few-joined second.few;
+        counted = rw taken
+            (Counted-joined rules (ended_line h) valid (lines a) (take (m - 1) (lines b)) f g r s here there);
+      }
 
   -- ---- the end
 
@@ -348,9 +320,7 @@ module _ (rules : Rules) (h a b : List ℕ) (cut : IsCut h a) (first second : Ou
       ∙ take-append-le n (lines (headed h a)) (lines b) x.few in
       record {
         few = omega (arith, x.few, ap length stream-lines, length-append (lines (headed h a)) (lines b));
-        good = ap (refusal_in rules) same ∙ x.good;
-        kept = x.kept ∙ ap (λ z. length (filter is_feature (kept_from rules [] z))) (sym same);
-        refused = x.refused ∙ ap (λ z. length (reported_from rules [] z)) (sym same);
+        counted = rw same x.counted;
       }
 
   pub Account-stays : ¬ (first.ended ≡ Complete) → IsUnread first.ended

@@ -61,10 +61,10 @@ pub use Rattle.cj_stream.specs.ReportSink.{Collects, CountsReport, Notes, NotesP
 pub use Rattle.cj_stream.specs.Rows.{Gives, small_feature, small_header, tight_rules, wide_rules}
 pub use Rattle.cj_stream.specs.Run.{Account, CountsAll, Ends, Puts, Run, RunsNoting, outcome_of}
 pub use Rattle.cj_stream.specs.Scanning.{Forgets, HasHeld, HasRoom, HeldAll, HeldUntil, HoldsFew, HoldsFewNext, IsReady, Rises, Scanned, Scanning, ScansLine, ScansNext, are_readable, scanning}
-pub use Rattle.cj_stream.specs.Sink.{AppendsPart, HasRisen, LeavesNext, SinkLaw, TookFront, TookMore, never_fails, prefixes, with_sink}
+pub use Rattle.cj_stream.specs.Sink.{AppendsPart, HasRisen, LeavesNext, SinkLaw, TookFront, TookMore, TookOf, never_fails, prefixes, with_sink}
 pub use Rattle.cj_stream.specs.Tallied.{IsRange, beside, capped, class_count, class_of, how_often, lod_classes, numbers_on, over_features, own_classes, row_number, type_numbers}
 pub use Rattle.cj_stream.specs.TallySink.{AreWordsOf, IsTallyOf, RisesBy, TakesNumber, Tally, Widens, last_shown}
-pub use Rattle.cj_stream.specs.Verdict.{Ruling, by_least, ending, ending_of, findings, first_end, first_line, goes_on, good, good_from, header_of, is_blank_line, is_kept, is_kept_if_valid, item_after, judged, kept, kept_first, kept_from, kept_of, lines_before, long_line, output, output_first, refusal_from, refusal_in, refusal_of, reported, reported_first, reported_from, reported_of, reports_of, ruling_after, rulings, stream_of, stretch, text_verdict, tree_verdict, up_to, verdict}
+pub use Rattle.cj_stream.specs.Verdict.{AreCounted, Ruling, by_least, ending, ending_of, findings, first_end, first_line, goes_on, good, good_from, header_of, is_blank_line, is_kept, is_kept_if_valid, item_after, judged, kept, kept_first, kept_from, kept_of, lines_before, long_line, output, output_first, refusal_from, refusal_in, refusal_of, reported, reported_first, reported_from, reported_of, reports_of, ruling_after, rulings, rulings_closed, rulings_first, rulings_good, stream_of, stretch, text_verdict, tree_verdict, up_to, verdict}
 unfoldable pub use Rattle.cj_stream.specs.Verdict.{verdict_at}
 pub use Rattle.cj_stream.specs.declared.ending.End.{End}
 pub use Rattle.cj_stream.specs.declared.ending.End.TheVariants.{Complete, Memory, ReadFault, ReadLimit, Refused, WriteFault}

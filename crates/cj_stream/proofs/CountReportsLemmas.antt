@@ -1,6 +1,7 @@
 -- Counts of what a sink of reports noted.
 use Rattle.cj_stream.proofs.Common.{Complete, CountsReport, End, List, Memory, Notes, NotesPieces, NotesRun, ReadFault, ReadLimit, Refused, Report, Rules, Took, TookFront, WriteFault, [], ap, arith, in_pieces, joined, length, min, prefixes, reported, reported_first, stream_of, stretch, take, whole, ℕ, ◌+◌, ◌-◌, ◌^◌, ◌∷◌, ◌≡◌, ◌≤◌}
 use Rattle.cj_stream.specs.declared.report_sink.CountReports.{CountReports}
+use Rattle.cj_stream.proofs.TookLemmas.{More-all, over-reported}
 use Rattle.cj_stream.specs.CountReports.{count_of, no_reports, CountsFirst, CountsReportsOfRun, CountsReportsOfPieces}
 
 -- a sink that counted some reports goes up by them
@@ -29,7 +30,8 @@ reports-first rs c h =
 -- of lines, one after another
 pub counts-lines : (rules : Rules) (q : List ℕ) (n : ℕ) (c : CountReports) → Notes CountsReport (stretch rules q 0 n)
     (no_reports) c → c ≡ count_of (reported_first rules n q)
-counts-lines rules q n c h = rw h.told (reports-all c h.added h.noted)
+counts-lines rules q n c h =
+    reports-all c (reported_first rules n q) (More-all CountsReport over-reported h)
 
 -- what a run has counted, by its end
 pub counts-run : (rules : Rules) (r : List ℕ) (c : CountReports) (e : End) → NotesRun CountsReport (stream_of rules r) e

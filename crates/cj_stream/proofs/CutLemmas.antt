@@ -1,5 +1,5 @@
 -- A text that comes in pieces.
-use Rattle.cj_stream.proofs.Common.{Complete, Concludes, Copies, Delivers, End, EndsAt, EngineState, IsUnread, LeavesNext, Line, List, Memory, NoLf, None, Option, PutsPieces, ReadFault, ReadLimit, Reads, Refused, Rules, SinkLaw, Some, Tells, TookWhole, WriteFault, [], ap, append-nil, append_assoc, arith, begun, closed, drop, ended_line, ending, given_after, good, good_from, header_of, in_pieces, inl, inr, joined, judged, kept, kept_from, last_line, length, lines, lines_of, long_line, map, nat_tests, refl, refusal_from, refusal_in, reported, reported_from, rules_of, stretch, sym, take, whole, writes_law, ℕ, ◌++◌, ◌+◌, ◌<◌, ◌∙◌, ◌∷◌, ◌≡◌, ◌≤◌, ◌⊎◌}
+use Rattle.cj_stream.proofs.Common.{Complete, Concludes, Copies, Delivers, End, EndsAt, EngineState, IsUnread, LeavesNext, Line, List, Memory, NoLf, None, Option, PutsPieces, ReadFault, ReadLimit, Reads, Refused, Rules, SinkLaw, Some, Tells, TookWhole, WriteFault, [], ap, append-nil, append_assoc, arith, begun, closed, drop, ended_line, ending, given_after, good, good_from, header_of, in_pieces, inl, inr, joined, judged, kept, last_line, length, lines, lines_of, long_line, map, nat_tests, refl, refusal_from, refusal_in, rules_of, stretch, sym, take, whole, writes_law, ℕ, ◌++◌, ◌+◌, ◌<◌, ◌∙◌, ◌∷◌, ◌≡◌, ◌≤◌, ◌⊎◌}
 use Rattle.cj_stream.proofs.JoinedLemmas.{joined-cut}
 use Rattle.cj_stream.proofs.LineLemmas.{closed-then, begun-then, lines-cut, NoLf-begun, first_content-long}
 use Rattle.cj_stream.proofs.VerdictLemmas.{verdict-long}
@@ -64,21 +64,15 @@ judged-stays rules q more e k = rw (lines-more q more) (go (refusal_in rules (ma
           good-stays rules [] cs (lines (begun q ++ more)) x h,
         )
 
--- the ending of a text, what is kept and reported of it, and its handled lines, where what came first of it was the end
+-- the ending of a text, and its handled lines, where what came first of it was the end
 pub refused-more : (rules : Rules) (q more : List ℕ) (e : End) → refusal_in rules (judged rules.limits q) ≡ Some e
-    → (ending rules (q ++ more) ≡ e) × (kept rules (q ++ more) ≡ kept rules q)
-    × (reported rules (q ++ more) ≡ reported rules q) × (good rules (q ++ more) ≡ good rules q)
+    → (ending rules (q ++ more) ≡ e) × (good rules (q ++ more) ≡ good rules q)
 refused-more rules q more e k =
     let all = judged-stays rules q more e k in
     let front = judged-stays rules q [] e k in
     let same : good_from rules [] (lines q) ≡ good_from rules [] (map ended_line (closed q)) = let z = front.1 in
     rw (append-nil q) at z in
-    let handled = all.1 ∙ sym same in (
-      ending-refused rules (lines (q ++ more)) e all.0,
-      ap (λ z. kept_from rules [] z) handled,
-      ap (λ z. reported_from rules [] z) handled,
-      handled,
-    )
+    (ending-refused rules (lines (q ++ more)) e all.0, all.1 ∙ sym same)
 
 -- the same of pieces, where those that were given are all of them or were the end
 pub given-told : (rules : Rules) (p : List ℕ) (pieces : List (List ℕ)) (k : ℕ) (e : End)
@@ -86,10 +80,8 @@ pub given-told : (rules : Rules) (p : List ℕ) (pieces : List (List ℕ)) (k : 
     ⊎ (refusal_in rules (judged rules.limits (p ++ joined (take (k + 1) pieces))) ≡ Some e)
     → ending rules (p ++ joined (take (k + 1) pieces)) ≡ e
     → (ending rules (p ++ joined pieces) ≡ e)
-    × (kept rules (p ++ joined pieces) ≡ kept rules (p ++ joined (take (k + 1) pieces)))
-    × (reported rules (p ++ joined pieces) ≡ reported rules (p ++ joined (take (k + 1) pieces)))
     × (good rules (p ++ joined pieces) ≡ good rules (p ++ joined (take (k + 1) pieces)))
-given-told rules p pieces k e (inl same) ends = rw (← same) (ends, refl, refl, refl)
+given-told rules p pieces k e (inl same) ends = rw (← same) (ends, refl)
 given-told rules p pieces k e (inr h) ends =
     let given = joined (take (k + 1) pieces) in
     let more = refused-more rules (p ++ given) (joined (drop (k + 1) pieces)) e h in

@@ -1,15 +1,14 @@
 -- What comes of the line that comes next, with or without LF.
-use Rattle.cj_stream.proofs.Common.{Blank, Bool, Deals, End, Err, Invalid, IsLeft, JudgedAs, Kept, LeftOut, Line, List, Memory, None, Ok, Passes, Reading, Reads, Reason, Refused, Refuses, Result, Settles, SinkLaw, Took, Verdict, WriteFault, [], closed, ended_line, false, goes_on, if◌then◌else◌, inl, inr, is_kept, is_lenient, item_after, judged_next, length, map, next_item, next_verdict, refl, refusal_of, sym, true, verdict, with_sink, ℕ, ◌+◌, ◌∙◌, ◌∷◌, ◌≡◌}
-use Rattle.cj_stream.proofs.ReadingLemmas.{length-map_lines, next-verdict, next-item, is_refused}
+use Rattle.cj_stream.proofs.Common.{Blank, Bool, Deals, End, Err, Invalid, IsLeft, JudgedAs, Kept, LeftOut, Line, List, Memory, None, Ok, Passes, Reading, Reads, Reason, Refused, Refuses, Result, Settles, SinkLaw, Took, Verdict, WriteFault, [], closed, cond, ended_line, false, goes_on, inl, inr, is_lenient, item_after, judged_next, kept_of, length, map, next_item, next_verdict, refl, ruling_after, sym, true, verdict, with_sink, ℕ, ◌+◌, ◌∙◌, ◌∷◌, ◌≡◌}
+use Rattle.cj_stream.proofs.ReadingLemmas.{length-map_lines, next-verdict, next-item}
 
 -- A line came after these, and this was answered. It was passed. Or it is invalid, and the end. Or the sink failed. Or
 -- no memory was granted for later lines, behind a valid first line that LF ended.
 pub data Came {S : Type 0} (law : SinkLaw S) (f g : Reading) (s t : S) (xs : List Line) (l : Line) :
     Result (Unit {0}) End → Type 0 where
-  passed : (put refuses : Bool) → Passes put refuses f g
-      → refusal_of f.rules (length xs + 1) (verdict f.rules xs l.content) ≡ None
-      → put ≡ is_kept (verdict f.rules xs l.content) → refuses ≡ is_refused (verdict f.rules xs l.content)
-      → Took law.takes s (if put then item_after f.rules xs l ∷ [] else []) t → Came law f g s t xs l (Ok tt)
+  passed : (put refuses : Bool) → Passes put refuses f g → (ruling_after f.rules xs l).end ≡ None
+      → put ≡ (ruling_after f.rules xs l).kept → length (ruling_after f.rules xs l).reports ≡ cond refuses 1 0
+      → Took law.takes s (kept_of (ruling_after f.rules xs l ∷ [])) t → Came law f g s t xs l (Ok tt)
   refused : (place : ℕ) (reason : Reason) → verdict f.rules xs l.content ≡ Invalid place reason
       → is_lenient f ≡ false → g ≡ f → t ≡ s → Came law f g s t xs l (Err (Refused (f.lines + 1) place reason))
   failed : verdict f.rules xs l.content ≡ Kept → IsLeft f g → law.leaves s (item_after f.rules xs l) t
@@ -27,7 +26,7 @@ module _ {S : Type 0} (law : SinkLaw S) (f g : Reading) (s t : S) (p : List ℕ)
       → Refuses on (Refused (f.lines + 1) place reason) f r g → t ≡ s
       → Came law f g s t (map ended_line (closed p)) l r
   came-refused place reason true r e is d still =
-      rw d.0 (passed false true d.1 (rw (e, lenient true is) refl) (rw e refl) (rw e refl) still)
+      rw d.0 (passed false true d.1 (rw (e, lenient true is) refl) (rw e refl) (rw e refl) (rw e still))
   came-refused place reason false r e is d still = rw d.0 (refused place reason e is d.1 still)
 
   came-dealt : (v : Verdict) (r : Result (Unit {0}) End)
@@ -35,10 +34,10 @@ module _ {S : Type 0} (law : SinkLaw S) (f g : Reading) (s t : S) (p : List ℕ)
       → Deals law (JudgedAs (f.lines + 1) (is_lenient f) v (next_item f l)) (with_sink f s) r (with_sink g t)
       → Came law f g s t (map ended_line (closed p)) l r
   came-dealt (Invalid place reason) r e d = came-refused place reason (is_lenient f) r e refl d.0 d.1
-  came-dealt Blank r e d = rw d.0 (passed false false d.1 (rw e refl) (rw e refl) (rw e refl) d.2)
-  came-dealt LeftOut r e d = rw d.0 (passed false false d.1 (rw e refl) (rw e refl) (rw e refl) d.2)
+  came-dealt Blank r e d = rw d.0 (passed false false d.1 (rw e refl) (rw e refl) (rw e refl) (rw e d.2))
+  came-dealt LeftOut r e d = rw d.0 (passed false false d.1 (rw e refl) (rw e refl) (rw e refl) (rw e d.2))
   came-dealt Kept (Ok x) e d =
-      passed true false d.0 (rw e refl) (rw e refl) (rw e refl) (t, rw (← next-item f p reads l) d.1, refl)
+      passed true false d.0 (rw e refl) (rw e refl) (rw e refl) (rw e (t, rw (← next-item f p reads l) d.1, refl))
   came-dealt Kept (Err x) e d = rw d.0 (failed e d.1 (rw (← next-item f p reads l) d.2))
 
   pub came : (r : Result (Unit {0}) End)

@@ -1,13 +1,14 @@
 -- What an engine holds, tells and delivers, from what its framer did.
-use Rattle.cj_stream.proofs.Common.{Bool, Counts, Delivers, End, EngineState, Faults, Going, HasRoom, HoldsFew, Invalid, IsBelow, IsBounded, IsWithin, Item, LacksMemory, LimitPair, Line, List, Memory, None, Option, Peaks, Reading, Reads, Refused, Rules, Scanned, Scanning, SinkLaw, Some, StandsFor, Stops, Tells, WriteFault, [], ap, append-nil, append_assoc, arith, begun, bytes_bound, closed, cond, ended_line, false, first_content, further, goes_on, held_by, is_lenient, judged, kept_from, last_line, length, length-append, limits_of, lines, map, nat_lt, nat_tests, peaks_of, refl, refusal_from, refusal_in, slice_get, some-none, stretch, sym, take, true, up_to, verdict, with_sink, ℕ, ◌++◌, ◌+◌, ◌<◌, ◌∙◌, ◌∷◌, ◌≡◌, ◌≤◌}
+use Rattle.cj_stream.proofs.Common.{Bool, Counts, Delivers, End, EngineState, Faults, Going, HasRoom, HoldsFew, Invalid, IsBelow, IsBounded, IsWithin, LacksMemory, LimitPair, Line, List, Memory, None, Option, Peaks, Reading, Reads, Refused, Rules, Ruling, Scanned, Scanning, SinkLaw, Some, StandsFor, Stops, Tells, WriteFault, [], ap, append-nil, append_assoc, arith, begun, bytes_bound, closed, cond, ended_line, false, first_content, further, goes_on, held_by, is_lenient, judged, last_line, length, length-append, limits_of, lines, map, nat_lt, nat_tests, peaks_of, refl, refusal_from, refusal_in, rulings_closed, rulings_first, slice_get, some-none, stretch, sym, take, true, up_to, verdict, with_sink, ℕ, ◌++◌, ◌+◌, ◌<◌, ◌∙◌, ◌∷◌, ◌≡◌, ◌≤◌}
 use Rattle.std.proofs.Common.{ltb}
-use Rattle.cj_stream.specs.Reading.{IsSound, kept_closed, Advances, IsNext, HasCause, stop_at}
+use Rattle.cj_stream.specs.Reading.{IsSound, Advances, IsNext, HasCause, stop_at}
 use Rattle.cj_stream.proofs.FirstLemmas.{take-front, lines-front, first-front, first-closed_lines}
 use Rattle.cj_stream.proofs.LineLemmas.{closed-grows, first_content-grows, first-length, lines-cut, none-from_length}
 use Rattle.cj_stream.proofs.IsLinesLemmas.{lines-whole}
 use Rattle.cj_stream.proofs.ScanningLemmas.{few-scanned, first-closed}
 use Rattle.cj_stream.proofs.ReadingLemmas.{length-map_lines, dropped-long}
 use Rattle.cj_stream.proofs.RulingLemmas.{refusal-append}
+use Rattle.cj_stream.proofs.TookLemmas.{More-over, over-kept}
 
 -- what is held is within the peaks
 pub held-below : (e : EngineState) → IsWithin e.reading.header → IsWithin e.reading.line
@@ -70,9 +71,7 @@ few-front n p more e =
 pub Counts-front : (f : Reading) (p more : List ℕ) → Reads f p → Counts f.rules (p ++ more) f.lines f.kept f.refused
 Counts-front f p more h = record {
   few = few-front f.lines p more h.lines;
-  good = rw (lines-front f.lines p more h.lines) h.good;
-  kept = rw (lines-front f.lines p more h.lines) h.kept;
-  refused = rw (lines-front f.lines p more h.lines) h.refused;
+  counted = rw (lines-front f.lines p more h.lines) h.counted;
 }
 
 -- what can be judged is a prefix of the lines
@@ -146,12 +145,12 @@ begun-good f q h = go f.dropped refl
     go : (d : Bool) → f.dropped ≡ d → refusal_in f.rules (judged f.rules.limits q) ≡ None
     go false held =
         let short : ltb f.rules.limits.line (length (begun q)) ≡ false = sym h.begun.dropped ∙ held in
-        rw (short, append-nil (map ended_line (closed q))) h.good
+        rw (short, append-nil (map ended_line (closed q))) h.counted.good
     go true dropped =
         grind (
           arith,
           nat_tests,
-          refusal-append f.rules [] (map ended_line (closed q)) (last_line (begun q)) h.good,
+          refusal-append f.rules [] (map ended_line (closed q)) (last_line (begun q)) h.counted.good,
           dropped-long f (begun q) h.begun dropped,
         )
 
@@ -182,21 +181,17 @@ module _ {S : Type 0} (law : SinkLaw S) where
   pub Tells-stops : (f g : Reading) (s t : S) (p more : List ℕ) (e : End) → Stops law (further p more) (with_sink f s) e
       (with_sink g t) → Tells f.rules (p ++ more) g.lines e
   Tells-stops f g s t p more e h =
-      let good = rw h.rules at h.reads.good in
+      let good = rw h.rules at h.reads.counted.good in
       Tells-cause law f.rules (p ++ h.done) (p ++ more) g.lines h.middle t e h.reads.lines good h.cause
 
   pub Delivers-advances : (f g : Reading) (s t : S) (p more : List ℕ) → Reads f p → Advances law (further p more)
       (with_sink f s) (with_sink g t)
       → Delivers law (stretch f.rules (p ++ more) f.lines g.lines) s t None
   Delivers-advances f g s t p more r h =
-      let rules = f.rules in
       record {
-        added = h.puts.0;
         middle = t;
-        kept =
-            first-closed_lines (kept_from rules) g.lines (p ++ more) h.reads.lines
-            ∙ (h.puts.1 ∙ ap (λ z. z ++ h.puts.0) (sym (first-front (kept_from rules) f.lines p more r.lines)));
-        took = h.puts.2;
+        took = More-over law.takes over-kept (first-front f.rules f.lines p more r.lines)
+            (first-closed_lines f.rules g.lines (p ++ more) h.reads.lines) h.puts;
         fault = refl;
       }
 
@@ -207,14 +202,10 @@ module _ {S : Type 0} (law : SinkLaw S) where
       let rules = f.rules in
       let whole : p ++ more ≡ (p ++ h.done) ++ h.left = ap (λ z. p ++ z) h.cut ∙ sym (append_assoc p h.done h.left) in
       record {
-        added = h.puts.0;
         middle = h.middle;
-        kept = rw (
-          first-front (kept_from rules) f.lines p more r.lines,
-          whole,
-          first-front (kept_from rules) g.lines (p ++ h.done) h.left h.reads.lines,
-        ) h.puts.1;
-        took = h.puts.2;
+        took = More-over law.takes over-kept (first-front rules f.lines p more r.lines)
+            (ap (rulings_first rules g.lines) whole ∙ first-front rules g.lines (p ++ h.done) h.left h.reads.lines)
+            h.puts;
         fault = (Faults-cause law rules (p ++ h.done) (p ++ more) g.lines h.middle t e h.reads.lines h.cause);
       }
 
@@ -232,7 +223,7 @@ module _ {S : Type 0} (law : SinkLaw S) where
         going = λ none. absurd (some-none e (sym ended ∙ none));
       }
 
-none-added : (xs ys : List Item) → ◌≡◌ {A = List Item} [] (xs ++ ys) → ys ≡ []
+none-added : (xs ys : List Ruling) → ◌≡◌ {A = List Ruling} [] (xs ++ ys) → ys ≡ []
 none-added [] ys e = sym e
 none-added (x ∷ xs) ys e = cc
 
@@ -243,8 +234,8 @@ pub LacksMemory-stops : {S : Type 0} (law : SinkLaw S) (f g : Reading) (s t : S)
 LacksMemory-stops law f g s t p more e h m =
     let cause = rw m at h.cause in
     let none : closed (p ++ h.done) ≡ [] = none-from_length (closed (p ++ h.done)) (sym h.reads.lines ∙ cause.1.none) in
-    let kept = rw none at h.puts.1 in
-    let took = rw (none-added (kept_closed f.rules p) h.puts.0 kept) at h.puts.2 in
+    let grown = rw none at h.puts.grown in
+    let took = rw (none-added (rulings_closed f.rules p) h.puts.done grown) at h.puts.took in
     (cause.1, cause.0 ∙ took)
 
 pub none_from_not_some : {T : Type 0} (o : Option T) → ((x : T) → o ≡ Some x → ⊥) → o ≡ None

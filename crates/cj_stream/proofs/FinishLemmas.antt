@@ -1,13 +1,14 @@
 -- What the end of a text makes of an engine.
-use Rattle.cj_stream.proofs.Common.{Complete, Concludes, Counts, Delivers, End, Err, Faults, Finishes, FinishesWith, HasRoom, HoldsFew, IsExact, IsLeft, IsWithin, LimitPair, Line, List, Memory, NoHeader, None, Ok, OnErr, OnOk, Reading, Reads, Refused, Result, Rules, Scanned, Scanning, ScansNext, Settles, SinkLaw, Some, StandsFor, WriteFault, [], answer_of, ap, append-nil, arith, begun, begun_after, bytes_bound, closed, contents, end_of, ended_line, ending, ending_of, exact_peaks, false, first_content, goes_on, greatest, held_length, if◌then◌else◌, inl, inr, is_lenient, item_after, judged_next, kept_first, last_line, later_of, length, length-append, lines, map, max, nat_tests, next_verdict, refl, refusal_from, refusal_in, some-none, stretch, sym, take, take_all, true, unwrap_or, up_to, with_sink, ℕ, ◌++◌, ◌+◌, ◌<◌, ◌∙◌, ◌∷◌, ◌≡◌, ◌≤◌, ◌⊎◌}
+use Rattle.cj_stream.proofs.Common.{Complete, Concludes, Counts, Delivers, End, Err, Faults, Finishes, FinishesWith, HasRoom, HoldsFew, IsExact, IsLeft, IsWithin, LimitPair, Line, List, Memory, NoHeader, None, Ok, OnErr, OnOk, Reading, Reads, Refused, Result, Rules, Scanned, Scanning, ScansNext, Settles, SinkLaw, Some, StandsFor, WriteFault, [], answer_of, ap, append-nil, arith, begun, begun_after, bytes_bound, closed, contents, end_of, ended_line, ending, ending_of, exact_peaks, false, first_content, goes_on, greatest, held_length, inl, inr, is_lenient, judged_next, last_line, later_of, length, length-append, lines, map, max, nat_tests, next_verdict, refl, refusal_from, refusal_in, rulings_first, some-none, stretch, sym, take, take_all, true, unwrap_or, up_to, with_sink, ℕ, ◌++◌, ◌+◌, ◌<◌, ◌∙◌, ◌∷◌, ◌≡◌, ◌≤◌, ◌⊎◌}
 use Rattle.std.proofs.Common.{eqb}
 use Rattle.cj_stream.proofs.LineLemmas.{lines-cut, none-from_length, begun_after-empty}
 use Rattle.cj_stream.proofs.DealtLemmas.{Came, passed, refused, failed, lacked, came}
-use Rattle.cj_stream.proofs.ReadingLemmas.{length-map_lines, left-same, zero_or, kept-next, refused-next, greatest-later, held-nothing}
+use Rattle.cj_stream.proofs.ReadingLemmas.{length-map_lines, left-same, zero_or, Counted-next, greatest-later, held-nothing}
 use Rattle.cj_stream.proofs.GoodLemmas.{good-complete, good-refused}
 use Rattle.cj_stream.proofs.EngineLemmas.{held-below, peaks-bounded, same-peaks, get-next, Counts-front}
 use Rattle.cj_stream.proofs.FirstLemmas.{lines-front}
-use Rattle.cj_stream.proofs.RulingLemmas.{kept-append, refusal-append}
+use Rattle.cj_stream.proofs.RulingLemmas.{refusal-append}
+use Rattle.cj_stream.proofs.TookLemmas.{More-line, More-none, over-kept}
 
 -- the end of a text, by the number of its lines
 abbrev pub Concluded : Rules → List ℕ → ℕ → End → Type 0
@@ -82,8 +83,8 @@ pub scanned-closed : (limits : LimitPair) (p : List ℕ) (a : Scanning) → begu
 scanned-closed limits p a e s = rw (lines-cut p, e, contents-closed (closed p)) s
 
 -- a last line of these bytes
-abbrev unended : ℕ → List ℕ → Line
-unended b c = record { content = b ∷ c; lf = false }
+abbrev pub unended : List ℕ → Line
+unended c = record { content = c; lf = false }
 
 -- The end of p came, and this was answered: of no bytes, of lines that LF ended, and of a last line without LF.
 data CameLast {S : Type 0} (law : SinkLaw S) (f g : Reading) (s t : S) (p : List ℕ) :
@@ -91,8 +92,29 @@ data CameLast {S : Type 0} (law : SinkLaw S) (f g : Reading) (s t : S) (p : List
   nothing : lines p ≡ [] → f.lines ≡ 0 → begun p ≡ [] → g ≡ f → t ≡ s
       → CameLast law f g s t p (Err (Refused 1 0 NoHeader))
   whole : 0 < f.lines → begun p ≡ [] → g ≡ f → t ≡ s → CameLast law f g s t p (Ok tt)
-  last : (b : ℕ) (c : List ℕ) (r : Result (Unit {0}) End) → begun p ≡ b ∷ c
-      → Came law f g s t (map ended_line (closed p)) (unended b c) r → CameLast law f g s t p r
+  last : (r : Result (Unit {0}) End) → 0 < length (begun p)
+      → Came law f g s t (map ended_line (closed p)) (unended (begun p)) r → CameLast law f g s t p r
+
+last-some : (c : List ℕ) → 0 < length c → last_line c ≡ unended c ∷ []
+last-some [] some = absurd (omega arith)
+last-some (b ∷ c) some = refl
+
+pub lines-last : (p : List ℕ) → 0 < length (begun p)
+    → lines p ≡ map ended_line (closed p) ++ unended (begun p) ∷ []
+lines-last p some = lines-cut p ∙ ap (λ z. map ended_line (closed p) ++ z) (last-some (begun p) some)
+
+-- all lines, counted
+pub take-last : (p : List ℕ) (n : ℕ) → n ≡ length (closed p) + 1 → 0 < length (begun p)
+    → take n (lines p) ≡ map ended_line (closed p) ++ unended (begun p) ∷ []
+take-last p n e some =
+    let cs = map ended_line (closed p) in
+    rw (lines-last p some)
+    (take_all n (map ended_line (closed p) ++ unended (begun p) ∷ [])
+    (omega (arith, e, length-map_lines (closed p), length-append cs (unended (begun p) ∷ []))))
+
+-- the lines but the last, counted
+pub take-closed : (p : List ℕ) (n : ℕ) → n ≡ length (closed p) → take n (lines p) ≡ map ended_line (closed p)
+take-closed p n e = let k = lines-front n p [] e in rw (append-nil p) at k
 
 module _ {S : Type 0} (law : SinkLaw S) (f g : Reading) (s t : S) (p : List ℕ) (reads : Reads f p) where
   came-none : (r : Result (Unit {0}) End) → begun p ≡ [] → FinishesWith law [] (with_sink f s) r (with_sink g t)
@@ -111,40 +133,30 @@ module _ {S : Type 0} (law : SinkLaw S) (f g : Reading) (s t : S) (p : List ℕ)
     where
       go : (x : List ℕ) → begun p ≡ x → FinishesWith law x (with_sink f s) r (with_sink g t) → CameLast law f g s t p r
       go [] e d = came-none r e d
-      go (b ∷ c) e d = last b c r e (came law f g s t p reads (unended b c) r d)
+      go (b ∷ c) e d =
+          last r (rw e (omega arith)) (rw e (came law f g s t p reads (unended (b ∷ c)) r d))
 
   length-cs : length (map ended_line (closed p)) ≡ f.lines
   length-cs = length-map_lines (closed p) ∙ sym reads.lines
 
-  lines-last : (b : ℕ) (c : List ℕ) → begun p ≡ b ∷ c → lines p ≡ map ended_line (closed p) ++ unended b c ∷ []
-  lines-last b c e = lines-cut p ∙ rw e refl
+  -- with one line more all are counted
+  module _ (some : 0 < length (begun p)) (one : g.lines ≡ f.lines + 1) where
+    all-taken : take g.lines (lines p) ≡ map ended_line (closed p) ++ unended (begun p) ∷ []
+    all-taken = take-last p g.lines (omega (arith, one, reads.lines)) some
 
-  -- all lines, counted
-  take-last : (b : ℕ) (c : List ℕ) → begun p ≡ b ∷ c → take (f.lines + 1) (lines p) ≡ map ended_line (closed p)
-      ++ unended b c ∷ []
-  take-last b c e =
-      let xs = map ended_line (closed p) in
-      rw (lines-last b c e)
-      (take_all (f.lines + 1) (map ended_line (closed p) ++ unended b c ∷ [])
-      (omega (arith, length-cs, length-append xs (unended b c ∷ []))))
-
-  -- the lines but the last, counted
-  take-closed : take f.lines (lines p) ≡ map ended_line (closed p)
-  take-closed = let k = lines-front f.lines p [] reads.lines in rw (append-nil p) at k
-
-  count-last : (b : ℕ) (c : List ℕ) → begun p ≡ b ∷ c → g.lines ≡ f.lines + 1 → g.lines ≡ length (lines p)
-  count-last b c e h =
-      rw (lines-last b c e) (omega (arith, h, length-cs, length-append (map ended_line (closed p)) (unended b c ∷ [])))
+    count-last : g.lines ≡ length (lines p)
+    count-last =
+        let cs = map ended_line (closed p) in
+        omega (arith, one, length-cs, ap length (lines-last p some), length-append cs (unended (begun p) ∷ []))
 
   -- the end, where there is a last line
-  ending-verdict : (b : ℕ) (c : List ℕ) → begun p ≡ b ∷ c
-      → ending f.rules p ≡ unwrap_or (refusal_from f.rules (map ended_line (closed p)) (unended b c ∷ [])) Complete
-  ending-verdict b c e =
-      let l : Line = unended b c in
+  ending-verdict : 0 < length (begun p)
+      → ending f.rules p ≡ unwrap_or (refusal_from f.rules (map ended_line (closed p)) (unended (begun p) ∷ [])) Complete
+  ending-verdict some =
       rw (
-        lines-last b c e,
-        ending-last f.rules (map ended_line (closed p)) l,
-        refusal-append f.rules [] (map ended_line (closed p)) (l ∷ []) reads.good,
+        lines-last p some,
+        ending-last f.rules (map ended_line (closed p)) (unended (begun p)),
+        refusal-append f.rules [] (map ended_line (closed p)) (unended (begun p) ∷ []) reads.counted.good,
       ) refl
 
   concluded : (r : Result (Unit {0}) End) → CameLast law f g s t p r → Concluded f.rules p g.lines (end_of r)
@@ -152,18 +164,18 @@ module _ {S : Type 0} (law : SinkLaw S) (f g : Reading) (s t : S) (p : List ℕ)
   concluded r (whole z e same still) =
       let all : lines p ≡ map ended_line (closed p) ++ [] = lines-cut p ∙ rw e refl in
       let good : refusal_in f.rules (map ended_line (closed p) ++ []) ≡ None =
-      rw (append-nil (map ended_line (closed p))) reads.good in
+      rw (append-nil (map ended_line (closed p))) reads.counted.good in
       rw (same, all) (
         ending-some f.rules (map ended_line (closed p)) [] (omega (arith, length-cs)) ∙ rw good refl,
         rw (append-nil (map ended_line (closed p))) (sym length-cs),
       )
-  concluded r (last b c x e (passed put refuses d fine k bad took)) =
-      (ending-verdict b c e ∙ rw fine refl, count-last b c e d.lines)
-  concluded r (last b c x e (refused place reason v on same still)) =
+  concluded r (last x some (passed put refuses d fine k bad took)) =
+      (ending-verdict some ∙ rw fine refl, count-last some d.lines)
+  concluded r (last x some (refused place reason v on same still)) =
       let ends : goes_on f.rules (length (map ended_line (closed p)) + 1) ≡ false = rw length-cs on in
-      (ending-verdict b c e ∙ rw (v, ends, length-cs) refl, ap (λ x. x.lines + 1) (sym same))
-  concluded r (last b c x e (failed v left leaves)) = tt
-  concluded r (last b c x e (lacked v none lf left still)) = tt
+      (ending-verdict some ∙ rw (v, ends, length-cs) refl, ap (λ x. x.lines + 1) (sym same))
+  concluded r (last x some (failed v left leaves)) = tt
+  concluded r (last x some (lacked v none lf left still)) = tt
 
   pub Finishes-concludes : (r : Result (Unit {0}) End) → Finishes law p (with_sink f s) r (with_sink g t)
       → Concludes f.rules p g.lines (end_of r)
@@ -176,18 +188,15 @@ module _ {S : Type 0} (law : SinkLaw S) (f g : Reading) (s t : S) (p : List ℕ)
   counted : (r : Result (Unit {0}) End) → CameLast law f g s t p r → Counts f.rules p g.lines g.kept g.refused
   counted r (nothing none z e same still) = counts-left (left-same f g same)
   counted r (whole z e same still) = counts-left (left-same f g same)
-  counted r (last b c x e (passed put refuses d fine k bad took)) =
-      let xs = map ended_line (closed p) in
-      record {
-        few = omega (arith, count-last b c e d.lines);
-        good = rw (d.lines, take-last b c e, refusal-append f.rules [] xs (unended b c ∷ []) reads.good, fine) refl;
-        kept = rw (d.lines, take-last b c e)
-            (kept-next f g xs (unended b c) put refuses (sym length-cs) reads.kept d k);
-        refused = rw (d.lines, take-last b c e) (refused-next f g xs (unended b c) put refuses reads.refused d bad);
-      }
-  counted r (last b c x e (refused place reason v on same still)) = counts-left (left-same f g same)
-  counted r (last b c x e (failed v left leaves)) = counts-left left
-  counted r (last b c x e (lacked v none lf left still)) = counts-left left
+  counted r (last x some (passed put refuses d fine k bad took)) = record {
+    few = omega (arith, count-last some d.lines);
+    counted = rw (all-taken some d.lines)
+        (Counted-next f g (map ended_line (closed p)) (unended (begun p)) put refuses (sym length-cs) reads.counted d
+        fine k bad);
+  }
+  counted r (last x some (refused place reason v on same still)) = counts-left (left-same f g same)
+  counted r (last x some (failed v left leaves)) = counts-left left
+  counted r (last x some (lacked v none lf left still)) = counts-left left
 
   pub Counts-finished : (r : Result (Unit {0}) End) → Finishes law p (with_sink f s) r (with_sink g t)
       → Counts f.rules p g.lines g.kept g.refused
@@ -213,16 +222,16 @@ module _ {S : Type 0} (law : SinkLaw S) (f g : Reading) (s t : S) (p : List ℕ)
   settled : (r : Result (Unit {0}) End) → CameLast law f g s t p r → Settled
   settled r (nothing none z e same still) = settled-left (left-same f g same)
   settled r (whole z e same still) = settled-left (left-same f g same)
-  settled r (last b c x e (passed put refuses d fine k bad took)) = record {
+  settled r (last x some (passed put refuses d fine k bad took)) = record {
     rules = d.rules;
     header = rw d.header reads.header_within;
     line = d.line.within;
     peaks = rw d.header (omega (arith, d.line.peak));
     onward = omega (arith, d.lines);
   }
-  settled r (last b c x e (refused place reason v on same still)) = settled-left (left-same f g same)
-  settled r (last b c x e (failed v left leaves)) = settled-left left
-  settled r (last b c x e (lacked v none lf left still)) = settled-left left
+  settled r (last x some (refused place reason v on same still)) = settled-left (left-same f g same)
+  settled r (last x some (failed v left leaves)) = settled-left left
+  settled r (last x some (lacked v none lf left still)) = settled-left left
 
   pub finishes-onward : (r : Result (Unit {0}) End) → Finishes law p (with_sink f s) r (with_sink g t)
       → f.lines ≤ g.lines
@@ -254,17 +263,17 @@ module _ {S : Type 0} (law : SinkLaw S) (f g : Reading) (s t : S) (p : List ℕ)
       let first : f.header.peak ≡ length (first_content p) = reads.peak ∙ ap length reads.header in
       let line = rw (e, begun_after-empty (closed p)) at reads.line_peak in
       rw same (omega (arith, later, first, line, held-nothing f.rules.limits))
-  peak r (last b c x e (passed put refuses d fine k bad took)) done =
+  peak r (last x some (passed put refuses d fine k bad took)) done =
       let none = held-nothing f.rules.limits in
       let more = greatest-later (held_length f.rules.limits) none (closed p) (begun p) in
       let later : greatest (held_length f.rules.limits) (later_of (contents p))
       ≡ max (greatest (held_length f.rules.limits) (later_of (closed p)))
       (held_length f.rules.limits (begun_after (closed p) (begun p))) =
-      rw (lines-last b c e, contents-last (closed p) (b ∷ c), ← e) (omega (arith, more, none)) in
+      rw (lines-last p some, contents-last (closed p) (begun p)) (omega (arith, more, none)) in
       let first : g.header.peak ≡ length (first_content p) = ap (λ x. x.peak) d.header
       ∙ (reads.peak ∙ ap length reads.header) in
       omega (arith, later, first, d.line.peak, reads.line_peak)
-  peak r (last b c x e other) done = cc
+  peak r (last x some other) done = cc
 
   -- only an answer Ok makes a text complete
   pub finished-ok : (r : Result (Unit {0}) End) → Finishes law p (with_sink f s) r (with_sink g t) → end_of r ≡ Complete
@@ -297,10 +306,8 @@ module _ {S : Type 0} (law : SinkLaw S) (f g : Reading) (s t : S) (p : List ℕ)
   quiet : (x : End) → g.lines ≡ f.lines → Faults law (up_to f.rules p g.lines) s t (Some x)
       → Delivers law (stretch f.rules p f.lines g.lines) s t (Some x)
   quiet x same fault = record {
-    added = [];
     middle = s;
-    kept = rw same (sym (append-nil (kept_first f.rules f.lines p)));
-    took = refl;
+    took = More-none law.takes over-kept _ _ s s (ap (λ n. rulings_first f.rules n p) same) refl;
     fault = fault;
   }
 
@@ -308,25 +315,22 @@ module _ {S : Type 0} (law : SinkLaw S) (f g : Reading) (s t : S) (p : List ℕ)
       → Delivers law (stretch f.rules p f.lines g.lines) s t (Some (end_of r))
   delivered r (nothing none z e same still) = quiet (Refused 1 0 NoHeader) (ap (λ x. x.lines) same) still
   delivered r (whole z e same still) = quiet Complete (ap (λ x. x.lines) same) still
-  delivered r (last b c x e (passed put refuses d fine k bad took)) =
-      let xs = map ended_line (closed p) in
-      record {
-        added = if put then item_after f.rules (map ended_line (closed p)) (unended b c) ∷ [] else [];
-        middle = t;
-        kept = rw (d.lines, take-last b c e, take-closed, kept-append f.rules [] xs (unended b c ∷ []), k) refl;
-        took = took;
-        fault = refl;
-      }
-  delivered r (last b c x e (refused place reason v on same still)) =
+  delivered r (last x some (passed put refuses d fine k bad took)) = record {
+    middle = t;
+    took = More-line law.takes over-kept f.rules p f.lines g.lines (map ended_line (closed p)) (unended (begun p)) s t
+        (take-closed p f.lines reads.lines) (all-taken some d.lines) took;
+    fault = refl;
+  }
+  delivered r (last x some (refused place reason v on same still)) =
       quiet (Refused (f.lines + 1) place reason) (ap (λ x. x.lines) same) still
-  delivered r (last b c x e (failed v left leaves)) = quiet WriteFault (ap (λ x. x.lines) left.same) (
-    unended b c,
-    rw (left.same, lines-last b c e)
-        (get-next (map ended_line (closed p)) [] (unended b c) f.lines (sym length-cs)),
-    rw (left.same, take-closed, v) refl,
-    rw (left.same, take-closed) leaves,
+  delivered r (last x some (failed v left leaves)) = quiet WriteFault (ap (λ x. x.lines) left.same) (
+    unended (begun p),
+    rw (left.same, lines-last p some)
+        (get-next (map ended_line (closed p)) [] (unended (begun p)) f.lines (sym length-cs)),
+    rw (left.same, take-closed p f.lines reads.lines, v) refl,
+    rw (left.same, take-closed p f.lines reads.lines) leaves,
   )
-  delivered r (last b c x e (lacked v none lf left still)) = quiet Memory (ap (λ x. x.lines) left.same) still
+  delivered r (last x some (lacked v none lf left still)) = quiet Memory (ap (λ x. x.lines) left.same) still
 
   pub Finishes-delivers : (r : Result (Unit {0}) End) → Finishes law p (with_sink f s) r (with_sink g t)
       → Delivers law (stretch f.rules p f.lines g.lines) s t (Some (end_of r))

@@ -1,9 +1,9 @@
--- What is said of the first lines of a text, be it what is kept of them or what is reported.
-use Rattle.cj_stream.proofs.Common.{Line, List, None, Rules, [], ap, append-nil, append_assoc, arith, begun, closed, drop, ended_line, good, good_from, last_line, length, lines, map, nat_tests, refl, refusal_in, sym, take, take-append-drop, whole, ℕ, ◌++◌, ◌∙◌, ◌∷◌, ◌≡◌}
+-- The results of the first lines of a text.
+use Rattle.cj_stream.proofs.Common.{Line, List, None, Rules, [], ap, append-nil, append_assoc, arith, begun, closed, drop, ended_line, good, good_from, last_line, length, lines, map, nat_tests, refl, refusal_in, rulings, rulings_closed, rulings_first, rulings_good, sym, take, take-append-drop, whole, ℕ, ◌++◌, ◌∙◌, ◌∷◌, ◌≡◌}
 use Rattle.cj_stream.proofs.IsLinesLemmas.{lines-whole}
 use Rattle.cj_stream.proofs.LineLemmas.{closed-then, lines-cut}
 use Rattle.cj_stream.proofs.ReadingLemmas.{length-map_lines, map_lines-append}
-use Rattle.cj_stream.proofs.RulingLemmas.{good-all, good-append, good-take}
+use Rattle.cj_stream.proofs.RulingLemmas.{good-all, good-append, good-take, rulings-append}
 
 pub take-front : (xs ys : List Line) (n : ℕ) → n ≡ length xs → take n (xs ++ ys) ≡ xs
 take-front xs ys n e = rw e (go xs ys)
@@ -27,33 +27,32 @@ lines-front n p more e =
       t,
     ) refl
 
--- what is said of some lines that come after others
-module _ {X : Type 0} (from : List Line → List Line → List X) where
-  -- of as many lines as LF ended in a prefix, whatever follows
+module _ (rules : Rules) where
+  -- the results of as many lines as LF ended in a prefix, whatever follows
   pub first-front : (n : ℕ) (p more : List ℕ) → n ≡ length (closed p)
-      → from [] (take n (lines (p ++ more))) ≡ from [] (map ended_line (closed p))
-  first-front n p more e = ap (λ z. from [] z) (lines-front n p more e)
+      → rulings_first rules n (p ++ more) ≡ rulings_closed rules p
+  first-front n p more e = ap (rulings rules []) (lines-front n p more e)
 
   pub first-either : (n : ℕ) (p x y : List ℕ) → n ≡ length (closed p)
-      → from [] (take n (lines (p ++ x))) ≡ from [] (take n (lines (p ++ y)))
+      → rulings_first rules n (p ++ x) ≡ rulings_first rules n (p ++ y)
   first-either n p x y e = first-front n p x e ∙ sym (first-front n p y e)
 
   pub first-closed_lines : (n : ℕ) (p : List ℕ) → n ≡ length (closed p)
-      → from [] (take n (lines p)) ≡ from [] (map ended_line (closed p))
+      → rulings_first rules n p ≡ rulings_closed rules p
   first-closed_lines n p e = let k = first-front n p [] e in rw (append-nil p) at k
 
   pub first-same : (n : ℕ) (p more : List ℕ) → n ≡ length (closed p)
-      → from [] (take n (lines (p ++ more))) ≡ from [] (take n (lines p))
+      → rulings_first rules n (p ++ more) ≡ rulings_first rules n p
   first-same n p more e = first-front n p more e ∙ sym (first-closed_lines n p e)
 
-  module _ (rules : Rules) (n : ℕ) (r : List ℕ) where
+  module _ (n : ℕ) (r : List ℕ) where
     -- of as many lines as are handled
-    pub first-good : n ≡ length (good rules r) → from [] (take n (lines r)) ≡ from [] (good rules r)
-    first-good e = rw e (ap (λ z. from [] z) (good-take rules [] (lines r)))
+    pub first-good : n ≡ length (good rules r) → rulings_first rules n r ≡ rulings_good rules r
+    first-good e = rw e (ap (rulings rules []) (good-take rules [] (lines r)))
 
     -- of the whole lines, of which none is the end
     pub first-whole : refusal_in rules (lines (whole r)) ≡ None → n ≡ length (lines (whole r))
-        → from [] (take n (lines r)) ≡ from [] (good rules (whole r))
+        → rulings_first rules n r ≡ rulings_good rules (whole r)
     first-whole none e =
         grind (
           arith,
@@ -64,12 +63,12 @@ module _ {X : Type 0} (from : List Line → List Line → List X) where
         )
 
     -- of the first lines, of which none is the end, and then of the others
-    pub first-split : ((before xs ys : List Line) → from before (xs ++ ys) ≡ from before xs ++ from (before ++ xs) ys)
-        → refusal_in rules (take n (lines r)) ≡ None
-        → from [] (good rules r) ≡ from [] (take n (lines r))
-        ++ from (take n (lines r)) (good_from rules (take n (lines r)) (drop n (lines r)))
-    first-split append none =
+    pub first-split : refusal_in rules (take n (lines r)) ≡ None
+        → rulings_good rules r ≡ rulings_first rules n r
+        ++ rulings rules (take n (lines r)) (good_from rules (take n (lines r)) (drop n (lines r)))
+    first-split none =
         let xs = take n (lines r) in
         let ys = drop n (lines r) in
-        ap (λ z. from [] (good_from rules [] z)) (sym (take-append-drop n (lines r)))
-        ∙ (ap (λ z. from [] z) (good-append rules [] xs ys none) ∙ append [] xs (good_from rules xs ys))
+        ap (λ z. rulings rules [] (good_from rules [] z)) (sym (take-append-drop n (lines r)))
+        ∙ (ap (rulings rules []) (good-append rules [] xs ys none)
+        ∙ rulings-append rules [] xs (good_from rules xs ys))

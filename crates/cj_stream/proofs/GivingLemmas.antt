@@ -1,12 +1,13 @@
 -- Pieces that were given one after another, to an engine or to a reader of lines, until it ended.
-use Rattle.cj_stream.proofs.Common.{Delivers, End, Ends, EngineState, Err, Fed, Feeds, IsFinished, List, None, Notes, Ok, Report, Rules, SinkLaw, StandsFor, TookWhole, [], ap, append-nil, append_assoc, arith, closed, given_after, in_pieces, joined, judged, kept_from, length, lines_of, peaks_of, refl, refusal_in, reported_from, rules_of, stretch, sym, take, with_sink, ℕ, ◌++◌, ◌+◌, ◌∙◌, ◌≡◌, ◌≤◌}
+use Rattle.cj_stream.proofs.Common.{Delivers, End, Ends, EngineState, Err, Fed, Feeds, IsFinished, List, None, Notes, Ok, Report, Rules, SinkLaw, StandsFor, TookWhole, [], ap, append-nil, append_assoc, arith, closed, given_after, in_pieces, joined, judged, length, lines_of, peaks_of, refl, refusal_in, rules_of, rulings_first, stretch, sym, take, with_sink, ℕ, ◌++◌, ◌+◌, ◌∙◌, ◌≡◌, ◌≤◌}
 use Rattle.cj_stream.specs.declared.pieces.PiecesOutcome.{PiecesOutcome}
 use Rattle.cj_stream.proofs.CutLemmas.{TookWhole-left, EndsAt-told, EndsAt-concludes}
 use Rattle.cj_stream.proofs.EngineLemmas.{Going-reads}
 use Rattle.cj_stream.proofs.JoinedLemmas.{joined-all}
 use Rattle.cj_stream.proofs.FirstLemmas.{first-either, first-same}
-use Rattle.cj_stream.proofs.NoteLemmas.{Notes-none, Notes-then, Notes-over}
+use Rattle.cj_stream.proofs.NoteLemmas.{Notes-none}
 use Rattle.cj_stream.proofs.RunLemmas.{Delivers-join, Ends-finished, Ends-fed, told-not_complete}
+use Rattle.cj_stream.proofs.TookLemmas.{More-none, More-over, More-then, over-kept, over-reported}
 
 -- after the first lines of a stream, so many, which are those of p
 module _ {S N : Type 0} (law : SinkLaw S) (notes : N → Report → N → Type 0) (rules : Rules) (p : List ℕ) (first : ℕ)
@@ -35,8 +36,12 @@ module _ {S N : Type 0} (law : SinkLaw S) (notes : N → Report → N → Type 0
     going = going;
     under = under;
     stands = rw (append-nil p) st;
-    took = record { added = []; middle = s; kept = rw none (sym (append-nil _)); took = refl; fault = refl };
-    noted = Notes-none notes rules _ first (lines_of e) n n none refl;
+    took = record {
+      middle = s;
+      took = More-none law.takes over-kept _ _ s s (ap (λ k. rulings_first rules k (p ++ [])) none) refl;
+      fault = refl;
+    };
+    noted = Notes-none notes rules (p ++ []) first (lines_of e) n n none refl;
   }
 
   module _ {k : ℕ} {e : EngineState} {s t : S} {n m : N} (given : IsGiven k e s t n m) where
@@ -57,13 +62,20 @@ module _ {S N : Type 0} (law : SinkLaw S) (notes : N → Report → N → Type 0
       read : lines_of e ≡ length (closed (p ++ joined (take k pieces)))
       read = (given.stands.going given.going).0.lines
 
+      -- of the lines so far the same is said
+      start : rulings_first rules first (p ++ joined (take (k + 1) pieces))
+          ≡ rulings_first rules first (p ++ joined (take k pieces))
+      start = first-either rules first p (joined (take (k + 1) pieces)) (joined (take k pieces)) given.behind
+
+      same : rulings_first rules (lines_of e) (p ++ joined (take (k + 1) pieces))
+          ≡ rulings_first rules (lines_of e) (p ++ joined (take k pieces))
+      same = let z = first-same rules (lines_of e) (p ++ joined (take k pieces)) piece read in rw text at z
+
       noted : Notes notes (stretch rules (p ++ joined (take (k + 1) pieces)) first (lines_of f)) n l
       noted =
           let z = reports (p ++ joined (take k pieces)) given.stands given.going in
-          let same = first-same (reported_from rules) (lines_of e) (p ++ joined (take k pieces)) piece read in
-          let before = Notes-over notes rules (first-either (reported_from rules) first p _ _ given.behind)
-          (rw text at same) given.noted in
-          Notes-then notes rules before (rw (text, given.under) at z)
+          More-then notes over-reported (More-over notes over-reported start same given.noted)
+          (rw (text, given.under) at z)
 
       pub Given-next : Feeds law piece (with_sink e t) (Ok tt) (with_sink f u) → IsGiven (k + 1) f s u n l
       Given-next feeds = record {
@@ -73,9 +85,7 @@ module _ {S N : Type 0} (law : SinkLaw S) (notes : N → Report → N → Type 0
         stands = let z = feeds.stands (p ++ joined (take k pieces)) given.stands in rw (given.going, text) at z;
         took =
             let z = feeds.sink (p ++ joined (take k pieces)) given.stands given.going in
-            let same = first-same (kept_from rules) (lines_of e) (p ++ joined (take k pieces)) piece read in
-            Delivers-join (first-either (kept_from rules) first p _ _ given.behind) (rw text at same) given.took
-            (rw (text, given.under, feeds.unended) at z);
+            Delivers-join start same given.took (rw (text, given.under, feeds.unended) at z);
         noted = noted;
       }
 
@@ -155,6 +165,6 @@ module _ {S N : Type 0} (law : SinkLaw S) (notes : N → Report → N → Type 0
               (rw (same, given.under, finished.ended) at z);
           noted =
               let z = reports q given.stands given.going in
-              let w = Notes-then notes rules given.noted (rw given.under at z) in
+              let w = More-then notes over-reported given.noted (rw given.under at z) in
               rw same at w;
         })

@@ -1,5 +1,5 @@
 -- The good lines of a text, and what is kept of them.
-use Rattle.cj_stream.proofs.Common.{Complete, End, Line, List, None, Option, Reason, Refused, Rules, Some, [], arith, drop, ending, ending_of, good, good_from, is_kept, item_after, kept_from, length, lines, refl, refusal_in, slice_get, suc, true, unwrap_or, verdict, zero, ℕ, ◌++◌, ◌+◌, ◌∷◌, ◌≡◌}
+use Rattle.cj_stream.proofs.Common.{Complete, End, Line, List, None, Option, Reason, Refused, Rules, Some, [], arith, drop, ending, ending_of, good, good_from, is_kept, length, lines, refl, refusal_in, ruling_after, rulings, slice_get, suc, true, unwrap_or, verdict, zero, ℕ, ◌++◌, ◌+◌, ◌∷◌, ◌≡◌}
 use Rattle.cj_stream.proofs.RulingLemmas.{good-all, refusal-good, refusal-kind}
 
 pub some_of : (o : Option End) (m place : ℕ) (reason : Reason) → unwrap_or o Complete ≡ Refused m place reason
@@ -44,6 +44,6 @@ drop-next (x ∷ ls) (suc n) l h = drop-next ls n l h
 -- a line that is kept is good
 pub kept-head : (rules : Rules) (before : List Line) (l : Line) (rest : List Line)
     → is_kept (verdict rules before l.content) ≡ true
-    → kept_from rules before (good_from rules before (l ∷ rest)) ≡ item_after rules before l ∷ kept_from rules
+    → rulings rules before (good_from rules before (l ∷ rest)) ≡ ruling_after rules before l ∷ rulings rules
     (before ++ l ∷ []) (good_from rules (before ++ l ∷ []) rest)
 kept-head rules before l rest h = grind arith

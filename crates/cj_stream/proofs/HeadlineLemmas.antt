@@ -140,7 +140,7 @@ module _ {N : Type 0} (notes : N → Report → N → Type 0) (a b : N) (rules :
           (λ h. absurd (refusal-not_complete number place reason h))
       go (inr refused) =
           let more = refused-more rules r rest (Refused number place reason) refused in
-          told (Refused number place reason) old new rest (sym more.0) (rw more.1 w) (rw more.2 noted) c
+          told (Refused number place reason) old new rest (sym more.0) (rw more.1 w) (rw more.1 noted) c
           (refusal-not_memory number place reason)
           (λ h. absurd (refusal-not_complete number place reason h))
   ended WriteFault old new ends exact w noted c rest lacks all u =

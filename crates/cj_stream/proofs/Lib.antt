@@ -59,5 +59,6 @@ pub mod TakingLemmas
 pub mod TallyLemmas
 pub mod TallyPartsLemmas
 pub mod TallySinkLemmas
+pub mod TookLemmas
 pub mod VerdictLemmas
 pub mod WholeCounts

@@ -1,79 +1,93 @@
--- Pieces for a reader of lines, added up.
-use Rattle.cj_stream.proofs.Common.{Complete, Counts, Delivers, End, Ends, IsUnread, Item, LeavesNext, LineEnd, List, Memory, None, Option, Peaks, PutsPieces, Refused, Rules, SinkLaw, Some, Took, TookFront, TookWhole, WriteFault, [], ap, append_assoc, arith, begun, closed, drop-append_seam, ended_line, ending, given_after, good, in_pieces, inl, item_after, joined, judged, kept, kept_first, kept_from, last_line, length, line_end, lines, map, prefixes, refl, refusal_in, stretch, subst, sym, take, take-append-le, whole, writes_law, ℕ, ◌++◌, ◌+◌, ◌∙◌, ◌∷◌, ◌≡◌, ◌≤◌, ◌⊎◌}
+-- Pieces for a reader of lines, added up: what a sink took of them, and a sink of reports.
+use Rattle.cj_stream.proofs.Common.{Complete, Counts, Delivers, End, Ends, IsUnread, Item, LeavesNext, LineEnd, List, Memory, None, Notes, Option, Peaks, PutsPieces, Refused, Report, Rules, Ruling, SinkLaw, Some, Took, TookFront, TookOf, TookWhole, WriteFault, [], ap, append_assoc, arith, begun, closed, drop, ended_line, ending, given_after, good, in_pieces, inl, joined, judged, kept, kept_of, last_line, length, line_end, lines, map, prefixes, refl, refusal_in, rulings, rulings_first, rulings_good, stretch, subst, sym, take, take-append-le, whole, writes_law, ℕ, ◌++◌, ◌+◌, ◌∙◌, ◌≡◌, ◌≤◌, ◌⊎◌}
 use Rattle.cj_stream.specs.declared.line_pieces.LinesOutcome.{LinesOutcome}
 use Rattle.cj_stream.specs.declared.ending.LineEnd.TheVariants.{Complete as LineComplete, Refused as LineRefused, WriteFault as LineWriteFault}
-use Rattle.cj_stream.specs.LinePieces.{kept_after, PutsLines, CopiesLines, later_pieces}
+use Rattle.cj_stream.specs.LinePieces.{kept_after, PutsLines, NotesLines, CopiesLines, later_pieces}
 use Rattle.cj_stream.proofs.CutLemmas.{given-told}
-use Rattle.cj_stream.proofs.FirstLemmas.{first-either, first-good, first-same, first-split, first-whole}
+use Rattle.cj_stream.proofs.FirstLemmas.{first-either, first-same, first-split, first-whole}
 use Rattle.cj_stream.proofs.IsLinesLemmas.{lines-whole}
 use Rattle.cj_stream.proofs.JoinedLemmas.{joined-next}
 use Rattle.cj_stream.proofs.LineLemmas.{closed-grows, lines-cut}
-use Rattle.cj_stream.proofs.OutputLemmas.{Took-appends, kept-next_line, writes_part, front-bytes, next-bytes}
-use Rattle.cj_stream.proofs.PieceLemmas.{Took-append}
+use Rattle.cj_stream.proofs.OutputLemmas.{Took-appends, kept-next_line, next-left, writes_part, front-bytes, next-bytes}
 use Rattle.cj_stream.proofs.ReadingLemmas.{length-map_lines}
 use Rattle.cj_stream.proofs.RunLemmas.{Delivers-join}
-use Rattle.cj_stream.proofs.RulingLemmas.{kept-append}
+use Rattle.cj_stream.proofs.TookLemmas.{Distributes, More-over, after-first, front-took, over-kept, over-reported}
+use Rattle.cj_stream.proofs.TookLemmas.{took-after, two-took}
 
-module _ {S : Type 0} (law : SinkLaw S) (rules : Rules) (p : List ℕ) (n : ℕ) (first : n ≡ length (closed p)) (s t : S)
-  where
-    after-kept : (x : List ℕ) (xs : List Item) → kept rules (p ++ x) ≡ kept_first rules n (p ++ x) ++ xs
-        → kept_after rules n (p ++ x) ≡ xs
-    after-kept x xs h = rw h (drop-append_seam (kept_first rules n (p ++ x)) xs)
+module _ (rules : Rules) (p : List ℕ) (n : ℕ) (first : n ≡ length (closed p)) where
+  -- the first lines are as much of its whole lines
+  whole-taken : (x : List ℕ) → rulings_first rules n (whole (p ++ x)) ≡ rulings_first rules n (p ++ x)
+  whole-taken x =
+      let cs = map ended_line (closed (p ++ x)) in
+      let few : n ≤ length cs = omega (arith, first, closed-grows p x, length-map_lines (closed (p ++ x))) in
+      let same : take n (lines (whole (p ++ x))) ≡ take n (lines (p ++ x)) =
+      ap (λ z. take n z) (lines-whole (p ++ x))
+      ∙ (sym (take-append-le n cs (last_line (begun (p ++ x))) few) ∙ ap (λ z. take n z) (sym (lines-cut (p ++ x)))) in
+      ap (rulings rules []) same
 
-    -- the first lines are as much of its whole lines
-    whole-taken : (x : List ℕ) → take n (lines (whole (p ++ x))) ≡ take n (lines (p ++ x))
-    whole-taken x =
-        let cs = map ended_line (closed (p ++ x)) in
-        let few : n ≤ length cs = omega (arith, first, closed-grows p x, length-map_lines (closed (p ++ x))) in
-        ap (λ z. take n z) (lines-whole (p ++ x))
-        ∙ (sym (take-append-le n cs (last_line (begun (p ++ x))) few) ∙ ap (λ z. take n z) (sym (lines-cut (p ++ x))))
+  -- the lines of the pieces that were wholly taken, when the next one is given
+  pieces-same : (pieces : List (List ℕ)) (k : ℕ)
+      → rulings_first rules (length (closed (p ++ joined (take k pieces)))) (p ++ joined (take (k + 1) pieces))
+      ≡ rulings_first rules (length (closed (p ++ joined (take k pieces)))) (p ++ joined (take k pieces))
+  pieces-same pieces k =
+      let next = joined-next k pieces in
+      let count = length (closed (p ++ joined (take k pieces))) in
+      let text : p ++ joined (take (k + 1) pieces) ≡ (p ++ joined (take k pieces)) ++ next.0 = ap (λ z. p ++ z) next.1
+      ∙ sym (append_assoc p (joined (take k pieces)) next.0) in
+      ap (rulings_first rules count) text ∙ first-same rules count (p ++ joined (take k pieces)) next.0 refl
 
-    -- what is kept of whole lines after them
-    whole-kept : (x : List ℕ) (xs : List Item) → refusal_in rules (lines (whole (p ++ x))) ≡ None
-        → kept_first rules (length (closed (p ++ x))) (p ++ x) ≡ kept_first rules n (p ++ x) ++ xs
-        → kept_after rules n (whole (p ++ x)) ≡ xs
-    whole-kept x xs good h =
+  -- what a sink took after the first lines
+  module _ {S X : Type 0} (step : S → X → S → Type 0) {f : List Ruling → List X} (over : Distributes f) where
+    -- all of it, of a stream with the same handled lines as these bytes
+    all-taken : (x y : List ℕ) (m : ℕ) (s t : S) → m ≡ length (good rules (p ++ x))
+        → good rules (p ++ y) ≡ good rules (p ++ x) → TookOf step f (stretch rules (p ++ x) n m) s t
+        → Took step s (drop (length (f (rulings_first rules n (p ++ y)))) (f (rulings_good rules (p ++ y)))) t
+    all-taken x y m s t all same took =
+        rw (first-either rules n p y x first, same) (took-after step over rules (p ++ x) n m s t all took)
+
+    -- of the whole lines
+    whole-after : (x : List ℕ) (ds : List Ruling) → refusal_in rules (lines (whole (p ++ x))) ≡ None
+        → rulings_first rules (length (closed (p ++ x))) (p ++ x) ≡ rulings_first rules n (p ++ x) ++ ds
+        → drop (length (f (rulings_first rules n (whole (p ++ x))))) (f (rulings_good rules (whole (p ++ x)))) ≡ f ds
+    whole-after x ds good h =
         let all : length (closed (p ++ x)) ≡ length (lines (whole (p ++ x))) =
         sym (ap length (lines-whole (p ++ x)) ∙ length-map_lines (closed (p ++ x))) in
-        let same : kept_first rules n (whole (p ++ x)) ≡ kept_first rules n (p ++ x) =
-        ap (λ z. kept_from rules [] z) (whole-taken x) in
-        let e : kept rules (whole (p ++ x)) ≡ kept_first rules n (whole (p ++ x)) ++ xs =
-        sym (first-whole (kept_from rules) rules (length (closed (p ++ x))) (p ++ x) good all)
-        ∙ (h ∙ ap (λ z. z ++ xs) (sym same)) in
-        rw e (drop-append_seam (kept_first rules n (whole (p ++ x))) xs)
+        after-first step over rules (whole (p ++ x)) n ds
+        (sym (first-whole rules (length (closed (p ++ x))) (p ++ x) good all)
+        ∙ (h ∙ ap (λ z. z ++ ds) (sym (whole-taken x))))
 
-    -- the lines of the pieces that were wholly taken, when the next one is given
-    pieces-same : (pieces : List (List ℕ)) (k : ℕ)
-        → kept_first rules (length (closed (p ++ joined (take k pieces)))) (p ++ joined (take (k + 1) pieces))
-        ≡ kept_first rules (length (closed (p ++ joined (take k pieces)))) (p ++ joined (take k pieces))
-    pieces-same pieces k =
-        let next = joined-next k pieces in
-        let text : p ++ joined (take (k + 1) pieces) ≡ (p ++ joined (take k pieces)) ++ next.0 = ap (λ z. p ++ z) next.1
-        ∙ sym (append_assoc p (joined (take k pieces)) next.0) in
-        ap (λ z. kept_first rules (length (closed (p ++ joined (take k pieces)))) z) text
-        ∙ first-same (kept_from rules) (length (closed (p ++ joined (take k pieces)))) (p ++ joined (take k pieces))
-        next.0 refl
+  -- what was noted of pieces, by the end
+  pub lines-noted : {N : Type 0} (notes : N → Report → N → Type 0) (a b : N) (pieces : List (List ℕ)) (k m : ℕ)
+      → refusal_in rules (take m (lines (p ++ joined (take (k + 1) pieces)))) ≡ None
+      → Notes notes (stretch rules (p ++ joined (take (k + 1) pieces)) n m) a b → (e : LineEnd) (peaks : Peaks)
+      → Ends rules (p ++ joined (take (k + 1) pieces)) m (joined (take (k + 1) pieces) ≡ joined pieces) (line_end e)
+      → NotesLines notes (later_pieces rules p pieces n) (record { taken = k; peaks = peaks; ended = e }) a b
+  lines-noted notes a b pieces k m none h LineComplete peaks ends = record {
+    noted = λ _. all-taken notes over-reported (joined (take (k + 1) pieces)) (joined pieces) m a b ends.1
+        (given-told rules p pieces k Complete (inl ends.2) ends.0).1 h;
+    fault = λ z. absurd (cc z);
+  }
+  lines-noted notes a b pieces k m none h (LineRefused line place reason) peaks ends = record {
+    noted = λ _. all-taken notes over-reported (joined (take (k + 1) pieces)) (joined pieces) m a b ends.1
+        (given-told rules p pieces k (Refused line place reason) ends.2 ends.0).1 h;
+    fault = λ z. absurd (cc z);
+  }
+  lines-noted notes a b pieces k m none h LineWriteFault peaks ends =
+      let text = p ++ joined (take (k + 1) pieces) in
+      record {
+        noted = λ z. absurd (z refl);
+        fault = λ _. front-took notes over-reported rules text n (λ others x y. y ≡ x) m _
+            (first-split rules m text none) b b refl a h;
+      }
 
+  module _ {S : Type 0} (law : SinkLaw S) (s t : S) where
     -- what a sink took of pieces, and at the end, by the lines
     pub Delivers-whole : (pieces : List (List ℕ)) (k m : ℕ) (e : End)
         → TookWhole law (given_after p n (in_pieces rules pieces k) m) s t e
         → Delivers law (stretch rules (p ++ joined (take (k + 1) pieces)) n m) s t (Some e)
     Delivers-whole pieces k m e w =
-        Delivers-join
-        (first-either (kept_from rules) n p (joined (take (k + 1) pieces)) (joined (take k pieces)) first)
-        (pieces-same pieces k) w.taken
-        w.after
-
-    -- all that is kept after them was taken, of a stream of which as much is kept as of these bytes
-    took-after : (x y : List ℕ) (m : ℕ) (e : End) (d : Delivers law (stretch rules (p ++ x) n m) s t (Some e))
-        → t ≡ d.middle → m ≡ length (good rules (p ++ x))
-        → kept rules (p ++ y) ≡ kept rules (p ++ x) → Took law.takes s (kept_after rules n (p ++ y)) t
-    took-after x y m e d still all same =
-        let here : kept rules (p ++ x) ≡ kept_first rules n (p ++ x) ++ d.added =
-        sym (first-good (kept_from rules) rules m (p ++ x) all) ∙ d.kept in
-        let there : kept rules (p ++ y) ≡ kept_first rules n (p ++ y) ++ d.added =
-        same ∙ (here ∙ ap (λ z. z ++ d.added) (first-either (kept_from rules) n p x y first)) in
-        rw (after-kept y d.added there, still) d.took
+        Delivers-join (first-either rules n p (joined (take (k + 1) pieces)) (joined (take k pieces)) first)
+        (pieces-same pieces k) w.taken w.after
 
     module _ (pieces : List (List ℕ)) (k m : ℕ) where
       abbrev given : List ℕ
@@ -87,38 +101,28 @@ module _ {S : Type 0} (law : SinkLaw S) (rules : Rules) (p : List ℕ) (n : ℕ)
           → (ending rules (p ++ joined pieces) ≡ e) × Took law.takes s (kept_after rules n (p ++ joined pieces)) t
       all-put e told ends all d still =
           let same = given-told rules p pieces k e told ends in
-          (same.0, took-after given (joined pieces) m e d still all same.1)
+          (same.0, rw still (all-taken law.takes over-kept given (joined pieces) m s d.middle all same.1 d.took))
 
       -- after a fault, a prefix of what is kept of the pieces that were given was taken, with all of the whole lines of
       -- those that were wholly taken
-      pub front-put : (then : List Item → S → S → Type 0) (others : List Item) (e : End)
+      pub front-put : (then : List Item → S → S → Type 0) (rest : List Ruling) (e : End)
           (w : TookWhole law (given_after p n (in_pieces rules pieces k) m) s t e)
-          → kept rules (p ++ given) ≡ kept_first rules m (p ++ given) ++ others → then others w.after.middle t
+          → rulings_good rules (p ++ given) ≡ rulings_first rules m (p ++ given) ++ rest
+          → then (kept_of rest) w.after.middle t
           → TookFront law.takes then (prefixes (kept_after rules n (p ++ given))
           (kept_after rules n (whole (p ++ joined (take k pieces))))) s t
-      front-put then others e w next left =
-          let front : kept_first rules m (p ++ given) ≡ kept_first rules n (p ++ given)
-          ++ (w.taken.added ++ w.after.added) =
-          w.after.kept ∙ (ap (λ z. z ++ w.after.added)
-          (pieces-same pieces k ∙ (w.taken.kept
-          ∙ ap (λ z. z ++ w.taken.added) (first-either (kept_from rules) n p (joined (take k pieces)) given first)))
-          ∙ append_assoc (kept_first rules n (p ++ given)) w.taken.added w.after.added) in
-          let all : kept rules (p ++ given) ≡ kept_first rules n (p ++ given)
-          ++ ((w.taken.added ++ w.after.added) ++ others) =
-          next ∙ (ap (λ z. z ++ others) front
-          ∙ append_assoc (kept_first rules n (p ++ given)) (w.taken.added ++ w.after.added) others) in
-          let first_kept = whole-kept (joined (take k pieces)) w.taken.added w.good w.taken.kept in
-          let before = subst (λ z. Took law.takes s w.taken.added z) (sym w.taken.fault) w.taken.took in
-          record {
-            more = w.after.added;
-            others = others;
-            middle = w.after.middle;
-            front = after-kept given ((w.taken.added ++ w.after.added) ++ others) all
-                ∙ ap (λ z. (z ++ w.after.added) ++ others) (sym first_kept);
-            took = subst (λ z. Took law.takes s (z ++ w.after.added) w.after.middle) (sym first_kept)
-                (Took-append law.takes s w.middle w.after.middle w.taken.added w.after.added before w.after.took);
-            left = left;
-          }
+      front-put then rest e w next left =
+          let before = joined (take k pieces) in
+          let i = length (closed (p ++ before)) in
+          let same = first-either rules n p given before first in
+          let still : w.middle ≡ w.taken.middle = w.taken.fault in
+          let x : TookOf law.takes kept_of (stretch rules (p ++ given) n i) s w.middle =
+          rw still (More-over law.takes over-kept same (pieces-same pieces k) w.taken.took) in
+          let whole-kept = whole-after law.takes over-kept before x.done w.good
+          (sym (pieces-same pieces k) ∙ (x.grown ∙ ap (λ z. z ++ x.done) same)) in
+          subst (λ z. TookFront law.takes then (prefixes (kept_after rules n (p ++ given)) z) s t) (sym whole-kept)
+          (two-took law.takes over-kept rules (p ++ given) n then m rest next w.after.middle t left i s w.middle x
+          w.after.took)
 
       module _ {features refusals : ℕ} (counts : Counts rules (p ++ given) m features refusals) where
         -- a write fault leaves what the step of the next line may
@@ -127,9 +131,9 @@ module _ {S : Type 0} (law : SinkLaw S) (rules : Rules) (p : List ℕ) (n : ℕ)
             (kept_after rules n (whole (p ++ joined (take k pieces))))) s t
         fault-put w =
             let fault = w.after.fault in
-            let next = kept-next_line rules m (p ++ given) fault.0 counts.good fault.1 fault.2 in
-            front-put (LeavesNext law.leaves) (item_after rules (take m (lines (p ++ given))) fault.0 ∷ next.0)
-            WriteFault w next.1 fault.3
+            let next = kept-next_line rules m (p ++ given) fault.0 counts.counted.good fault.1 fault.2 in
+            front-put (LeavesNext law.leaves) _ WriteFault w next.1
+            (next-left law rules (take m (lines (p ++ given))) fault.0 next.0 w.after.middle t fault.2 fault.3)
 
         -- what a sink took of pieces, by the end
         pub lines-put : (e : LineEnd) (peaks : Peaks) → Ends rules (p ++ given) m (given ≡ joined pieces) (line_end e)
@@ -154,7 +158,7 @@ module _ {S : Type 0} (law : SinkLaw S) (rules : Rules) (pieces : List (List ℕ
       → ending rules (joined (take (n + 1) pieces)) ≡ e → count ≡ length (good rules (joined (take (n + 1) pieces)))
       → (d : Delivers law (stretch rules (joined (take (n + 1) pieces)) 0 count) s t (Some e)) → t ≡ d.middle
       → (ending rules (joined pieces) ≡ e) × Took law.takes s (kept rules (joined pieces)) t
-  all-pieces e told ends all d still = all-put law rules [] 0 refl s t pieces n count e told ends all d still
+  all-pieces e told ends all d still = all-put rules [] 0 refl law s t pieces n count e told ends all d still
 
   pub PutsPieces-ends : (e : End)
       → Ends rules (joined (take (n + 1) pieces)) count (joined (take (n + 1) pieces) ≡ joined pieces) e
@@ -164,11 +168,10 @@ module _ {S : Type 0} (law : SinkLaw S) (rules : Rules) (pieces : List (List ℕ
   PutsPieces-ends Complete ends d w u = all-pieces Complete (inl ends.2) ends.0 ends.1 d d.fault
   PutsPieces-ends (Refused number place reason) ends d w u =
       all-pieces (Refused number place reason) ends.2 ends.0 ends.1 d d.fault
-  PutsPieces-ends WriteFault ends d w u = fault-put law rules [] 0 refl s t pieces n count counts w
+  PutsPieces-ends WriteFault ends d w u = fault-put rules [] 0 refl law s t pieces n count counts w
   PutsPieces-ends Memory ends d w u =
-      front-put law rules [] 0 refl s t pieces n count (λ others a b. b ≡ a) _ Memory w
-      (first-split (kept_from rules) rules count (joined (take (n + 1) pieces)) (kept-append rules) counts.good)
-      w.after.fault
+      front-put rules [] 0 refl law s t pieces n count (λ others a b. b ≡ a) _ Memory w
+      (first-split rules count (joined (take (n + 1) pieces)) counts.counted.good) w.after.fault
   PutsPieces-ends other ends d w u = absurd u
 
 -- a writer that was put the items of pieces

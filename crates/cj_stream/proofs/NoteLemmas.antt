@@ -1,15 +1,17 @@
 -- What a sink of reports has noted of a text, line by line and call by call.
-use Rattle.cj_stream.proofs.Common.{Bool, Collects, Complete, End, Ends, Err, Item, JudgedAs, Line, LineEnd, List, Memory, NoLf, None, Notes, NotesPieces, NotesRun, Ok, OnErr, OnOk, Peaks, ReadFault, ReadLimit, Reading, Reads, Refused, Report, Result, Rules, Run, RunsNoting, Settles, SinkLaw, Stores, Took, Verdict, WriteFault, [], ap, append-nil, append_assoc, arith, begun, closed, drop, drop-append_seam, ended_line, false, good, good_from, in_pieces, inl, joined, last_line, length, length-append, line_end, lines, map, nat_tests, refl, refusal_in, reported, reported_first, reported_from, reports_of, stream_of, stretch, subst, suc, sym, take, take_all, told_verdict, true, verdict, with_sink, zero, ℕ, ◌++◌, ◌+◌, ◌<◌, ◌∙◌, ◌∷◌, ◌≡◌, ◌≤◌}
-use Rattle.cj_stream.specs.declared.ending.LineEnd.TheVariants.{Complete as LineComplete, Refused as LineRefused, WriteFault as LineWriteFault}
-use Rattle.cj_stream.specs.LinePieces.{reported_after, NotesLines, later_pieces}
+use Rattle.cj_stream.proofs.Common.{Account, Bool, Collects, Complete, Delivers, End, Ends, EngineState, Err, Faults, Item, JudgedAs, Line, List, Memory, NoLf, None, Notes, NotesPieces, NotesRun, Ok, OnErr, OnOk, ReadFault, ReadLimit, Reading, Reads, Refused, Report, Result, Rules, Run, RunsNoting, Settles, SinkLaw, Some, StandsFor, Stores, Took, Verdict, WriteFault, [], ap, append-nil, append_assoc, arith, begun, closed, ended_line, false, good, in_pieces, joined, length, length-append, lines, lines_of, map, nat_tests, outcome_of, refl, refusal_in, reported, reported_first, reported_from, reported_of, reports_of, rules_of, ruling_after, rulings_first, stream_of, stretch, subst, suc, sym, take, told_verdict, true, up_to, verdict, with_sink, zero, ℕ, ◌++◌, ◌+◌, ◌<◌, ◌∙◌, ◌∷◌, ◌≡◌, ◌≤◌}
 use Rattle.cj_stream.proofs.CutLemmas.{given-told}
 use Rattle.cj_stream.proofs.EngineLemmas.{Counts-front}
-use Rattle.cj_stream.proofs.FirstLemmas.{lines-front, first-either, first-good, first-same, first-split, first-whole}
-use Rattle.cj_stream.proofs.PieceLemmas.{Took-append}
+use Rattle.cj_stream.proofs.FinishLemmas.{take-closed, take-last, unended}
+use Rattle.cj_stream.proofs.FirstLemmas.{lines-front, first-split}
+use Rattle.cj_stream.proofs.OutputLemmas.{Runs-told}
+use Rattle.cj_stream.proofs.RunLemmas.{Delivers-ended}
 use Rattle.cj_stream.proofs.ReadingLemmas.{length-map_lines, map_lines-append, next-verdict, told-verdict, Reads-stored}
-use Rattle.cj_stream.proofs.LineLemmas.{closed-lf, lines-cut}
+use Rattle.cj_stream.proofs.LineLemmas.{closed-lf}
 use Rattle.cj_stream.proofs.StaysLemmas.{settled-err}
-use Rattle.cj_stream.proofs.RulingLemmas.{reported-append}
+use Rattle.cj_stream.proofs.TookLemmas.{More-all, More-line, More-none, More-then, front-took, over-reported}
+use Rattle.cj_stream.proofs.TookLemmas.{took-good, took-whole}
+use Rattle.cj_stream.specs.Run.{Runs}
 
 -- ---- what is reported of the first line
 
@@ -28,38 +30,18 @@ first-unreported rules (suc zero) q few h =
 
 module _ {N : Type 0} (notes : N → Report → N → Type 0) (rules : Rules) where
   pub Notes-none : (q : List ℕ) (i j : ℕ) (n m : N) → j ≡ i → m ≡ n → Notes notes (stretch rules q i j) n m
-  Notes-none q i j n m e f =
-      rw (e, f) (record { added = []; told = sym (append-nil (reported_first rules i q)); noted = refl })
-
-  pub Notes-then : {q : List ℕ} {i j k : ℕ} {n m o : N} → Notes notes (stretch rules q i j) n m
-      → Notes notes (stretch rules q j k) m o → Notes notes (stretch rules q i k) n o
-  Notes-then {q} {i} {j} {k} {n} {m} {o} a b = record {
-    added = a.added ++ b.added;
-    told = b.told ∙ (ap (λ z. z ++ b.added) a.told ∙ append_assoc (reported_first rules i q) a.added b.added);
-    noted = Took-append notes n m o a.added b.added a.noted b.noted;
-  }
-
-  -- of another text with the same lines
-  pub Notes-over : {q r : List ℕ} {i j : ℕ} {n m : N} → reported_first rules i r ≡ reported_first rules i q
-      → reported_first rules j r ≡ reported_first rules j q
-      → Notes notes (stretch rules q i j) n m → Notes notes (stretch rules r i j) n m
-  Notes-over e f a = record { added = a.added; told = f ∙ (a.told ∙ ap (λ z. z ++ a.added) (sym e)); noted = a.noted }
-
-  -- of a text that goes on
-  pub Notes-more : (r more : List ℕ) (k : ℕ) (n m : N) → k ≡ length (closed r) → Notes notes (stretch rules r 0 k) n m
-      → Notes notes (stretch rules (r ++ more) 0 k) n m
-  Notes-more r more k n m e a = Notes-over refl (first-same (reported_from rules) k r more e) a
+  Notes-none q i j n m e same =
+      More-none notes over-reported _ _ n m (ap (λ k. rulings_first rules k q) e) same
 
   -- of a header
   pub Notes-first : (q : List ℕ) (i k : ℕ) (n m : N) → i ≡ 0 → k ≤ 1 → refusal_in rules (take k (lines q)) ≡ None
       → m ≡ n → Notes notes (stretch rules q i k) n m
   Notes-first q i k n m first few good same =
-      rw (first, same) (record { added = []; told = first-unreported rules k q few good; noted = refl })
-
-  -- what all was noted from the start
-  all-noted : (q : List ℕ) (k : ℕ) (n m : N) → (a : Notes notes (stretch rules q 0 k) n m)
-      → a.added ≡ reported_first rules k q
-  all-noted q k n m a = sym a.told
+      rw (first, same) (record {
+        done = rulings_first rules k q;
+        grown = refl;
+        took = subst (λ rs. Took notes n rs n) (sym (first-unreported rules k q few good)) refl;
+      })
 
   module _ (r : List ℕ) (at_end : Type 0) (count : ℕ) (n m : N)
       (good_first : refusal_in rules (take count (lines r)) ≡ None) (a : Notes notes (stretch rules r 0 count) n m)
@@ -67,29 +49,14 @@ module _ {N : Type 0} (notes : N → Report → N → Type 0) (rules : Rules) wh
       -- what was noted, by the end of a run
       pub NotesRun-told : (e : End) → Ends rules r count at_end e → (e ≡ Memory → count ≡ 0)
           → NotesRun notes (stream_of rules r) e n m
-      NotesRun-told ReadFault ends none =
-          rw (← first-whole (reported_from rules) rules count r ends.0 ends.1, ← all-noted r count n m a) a.noted
-      NotesRun-told ReadLimit ends none =
-          rw (← first-whole (reported_from rules) rules count r ends.0 ends.1, ← all-noted r count n m a) a.noted
+      NotesRun-told ReadFault ends none = took-whole notes over-reported rules r count n m ends.0 ends.1 a
+      NotesRun-told ReadLimit ends none = took-whole notes over-reported rules r count n m ends.0 ends.1 a
       NotesRun-told WriteFault ends none =
-          let others =
-          reported_from rules (take count (lines r))
-          (good_from rules (take count (lines r)) (drop count (lines r))) in
-          record {
-            more = a.added;
-            others = others;
-            middle = m;
-            front = first-split (reported_from rules) rules count r (reported-append rules) good_first
-                ∙ ap (λ z. z ++ others) a.told;
-            took = a.noted;
-            left = refl;
-          }
+          front-took notes over-reported rules r 0 (λ others a b. b ≡ a) count _ (first-split rules count r good_first)
+          m m refl n a
       NotesRun-told Memory ends none =
-          let nothing : a.added ≡ [] = all-noted r count n m a ∙ ap (λ k. reported_first rules k r) (none refl) in
-          let k = rw nothing at a.noted in
-          k
-      NotesRun-told other ends none =
-          rw (← first-good (reported_from rules) rules count r ends.1, ← all-noted r count n m a) a.noted
+          subst (λ k. Took notes n (reported_first rules k r) m) (none refl) (More-all notes over-reported a)
+      NotesRun-told other ends none = took-good notes over-reported rules r count n m ends.1 a
 
   -- what was noted of pieces, by the end
   pub NotesPieces-told : (pieces : List (List ℕ)) (k count : ℕ) (n m : N) (e : End)
@@ -100,65 +67,10 @@ module _ {N : Type 0} (notes : N → Report → N → Type 0) (rules : Rules) wh
   NotesPieces-told pieces k count n m Complete ends u v h = rw (← ends.2) h
   NotesPieces-told pieces k count n m (Refused number place reason) ends u v h =
       let same = given-told rules [] pieces k (Refused number place reason) ends.2 ends.0 in
-      subst (λ xs. Took notes n xs m) (sym same.2) h
+      subst (λ ls. Took notes n (reported_from rules [] ls) m) (sym same.1) h
   NotesPieces-told pieces k count n m ReadFault ends u v h = absurd (u refl)
   NotesPieces-told pieces k count n m ReadLimit ends u v h = absurd (v refl)
   NotesPieces-told pieces k count n m other ends u v h = h
-
-  -- ---- after lines that were dealt with before
-
-  module _ (p : List ℕ) (first : ℕ) (is : first ≡ length (closed p)) (a b : N) where
-    after-reported : (x : List ℕ) (xs : List Report) → reported rules (p ++ x) ≡ reported_first rules first (p ++ x)
-        ++ xs → reported_after rules first (p ++ x) ≡ xs
-    after-reported x xs h = rw h (drop-append_seam (reported_first rules first (p ++ x)) xs)
-
-    noted-after : (x y : List ℕ) (m : ℕ) (h : Notes notes (stretch rules (p ++ x) first m) a b)
-        → m ≡ length (good rules (p ++ x)) → reported rules (p ++ y) ≡ reported rules (p ++ x)
-        → Took notes a (reported_after rules first (p ++ y)) b
-    noted-after x y m h all same =
-        let here : reported rules (p ++ x) ≡ reported_first rules first (p ++ x) ++ h.added =
-        sym (first-good (reported_from rules) rules m (p ++ x) all) ∙ h.told in
-        let there : reported rules (p ++ y) ≡ reported_first rules first (p ++ y) ++ h.added =
-        same ∙ (here ∙ ap (λ z. z ++ h.added) (first-either (reported_from rules) first p x y is)) in
-        rw (after-reported y h.added there) h.noted
-
-    module _ (pieces : List (List ℕ)) (k m : ℕ)
-        (good_first : refusal_in rules (take m (lines (p ++ joined (take (k + 1) pieces)))) ≡ None)
-        (h : Notes notes (stretch rules (p ++ joined (take (k + 1) pieces)) first m) a b) where
-      pub lines-noted : (e : LineEnd) (peaks : Peaks)
-          → Ends rules (p ++ joined (take (k + 1) pieces)) m (joined (take (k + 1) pieces) ≡ joined pieces) (line_end e)
-          → NotesLines notes (later_pieces rules p pieces first) (record { taken = k; peaks = peaks; ended = e }) a b
-      lines-noted LineComplete peaks ends = record {
-        noted = λ _. noted-after (joined (take (k + 1) pieces)) (joined pieces) m h ends.1
-            (given-told rules p pieces k Complete (inl ends.2) ends.0).2;
-        fault = λ z. absurd (cc z);
-      }
-      lines-noted (LineRefused line place reason) peaks ends = record {
-        noted = λ _. noted-after (joined (take (k + 1) pieces)) (joined pieces) m h ends.1
-            (given-told rules p pieces k (Refused line place reason) ends.2 ends.0).2;
-        fault = λ z. absurd (cc z);
-      }
-      lines-noted LineWriteFault peaks ends =
-          let text = p ++ joined (take (k + 1) pieces) in
-          let others =
-          reported_from rules (take m (lines (p ++ joined (take (k + 1) pieces))))
-          (good_from rules (take m (lines (p ++ joined (take (k + 1) pieces))))
-          (drop m (lines (p ++ joined (take (k + 1) pieces))))) in
-          let all : reported rules (p ++ joined (take (k + 1) pieces))
-          ≡ reported_first rules first (p ++ joined (take (k + 1) pieces)) ++ (h.added ++ others) =
-          first-split (reported_from rules) rules m text (reported-append rules) good_first
-          ∙ (ap (λ z. z ++ others) h.told ∙ append_assoc (reported_first rules first text) h.added others) in
-          record {
-            noted = λ z. absurd (z refl);
-            fault = λ _. record {
-              more = h.added;
-              others = others;
-              middle = b;
-              front = after-reported (joined (take (k + 1) pieces)) (h.added ++ others) all;
-              took = h.noted;
-              left = refl;
-            };
-          }
 
 -- ---- one line
 
@@ -169,40 +81,24 @@ module _ {N : Type 0} (notes : N → Report → N → Type 0) where
       → Notes notes (stretch g.rules ((p ++ front) ++ rest) g.lines k) n m
       → Notes notes (stretch f.rules (p ++ (front ++ rest)) f.lines k) n m
   Notes-header f g p front rest k n m first few under reads later =
-      let good = (Counts-front g (p ++ front) rest reads).good in
+      let good = (Counts-front g (p ++ front) rest reads).counted.good in
       let now = Notes-first notes g.rules ((p ++ front) ++ rest) f.lines g.lines n n first few good refl in
-      let all = Notes-then notes g.rules now later in
+      let all = More-then notes over-reported now later in
       rw (under, append_assoc p front rest) at all
 
-  -- the reports of the lines that LF ended, and of the begun line
-  one-reported : (f : Reading) (p : List ℕ) (lf : Bool) → Reads f p
-      → reported_from f.rules [] (map ended_line (closed p) ++ record { content = begun p; lf = lf } ∷ [])
-      ≡ reported_from f.rules [] (map ended_line (closed p)) ++ reports_of (f.lines + 1) (told_verdict f)
-  one-reported f p lf reads =
-      let xs = map ended_line (closed p) in
+  -- what is reported of the begun line, by its result
+  one-noted : (f : Reading) (p : List ℕ) (lf : Bool) (n m : N) → Reads f p
+      → Took notes n (reports_of (f.lines + 1) (told_verdict f)) m
+      → Took notes n (reported_of (ruling_after f.rules (map ended_line (closed p))
+      (record { content = begun p; lf = lf }) ∷ [])) m
+  one-noted f p lf n m reads noted =
       let told : told_verdict f ≡ verdict f.rules (map ended_line (closed p)) (begun p) =
       told-verdict f (begun p) reads.begun ∙ next-verdict f p reads (begun p) in
       let at : f.lines + 1 ≡ length (map ended_line (closed p)) + 1 =
       omega (arith, reads.lines, length-map_lines (closed p)) in
-      rw (
-        told,
-        at,
-        reported-append f.rules [] xs (record { content = begun p; lf = lf } ∷ []),
-        append-nil (reports_of (length (map ended_line (closed p)) + 1)
-            (verdict f.rules (map ended_line (closed p)) (begun p))),
-      ) refl
-
-  -- these lines and the begun one are the first ones of a text
-  one-noted : (f g : Reading) (p : List ℕ) (lf : Bool) (q : List ℕ) (n m : N) → Reads f p
-      → take f.lines (lines q) ≡ map ended_line (closed p)
-      → take g.lines (lines q) ≡ map ended_line (closed p) ++ record { content = begun p; lf = lf } ∷ []
-      → Took notes n (reports_of (f.lines + 1) (told_verdict f)) m → Notes notes (stretch f.rules q f.lines g.lines) n m
-  one-noted f g p lf q n m reads front all noted = record {
-    added = reports_of (f.lines + 1) (told_verdict f);
-    told = ap (λ z. reported_from f.rules [] z) all ∙ (one-reported f p lf reads
-        ∙ ap (λ z. reported_from f.rules [] z ++ reports_of (f.lines + 1) (told_verdict f)) (sym front));
-    noted = noted;
-  }
+      let now = rw (told, at) at noted in
+      rw (append-nil (reports_of (length (map ended_line (closed p)) + 1)
+      (verdict f.rules (map ended_line (closed p)) (begun p)))) now
 
   -- a part and an LF
   pub Notes-line : (f g h : Reading) (p part more : List ℕ) (n m : N) → Reads f p → NoLf part → Stores f part g
@@ -219,27 +115,18 @@ module _ {N : Type 0} (notes : N → Report → N → Type 0) where
       ≡ map ended_line (closed (p ++ part)) ++ ended_line (begun (p ++ part)) ∷ [] =
       ap (map ended_line) (closed-lf q []) ∙ map_lines-append (closed q) (begun q ∷ []) in
       let all = lines-front h.lines (q ++ 10 ∷ []) more count ∙ ended in
-      let k = one-noted g h q true (q ++ 10 ∷ more) n m now (lines-front g.lines q (10 ∷ more) now.lines)
-      (rw (append_assoc (p ++ part) (10 ∷ []) more) at all) noted in
+      let k = More-line notes over-reported g.rules (q ++ 10 ∷ more) g.lines h.lines (map ended_line (closed q))
+      (ended_line (begun q)) n m (lines-front g.lines q (10 ∷ more) now.lines)
+      (rw (append_assoc (p ++ part) (10 ∷ []) more) at all) (one-noted g q true n m now noted) in
       rw (st.rules, st.lines, append_assoc p part (10 ∷ more)) at k
-
-  last-some : (c : List ℕ) → 0 < length c → last_line c ≡ record { content = c; lf = false } ∷ []
-  last-some [] some = absurd (omega arith)
-  last-some (b ∷ c) some = refl
 
   -- a last line
   pub Notes-last : (f g : Reading) (p : List ℕ) (n m : N) → Reads f p → 0 < length (begun p) → g.lines ≡ f.lines + 1
       → Took notes n (reports_of (f.lines + 1) (told_verdict f)) m → Notes notes (stretch f.rules p f.lines g.lines) n m
   Notes-last f g p n m reads some one noted =
-      let xs = map ended_line (closed p) in
-      let l : Line = record { content = begun p; lf = false } in
-      let few : length (xs ++ l ∷ []) ≤ g.lines =
-      omega (arith, one, reads.lines, length-map_lines (closed p), length-append xs (l ∷ [])) in
-      let front = lines-front f.lines p [] reads.lines in
-      one-noted f g p false p n m reads (rw (append-nil p) at front)
-      (ap (λ z. take g.lines z) (lines-cut p)
-      ∙ (ap (λ z. take g.lines (map ended_line (closed p) ++ z)) (last-some (begun p) some)
-      ∙ take_all g.lines (xs ++ l ∷ []) few)) noted
+      More-line notes over-reported f.rules p f.lines g.lines (map ended_line (closed p)) (unended (begun p)) n m
+      (take-closed p f.lines reads.lines) (take-last p g.lines (omega (arith, one, reads.lines)) some)
+      (one-noted f p false n m reads noted)
 
   -- what came of a last line
   pub Notes-finished : {S : Type 0} (law : SinkLaw S) (on : Bool) (v : Verdict) (i : Item) (f g : Reading) (s t : S)
@@ -255,15 +142,40 @@ module _ {N : Type 0} (notes : N → Report → N → Type 0) where
 
 -- a run by what was noted of its lines
 pub Noting-told : {N : Type 0} (notes : N → Report → N → Type 0) (run : Run) (at_end : Type 0) (n m : N)
-    → refusal_in run.rules (take run.outcome.lines (lines run.read)) ≡ None
-    → Ends run.rules run.read run.outcome.lines at_end run.outcome.ended
-    → (run.outcome.ended ≡ Memory → run.outcome.lines ≡ 0)
-    → Notes notes (stretch run.rules run.read 0 run.outcome.lines) n m
-    → RunsNoting notes run n m
-Noting-told notes run at_end n m good_first ends none a = record {
+    → Account run at_end → (run.outcome.ended ≡ Memory → run.outcome.lines ≡ 0)
+    → Notes notes (stretch run.rules run.read 0 run.outcome.lines) n m → RunsNoting notes run n m
+Noting-told notes run at_end n m account none a = record {
   reports = a;
-  noted = NotesRun-told notes run.rules run.read at_end run.outcome.lines n m good_first a run.outcome.ended ends none;
+  noted = NotesRun-told notes run.rules run.read at_end run.outcome.lines n m account.counts.counted.good a
+      run.outcome.ended account.ends none;
 }
+
+-- a run by what both sinks took of its lines
+pub Both-told : {S N : Type 0} (law : SinkLaw S) (notes : N → Report → N → Type 0) (run : Run) (at_end : Type 0)
+    (s t : S) (n m : N) → Account run at_end → (run.outcome.ended ≡ Memory → run.outcome.lines ≡ 0)
+    → Delivers law (stretch run.rules run.read 0 run.outcome.lines) s t (Some run.outcome.ended)
+    → Notes notes (stretch run.rules run.read 0 run.outcome.lines) n m
+    → Runs law run at_end s t × RunsNoting notes run n m
+Both-told law notes run at_end s t n m account none sink reports =
+    (Runs-told law run at_end s t account sink, Noting-told notes run at_end n m account none reports)
+
+-- a run that is left between two pieces, with an end that keeps the sink as it is
+pub Both-left : {S N : Type 0} (law : SinkLaw S) (notes : N → Report → N → Type 0) (e : EngineState) (rules : Rules)
+    (r : List ℕ) (at_end : Type 0) (s t : S) (n m : N) (end : End) → rules_of e ≡ rules → (end ≡ Complete → ⊥)
+    → (end ≡ Memory → ⊥) → Ends (rules_of e) r (lines_of e) at_end end
+    → ((m u : S) → u ≡ m → Faults law (up_to rules r (lines_of e)) m u (Some end)) → StandsFor e r
+    → Delivers law (stretch rules r 0 (lines_of e)) s t None → Notes notes (stretch rules r 0 (lines_of e)) n m
+    → Runs law (record { rules = rules; read = r; outcome = outcome_of e end }) at_end s t
+    × RunsNoting notes (record { rules = rules; read = r; outcome = outcome_of e end }) n m
+Both-left law notes e rules r at_end s t n m end under unended granted ends still stands sink reports =
+    Both-told law notes (record { rules = rules; read = r; outcome = outcome_of e end }) at_end s t n m
+    (record {
+      bounded = let k = stands.bounded in rw under at k;
+      exact = λ x. absurd (unended x);
+      counts = let k = stands.counts in rw under at k;
+      ends = rw under at ends;
+    })
+    (λ lacks. absurd (granted lacks)) (Delivers-ended law rules r (lines_of e) s t end still sink) reports
 
 -- a list of reports is collected one by one
 Collects-all : (xs ys : List Report) → Took Collects xs ys (xs ++ ys)
@@ -271,17 +183,14 @@ Collects-all xs [] = append-nil xs
 Collects-all xs (y ∷ ys) =
     (xs ++ y ∷ [], refl, (let k = Collects-all (xs ++ y ∷ []) ys in rw (append_assoc xs (y ∷ []) ys) at k))
 
-pub Noting-collected : (run : Run) (at_end : Type 0) → refusal_in run.rules (take run.outcome.lines (lines run.read))
-    ≡ None
-    → Ends run.rules run.read run.outcome.lines at_end run.outcome.ended
+pub Noting-collected : (run : Run) (at_end : Type 0) → Account run at_end
     → (run.outcome.ended ≡ Memory → run.outcome.lines ≡ 0)
     → RunsNoting Collects run [] (reported_first run.rules run.outcome.lines run.read)
-Noting-collected run at_end good_first ends none =
-    Noting-told Collects run at_end [] (reported_first run.rules run.outcome.lines run.read) good_first ends none
-    (record {
-      added = reported_first run.rules run.outcome.lines run.read;
-      told = refl;
-      noted = Collects-all [] (reported_first run.rules run.outcome.lines run.read);
+Noting-collected run at_end account none =
+    Noting-told Collects run at_end [] (reported_first run.rules run.outcome.lines run.read) account none (record {
+      done = rulings_first run.rules run.outcome.lines run.read;
+      grown = refl;
+      took = Collects-all [] (reported_first run.rules run.outcome.lines run.read);
     })
 
 -- what is not reported of all lines is not of the first
@@ -293,7 +202,7 @@ pub first-silent : (rules : Rules) (n : ℕ) (r : List ℕ) → reported rules r
     → refusal_in rules (take n (lines r)) ≡ None → reported_first rules n r ≡ []
 first-silent rules n r none good_first =
     empty-front (reported_first rules n r) _
-    (sym none ∙ first-split (reported_from rules) rules n r (reported-append rules) good_first)
+    (sym none ∙ (ap reported_of (first-split rules n r good_first) ∙ over-reported.both (rulings_first rules n r) _))
 
 -- a run that was refused its memory before the first read
 pub Noting-memory : {N : Type 0} (notes : N → Report → N → Type 0) (rules : Rules) (n : N)

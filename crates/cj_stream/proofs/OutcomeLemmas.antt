@@ -37,12 +37,12 @@ few-counted rules r n f k x =
     let ls = take n (lines r) in (
       omega (
         arith,
-        x.kept,
+        x.counted.kept,
         filter-short is_feature (kept_from rules [] ls),
         kept-short rules [] ls,
         length-take n (lines r),
       ),
-      omega (arith, x.refused, reported-short rules [] ls, length-take n (lines r)),
+      omega (arith, x.counted.refused, reported-short rules [] ls, length-take n (lines r)),
     )
 
 -- the number of a refused line is that after the lines that were dealt with

@@ -1,10 +1,10 @@
 -- The bytes that a writer gets in a run.
-use Rattle.cj_stream.proofs.Common.{Account, Appends, AppendsMore, AppendsPart, Complete, Counts, Delivers, End, Ends, Item, Keeps, LeavesNext, Line, List, Memory, None, Option, Puts, ReadFault, ReadLimit, Refused, Rules, Run, SinkLaw, Some, Took, TookFront, WriteFault, [], ap, arith, drop, flat_map, flat_map-append, good, good_from, is_kept, item_after, kept, kept_first, kept_from, length, lines, nat_tests, output_first, prefixes, raw_item, refl, refusal_in, slice_get, stream_of, stretch, sym, take, true, up_to, verdict, whole, writes_law, ℕ, ◌++◌, ◌∙◌, ◌∷◌, ◌≡◌}
+use Rattle.cj_stream.proofs.Common.{Account, Appends, AppendsMore, AppendsPart, Complete, Counts, Delivers, End, Ends, Item, Keeps, LeavesNext, Line, List, Memory, None, Option, Puts, ReadFault, ReadLimit, Refused, Rules, Ruling, Run, SinkLaw, Some, Took, TookFront, WriteFault, [], ap, flat_map, flat_map-append, good, good_from, is_kept, item_after, kept, kept_first, kept_of, length, lines, output_first, prefixes, raw_item, refl, refusal_in, ruling_after, rulings, rulings_first, rulings_good, slice_get, stream_of, stretch, subst, take, true, up_to, verdict, whole, writes_law, ℕ, ◌++◌, ◌∙◌, ◌∷◌, ◌≡◌}
 use Rattle.cj_stream.specs.Run.{Runs, Writes, WritesLines}
-use Rattle.cj_stream.proofs.FirstLemmas.{first-good, first-whole, first-split}
+use Rattle.cj_stream.proofs.FirstLemmas.{first-split}
 use Rattle.cj_stream.proofs.GoodLemmas.{drop-next, kept-head}
 use Rattle.cj_stream.proofs.KnownLemmas.{Appends-then, Appends-nothing, AppendsPart-after, AppendsPart-front}
-use Rattle.cj_stream.proofs.RulingLemmas.{kept-append}
+use Rattle.cj_stream.proofs.TookLemmas.{More-all, Took-split, front-took, over-kept, took-good, took-whole}
 
 -- lines that a writer took, one after another
 pub Took-appends : {S : Type 0} (contents : S → Option (List ℕ)) (s t : S) (ls : List Item)
@@ -15,67 +15,49 @@ Took-appends contents s t (l ∷ ls) h =
     Appends-then (contents s) (contents h.0) (contents t) (raw_item l) (flat_map raw_item ls) h.1
     (Took-appends contents h.0 t ls h.2)
 
--- where the line after the first n ones is kept: it follows what is kept of them
+-- where the line after the first n ones is kept: its result comes after theirs among those of the handled lines
 pub kept-next_line : (rules : Rules) (n : ℕ) (r : List ℕ) (l : Line) → refusal_in rules (take n (lines r)) ≡ None
     → slice_get (lines r) n ≡ Some l → is_kept (verdict rules (take n (lines r)) l.content) ≡ true
-    → (others : List Item) × (kept rules r ≡ kept_first rules n r ++ item_after rules (take n (lines r)) l ∷ others)
+    → (others : List Ruling) × (rulings_good rules r ≡ rulings_first rules n r
+    ++ ruling_after rules (take n (lines r)) l ∷ others)
 kept-next_line rules n r l h at k =
     let d = drop-next (lines r) n l at in
     let before = take n (lines r) in (
-      kept_from rules (before ++ l ∷ []) (good_from rules (before ++ l ∷ []) d.0),
-      first-split (kept_from rules) rules n r (kept-append rules) h ∙ ap (λ z. kept_first rules n r ++ z)
-          (ap (λ z. kept_from rules (take n (lines r)) (good_from rules (take n (lines r)) z)) d.1
+      rulings rules (before ++ l ∷ []) (good_from rules (before ++ l ∷ []) d.0),
+      first-split rules n r h ∙ ap (λ z. rulings_first rules n r ++ z)
+          (ap (λ z. rulings rules (take n (lines r)) (good_from rules (take n (lines r)) z)) d.1
           ∙ kept-head rules (take n (lines r)) l d.0 k),
     )
 
--- steps, taken apart
-pub Took-split : {S : Type 0} (step : S → Item → S → Type 0) (s t : S) (xs ys : List Item) → Took step s (xs ++ ys) t
-    → (m : S) × Took step s xs m × Took step m ys t
-Took-split step s t [] ys h = (s, refl, h)
-Took-split step s t (x ∷ xs) ys h = let later = Took-split step h.0 t xs ys h.2 in
-    (later.0, (h.0, h.1, later.1), later.2)
-
--- a sink that was given all good lines, and then left as it was
-pub Took-all : {S : Type 0} (law : SinkLaw S) (rules : Rules) (r : List ℕ) (n : ℕ) (s t : S) (e : End)
-    (h : Delivers law (stretch rules r 0 n) s t (Some e))
-    → t ≡ h.middle → n ≡ length (good rules r) → Took law.takes s (kept rules r) t
-Took-all law rules r n s t e h still all =
-    let k : h.added ≡ kept rules r = sym h.kept ∙ first-good (kept_from rules) rules n r all in
-    rw (← k, still) h.took
+-- and what its failed step leaves
+pub next-left : {S : Type 0} (law : SinkLaw S) (rules : Rules) (before : List Line) (l : Line) (others : List Ruling)
+    (s t : S) → is_kept (verdict rules before l.content) ≡ true → law.leaves s (item_after rules before l) t
+    → LeavesNext law.leaves (kept_of (ruling_after rules before l ∷ others)) s t
+next-left law rules before l others s t k leaves = rw k leaves
 
 module _ {S : Type 0} (law : SinkLaw S) (rules : Rules) (r : List ℕ) (at_end : Type 0) (s t : S)
     (n features refusals : ℕ) where
+  -- a sink that was given all good lines, and then left as it was
+  put-all : (e : End) (d : Delivers law (stretch rules r 0 n) s t (Some e)) → t ≡ d.middle
+      → n ≡ length (good rules r) → Took law.takes s (kept rules r) t
+  put-all e d still all =
+      rw still (took-good law.takes over-kept rules r n s d.middle all d.took)
+
   -- what a sink took, by the end of the run
   puts-told : (e : End) → Ends rules r n at_end e → Counts rules r n features refusals
       → Delivers law (stretch rules r 0 n) s t (Some e) → Puts law (stream_of rules r) e s t
-  puts-told Complete ends counts d = Took-all law rules r n s t Complete d d.fault ends.1
-  puts-told (Refused number place reason) ends counts d = Took-all law rules r n s t (Refused number place reason) d
-      d.fault ends.1
+  puts-told Complete ends counts d = put-all Complete d d.fault ends.1
+  puts-told (Refused number place reason) ends counts d = put-all (Refused number place reason) d d.fault ends.1
   puts-told WriteFault ends counts d =
       let fault = d.fault in
-      let next = kept-next_line rules n r fault.0 counts.good fault.1 fault.2 in
-      record {
-        more = d.added;
-        others = item_after rules (take n (lines r)) fault.0 ∷ next.0;
-        middle = d.middle;
-        front = next.1 ∙ ap (λ z. z ++ item_after rules (take n (lines r)) fault.0 ∷ next.0) d.kept;
-        took = d.took;
-        left = fault.3;
-      }
+      let next = kept-next_line rules n r fault.0 counts.counted.good fault.1 fault.2 in
+      front-took law.takes over-kept rules r 0 (LeavesNext law.leaves) n _ next.1 d.middle t
+      (next-left law rules (take n (lines r)) fault.0 next.0 d.middle t fault.2 fault.3) s d.took
   puts-told Memory ends counts d =
-      let others : List Item =
-      kept_from rules (take n (lines r)) (good_from rules (take n (lines r)) (drop n (lines r))) in
-      record {
-        more = d.added;
-        others = others;
-        middle = d.middle;
-        front = first-split (kept_from rules) rules n r (kept-append rules) counts.good ∙ ap (λ z. z ++ others) d.kept;
-        took = d.took;
-        left = d.fault;
-      }
+      front-took law.takes over-kept rules r 0 (λ others a b. b ≡ a) n _ (first-split rules n r counts.counted.good)
+      d.middle t d.fault s d.took
   puts-told other ends counts d =
-      let k : d.added ≡ kept rules (whole r) = sym d.kept ∙ first-whole (kept_from rules) rules n r ends.0 ends.1 in
-      rw (← k, d.fault) d.took
+      rw d.fault (took-whole law.takes over-kept rules r n s d.middle ends.0 ends.1 d.took)
 
 -- a run by its account and by what the sink took
 pub Runs-told : {S : Type 0} (law : SinkLaw S) (run : Run) (at_end : Type 0) (s t : S) → Account run at_end
@@ -93,7 +75,8 @@ pub memory-sink : {S : Type 0} (law : SinkLaw S) (rules : Rules) (q : List ℕ) 
     → n ≡ 0
     → Delivers law (stretch rules q 0 n) s t (Some e) → t ≡ s
 memory-sink law rules q n s t e is none h =
-    grind (arith, nat_tests)
+    let still = rw is at h.fault in
+    still ∙ subst (λ k. Took law.takes s (kept_first rules k q) h.middle) none (More-all law.takes over-kept h.took)
 
 module _ {S : Type 0} (contents : S → Option (List ℕ)) where
   abbrev pub writes : S → Item → S → Type 0
@@ -150,8 +133,7 @@ module _ {S : Type 0} (contents : S → Option (List ℕ)) where
     dealt-bytes : {e : End} (d : Delivers (writes_law contents failures) (stretch rules r 0 n) s t (Some e))
         → Appends (contents s) (contents d.middle) (output_first rules n r)
     dealt-bytes d =
-        let all : kept_first rules n r ≡ d.added = d.kept in
-        rw all (Took-appends contents s d.middle d.added d.took)
+        Took-appends contents s d.middle (kept_first rules n r) (More-all writes over-kept d.took)
 
     still-bytes : {e : End} (d : Delivers (writes_law contents failures) (stretch rules r 0 n) s t (Some e))
         → t ≡ d.middle → Appends (contents s) (contents t) (output_first rules n r)

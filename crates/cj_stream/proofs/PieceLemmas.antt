@@ -1,33 +1,21 @@
 -- How a framer advances over a piece, and where it stops.
-use Rattle.cj_stream.proofs.Common.{Bool, End, Err, Invalid, IsLeft, Item, JudgedAs, LimitPair, LineTooLong, List, Memory, NoLf, Ok, Reading, Reads, Reason, Refused, Result, Rules, Settles, SinkLaw, Some, Stops, Stores, Took, TookMore, Unstored, Verdict, WriteFault, [], ap, append-nil, append_assoc, arith, begun, begun_of, closed, ended_line, false, further, is_kept, is_lenient, judged_next, length, length-append, lines, long_line, map, nat_tests, next_verdict, refl, slice_get, subst, sym, told_verdict, true, with_sink, ℕ, ◌++◌, ◌+◌, ◌<◌, ◌∙◌, ◌∷◌, ◌≡◌}
+use Rattle.cj_stream.proofs.Common.{Bool, End, Err, Invalid, IsLeft, Item, JudgedAs, LimitPair, LineTooLong, List, Memory, NoLf, Ok, Reading, Reads, Reason, Refused, Result, Rules, Settles, SinkLaw, Some, Stops, Stores, TookMore, Unstored, Verdict, WriteFault, [], ap, append-nil, append_assoc, arith, begun, begun_of, closed, ended_line, false, further, is_kept, is_lenient, judged_next, kept_of, length, length-append, lines, long_line, map, nat_tests, next_verdict, refl, ruling_after, rulings, rulings_closed, slice_get, subst, sym, told_verdict, true, with_sink, ℕ, ◌++◌, ◌+◌, ◌<◌, ◌∙◌, ◌∷◌, ◌≡◌}
 use Rattle.std.proofs.Common.{ltb}
-use Rattle.cj_stream.specs.Reading.{IsBegun, kept_closed, Advances, IsNext, HasCause, stop_at}
+use Rattle.cj_stream.specs.Reading.{IsBegun, Advances, IsNext, HasCause, stop_at}
 use Rattle.cj_stream.proofs.LineLemmas.{closed-more, begun-more, closed-lf, begun-lf, none-from_length}
 use Rattle.cj_stream.proofs.VerdictLemmas.{verdict-long}
-use Rattle.cj_stream.proofs.ReadingLemmas.{left-same, strict-first, Reads-left, Reads-stored, Reads-passed, held-whole, dropped-long, told-verdict, kept_closed-lf, map_lines-append}
+use Rattle.cj_stream.proofs.ReadingLemmas.{left-same, strict-first, Reads-left, Reads-stored, Reads-passed, held-whole, dropped-long, told-verdict, closed-next, map_lines-append}
+use Rattle.cj_stream.proofs.TookLemmas.{More-none, More-then, over-kept}
 use Rattle.cj_stream.proofs.DealtLemmas.{Came, passed, refused, failed, lacked, came}
 use Rattle.cj_stream.proofs.EngineLemmas.{next-line}
 
--- steps, and then others
-pub Took-append : {S X : Type 0} (step : S → X → S → Type 0) (a b c : S) (xs ys : List X) → Took step a xs b
-    → Took step b ys c → Took step a (xs ++ ys) c
-Took-append step a b c [] ys h k = subst (λ z. Took step z ys c) h k
-Took-append step a b c (x ∷ xs) ys h k = (h.0, h.1, Took-append step h.0 b c xs ys h.2 k)
-
 module _ {S : Type 0} (law : SinkLaw S) where
+  -- nothing was put where no line was ended
   pub Puts-none : (rules : Rules) (p q : List ℕ) (s : S) → closed q ≡ closed p
-      → TookMore law.takes (kept_closed rules p) (kept_closed rules q) s s
-  Puts-none rules p q s e = ([], rw e (sym (append-nil (kept_closed rules p))), refl)
-
-  pub Puts-then : (rules : Rules) (p q r : List ℕ) (s t u : S) → TookMore law.takes (kept_closed rules p)
-      (kept_closed rules q) s t → TookMore law.takes (kept_closed rules q) (kept_closed rules r) t u
-      → TookMore law.takes (kept_closed rules p) (kept_closed rules r) s u
-  Puts-then rules p q r s t u h k = (
-    h.0 ++ k.0,
-    k.1 ∙ (ap (λ z. z ++ k.0) h.1 ∙ append_assoc (kept_closed rules p) h.0 k.0),
-    Took-append law.takes s
-        t u h.0 k.0 h.2 k.2,
-  )
+      → TookMore law.takes kept_of (rulings_closed rules p) (rulings_closed rules q) s s
+  Puts-none rules p q s e =
+      More-none law.takes over-kept (rulings_closed rules p) (rulings_closed rules q) s s
+      (ap (λ cs. rulings rules [] (map ended_line cs)) e) refl
 
   pub Advances-none : {f : Reading} {s : S} {p : List ℕ} → Reads f p
       → Advances law (further p []) (with_sink f s) (with_sink f s)
@@ -46,7 +34,7 @@ module _ {S : Type 0} (law : SinkLaw S) where
     reads = rw (← append_assoc p a b) y.reads;
     puts =
         let k = rw x.rules at y.puts in
-        rw (← append_assoc p a b) (Puts-then f.rules p (p ++ a) ((p ++ a) ++ b) s t u x.puts k);
+        rw (← append_assoc p a b) (More-then law.takes over-kept x.puts k);
   }
 
   pub Advances-stored : {f g : Reading} {s : S} {p part : List ℕ} → Reads f p → NoLf part → Stores f part g
@@ -64,7 +52,11 @@ module _ {S : Type 0} (law : SinkLaw S) where
   advanced g h s t p r reads (passed put refuses x fine k bad took) ok = record {
     rules = x.rules;
     reads = Reads-passed g h p put refuses reads x fine k bad;
-    puts = (_, kept_closed-lf g.rules p put k, took);
+    puts = record {
+      done = ruling_after g.rules (map ended_line (closed p)) (ended_line (begun p)) ∷ [];
+      grown = closed-next g.rules p;
+      took = took;
+    };
   }
   advanced g h s t p r reads other ok = cc
 
@@ -127,7 +119,7 @@ module _ {S : Type 0} (law : SinkLaw S) where
     reads = rw (← append_assoc p a y.done) y.reads;
     puts =
         let k = rw x.rules at y.puts in
-        rw (← append_assoc p a y.done) (Puts-then f.rules p (p ++ a) ((p ++ a) ++ y.done) s t y.middle x.puts k);
+        rw (← append_assoc p a y.done) (More-then law.takes over-kept x.puts k);
     cause = let k = rw x.rules at y.cause in rw (← append_assoc p a y.done, ← append_assoc p a b) k;
   }
 

@@ -1,10 +1,10 @@
 -- What a framer has read after it stored a part, and after it dealt with a line.
-use Rattle.cj_stream.proofs.Common.{Bool, Invalid, IsLeft, IsWithin, Item, LimitPair, Line, LineTooLong, List, NoLf, None, Passes, Reading, Reads, Rules, Stores, Tree, Verdict, [], ap, append-nil, arith, begun, begun_after, begun_later, begun_of, closed, cond, ended_line, false, filter, filter-append, first_content, first_of, goes_on, greatest, header_of, held_length, if◌then◌else◌, inl, inr, is_feature, is_kept, is_lenient, item_after, item_at, kept_from, later_of, length, length-append, length-map, map, map-append, max, nat_lt, nat_tests, next_item, next_verdict, refl, refusal_of, reported_from, reports_of, suc, sym, told_verdict, true, verdict, verdict_at, zero, ℕ, ◌&&◌, ◌++◌, ◌+◌, ◌<◌, ◌∙◌, ◌∷◌, ◌≡◌, ◌≤◌, ◌⊎◌}
+use Rattle.cj_stream.proofs.Common.{AreCounted, Bool, Invalid, IsLeft, IsWithin, Item, LimitPair, Line, LineTooLong, List, NoLf, None, Passes, Reading, Reads, Rules, Ruling, Stores, Tree, [], ap, append-nil, arith, begun, begun_after, begun_later, begun_of, closed, cond, ended_line, false, filter, filter-append, first_content, first_of, flat_map-append, goes_on, greatest, header_of, held_length, inl, inr, is_feature, is_lenient, item_after, item_at, kept_of, later_of, length, length-append, length-map, map, map-append, max, nat_lt, nat_tests, next_item, next_verdict, refl, reported_of, ruling_after, rulings, rulings_closed, suc, sym, told_verdict, true, verdict, verdict_at, zero, ℕ, ◌&&◌, ◌++◌, ◌+◌, ◌<◌, ◌∙◌, ◌∷◌, ◌≡◌, ◌≤◌, ◌⊎◌}
 use Rattle.std.proofs.Common.{eqb, ltb, ltb-true}
-use Rattle.cj_stream.specs.Reading.{held_header, stored, IsBegun, Fits, Drops, StaysDropped, kept_closed}
+use Rattle.cj_stream.specs.Reading.{held_header, stored, IsBegun, Fits, Drops, StaysDropped}
 use Rattle.cj_stream.proofs.LineLemmas.{closed-more, begun-more, closed-lf, begun-lf, first_of-some, first_of-lf, begun_after-some, begun_after-empty, none-from_length}
 use Rattle.cj_stream.proofs.VerdictLemmas.{verdict-first, verdict-long}
-use Rattle.cj_stream.proofs.RulingLemmas.{kept-append, refusal-append, reported-append}
+use Rattle.cj_stream.proofs.RulingLemmas.{end-append, kept_of-append, rulings-next}
 
 pub zero_or : (n : ℕ) → (n ≡ 0) ⊎ (0 < n)
 zero_or zero = inl refl
@@ -185,9 +185,7 @@ module _ (f g : Reading) (p part : List ℕ) (h : Reads f p) (s : Stores f part 
     lenient = lenient-stored;
     header = header (zero_or f.lines);
     line = line (zero_or f.lines);
-    good = rw (more, s.rules) h.good;
-    kept = rw (more, s.rules, s.kept) h.kept;
-    refused = rw (more, s.rules, s.refused) h.refused;
+    counted = rw (more, s.rules, s.kept, s.refused) h.counted;
     peak = peak (zero_or f.lines);
     line_peak = line_peak (zero_or f.lines);
     header_within = header_within (zero_or f.lines);
@@ -254,9 +252,7 @@ Reads-left f g p left h = rw left.same (record {
   lenient = h.lenient;
   header = h.header;
   line = h.line;
-  good = h.good;
-  kept = h.kept;
-  refused = h.refused;
+  counted = h.counted;
   peak = h.peak;
   line_peak = h.line_peak;
   header_within = h.header_within;
@@ -299,18 +295,13 @@ module _ (f : Reading) (p : List ℕ) (h : Reads f p) where
 
 -- ---- what is kept
 
--- the kept ones after one more line
-pub kept_closed-lf : (rules : Rules) (p : List ℕ) (put : Bool)
-    → put ≡ is_kept (verdict rules (map ended_line (closed p)) (begun p))
-    → kept_closed rules (p ++ 10 ∷ []) ≡ kept_closed rules p
-    ++ (if put then item_after rules (map ended_line (closed p)) (ended_line (begun p)) ∷ [] else [])
-kept_closed-lf rules p put k =
-    rw (
-      closed-lf p [],
-      map_lines-append (closed p) (begun p ∷ []),
-      kept-append rules [] (map ended_line (closed p)) (map ended_line (begun p ∷ [])),
-      k,
-    ) refl
+-- the results after one more line
+pub closed-next : (rules : Rules) (p : List ℕ) → rulings_closed rules (p ++ 10 ∷ []) ≡ rulings_closed rules p
+    ++ ruling_after rules (map ended_line (closed p)) (ended_line (begun p)) ∷ []
+closed-next rules p =
+    ap (λ cs. rulings rules [] (map ended_line cs)) (closed-lf p [])
+    ∙ (ap (rulings rules []) (map_lines-append (closed p) (begun p ∷ []))
+    ∙ rulings-next rules (map ended_line (closed p)) (ended_line (begun p)))
 
 -- one item more, if it is put, is one feature more, if it is no header
 count-feature : (put later : Bool) (i : Item) (n : ℕ) (xs : List Item) → is_feature i ≡ later
@@ -330,15 +321,38 @@ after-feature rules (x ∷ xs) l =
     let later : nat_lt 0 (suc (length xs)) ≡ true = grind (arith, nat_tests) in
     rw (no_header, later) refl
 
--- the features that are kept, after one line more
-pub kept-next : (f g : Reading) (xs : List Line) (l : Line) (put refused : Bool) → f.lines ≡ length xs
-    → f.kept ≡ length (filter is_feature (kept_from f.rules [] xs))
-    → Passes put refused f g → put ≡ is_kept (verdict f.rules xs l.content)
-    → g.kept ≡ length (filter is_feature (kept_from f.rules [] (xs ++ l ∷ [])))
-kept-next f g xs l put refused n k s e =
-    rw (s.kept, kept-append f.rules [] xs (l ∷ []), ← e, n)
-    (count-feature put (nat_lt 0 (length xs)) (item_after f.rules xs l) f.kept (kept_from f.rules [] xs)
-    (after-feature f.rules xs l) k)
+-- so many more, or not
+count-more : (b : Bool) (n : ℕ) → cond b (n + 1) n ≡ n + cond b 1 0
+count-more true n = refl
+count-more false n = omega arith
+
+-- the counts after one line more
+pub Counted-next : (f g : Reading) (xs : List Line) (l : Line) (put refused : Bool) → f.lines ≡ length xs
+    → AreCounted (rulings f.rules [] xs) f.kept f.refused → Passes put refused f g
+    → (ruling_after f.rules xs l).end ≡ None → put ≡ (ruling_after f.rules xs l).kept
+    → length (ruling_after f.rules xs l).reports ≡ cond refused 1 0
+    → AreCounted (rulings f.rules [] (xs ++ l ∷ [])) g.kept g.refused
+Counted-next f g xs l put refused n h s fine k bad =
+    let r = ruling_after f.rules xs l in
+    let rs = rulings f.rules [] xs in
+    rw (rulings-next f.rules xs l) (record {
+      good = rw (end-append (rulings f.rules [] xs) (r ∷ []), h.good, fine) refl;
+      kept =
+          rw (s.kept, kept_of-append (rulings f.rules [] xs) (r ∷ []), ← k, n)
+          (count-feature put (nat_lt 0 (length xs)) (item_after f.rules xs l) f.kept (kept_of rs)
+          (after-feature f.rules xs l) h.kept);
+      refused =
+          omega (
+            arith,
+            s.refused,
+            count-more refused f.refused,
+            h.refused,
+            bad,
+            ap length (flat_map-append (λ (z : Ruling). z.reports) rs (r ∷ [])),
+            length-append (reported_of rs) (r.reports ++ []),
+            ap length (append-nil r.reports),
+          );
+    })
 
 pub greatest-append : (measure : List ℕ → ℕ) (cs : List (List ℕ)) (c : List ℕ)
     → greatest measure (cs ++ c ∷ []) ≡ max (greatest measure cs) (measure c)
@@ -358,27 +372,11 @@ greatest-later measure none (c ∷ cs) b = omega (arith, greatest-append measure
 pub held-nothing : (limits : LimitPair) → held_length limits [] ≡ 0
 held-nothing limits = omega arith
 
--- ---- what is reported
-
--- a refused line
-abbrev pub is_refused : Verdict → Bool
-is_refused (Invalid place reason) = true
-is_refused other = false
-
--- the lines that were refused, after one line more
-pub refused-next : (f g : Reading) (xs : List Line) (l : Line) (put refused : Bool)
-    → f.refused ≡ length (reported_from f.rules [] xs) → Passes put refused f g
-    → refused ≡ is_refused (verdict f.rules xs l.content) → g.refused ≡ length (reported_from f.rules [] (xs ++ l ∷ []))
-refused-next f g xs l put refused k s e =
-    let v = verdict f.rules xs l.content in
-    rw (s.refused, reported-append f.rules [] xs (l ∷ []), append-nil (reports_of (length xs + 1) v))
-    (grind (arith, length-append (reported_from f.rules [] xs) (reports_of (length xs + 1) v)))
-
 pub Reads-passed : (f g : Reading) (p : List ℕ) (put refused : Bool) → Reads f p → Passes put refused f g
-    → refusal_of f.rules (length (map ended_line (closed p)) + 1)
-    (verdict f.rules (map ended_line (closed p)) (begun p)) ≡ None
-    → put ≡ is_kept (verdict f.rules (map ended_line (closed p)) (begun p))
-    → refused ≡ is_refused (verdict f.rules (map ended_line (closed p)) (begun p)) → Reads g (p ++ 10 ∷ [])
+    → (ruling_after f.rules (map ended_line (closed p)) (ended_line (begun p))).end ≡ None
+    → put ≡ (ruling_after f.rules (map ended_line (closed p)) (ended_line (begun p))).kept
+    → length (ruling_after f.rules (map ended_line (closed p)) (ended_line (begun p))).reports ≡ cond refused 1 0
+    → Reads g (p ++ 10 ∷ [])
 Reads-passed f g p put refused h s fine k bad = record {
   lines = rw (closed-lf p [], s.lines, h.lines) (sym (length-append (closed p) (begun p ∷ [])));
   begun = rw (begun-lf p [])
@@ -390,21 +388,10 @@ Reads-passed f g p put refused h s fine k bad = record {
   header = rw (closed-lf p [], begun-lf p [], s.header) (h.header ∙ sym (first_of-lf (closed p) (begun p)));
   line = rw (closed-lf p [], begun-lf p [], begun_after-empty (closed p ++ begun p ∷ []))
       (s.line.elements ∙ sym nothing.0);
-  good = rw (
-    closed-lf p [],
-    map_lines-append (closed p) (begun p ∷ []),
-    s.rules,
-    refusal-append f.rules [] (map ended_line (closed p)) (map ended_line (begun p ∷ [])) h.good,
-    fine,
-  )
-      refl;
-  kept =
+  counted =
       rw (closed-lf p [], map_lines-append (closed p) (begun p ∷ []), s.rules)
-      (kept-next f g (map ended_line (closed p)) (ended_line (begun p)) put refused
-      (h.lines ∙ sym (length-map_lines (closed p))) h.kept s k);
-  refused =
-      rw (closed-lf p [], map_lines-append (closed p) (begun p ∷ []), s.rules)
-      (refused-next f g (map ended_line (closed p)) (ended_line (begun p)) put refused h.refused s bad);
+      (Counted-next f g (map ended_line (closed p)) (ended_line (begun p)) put refused
+      (h.lines ∙ sym (length-map_lines (closed p))) h.counted s fine k bad);
   peak = rw s.header h.peak;
   line_peak =
       rw (closed-lf p [], begun-lf p [], begun_after-empty (closed p ++ begun p ∷ []), s.rules)

@@ -1,9 +1,9 @@
 -- The results of lines, one after another: of some lines and then others, and of the lines before an end.
-use Rattle.cj_stream.proofs.Common.{Complete, End, Line, List, None, Option, Reason, Refused, Rules, Ruling, Some, [], append-nil, append_assoc, arith, cond, first_end, flat_map-append, good_from, is_some, kept_from, kept_of, length, length-append, lines_before, map, map-append, moved_end, moved_report, option_map, refl, refusal_from, reported_from, reported_of, rulings, sym, take, ℕ, ◌++◌, ◌+◌, ◌∙◌, ◌∷◌, ◌≡◌}
+use Rattle.cj_stream.proofs.Common.{Complete, End, Line, List, None, Option, Reason, Refused, Rules, Ruling, Some, [], append-nil, append_assoc, arith, cond, first_end, flat_map-append, good_from, is_some, kept_from, kept_of, length, length-append, lines_before, map, map-append, moved_end, moved_report, option_map, refl, refusal_from, reported_from, reported_of, ruling_after, rulings, sym, take, ℕ, ◌++◌, ◌+◌, ◌∙◌, ◌∷◌, ◌≡◌}
 
 -- ---- of any rulings
 
-end-append : (xs ys : List Ruling)
+pub end-append : (xs ys : List Ruling)
     → first_end (xs ++ ys) ≡ cond (is_some (first_end xs)) (first_end xs) (first_end ys)
 end-append [] ys = refl
 end-append (x ∷ xs) ys = grind (arith, end-append xs ys)
@@ -13,7 +13,7 @@ before-append : (xs ys : List Ruling)
 before-append [] ys = refl
 before-append (x ∷ xs) ys = grind (arith, before-append xs ys)
 
-kept_of-append : (xs ys : List Ruling) → kept_of (xs ++ ys) ≡ kept_of xs ++ kept_of ys
+pub kept_of-append : (xs ys : List Ruling) → kept_of (xs ++ ys) ≡ kept_of xs ++ kept_of ys
 kept_of-append [] ys = refl
 kept_of-append (x ∷ xs) ys = grind (arith, kept_of-append xs ys)
 
@@ -52,6 +52,10 @@ module _ (rules : Rules) where
   rulings-append before [] ys = rw (append-nil before) refl
   rulings-append before (x ∷ xs) ys =
       rw (rulings-append (before ++ x ∷ []) xs ys, append_assoc before (x ∷ []) xs) refl
+
+  pub rulings-next : (xs : List Line) (l : Line)
+      → rulings rules [] (xs ++ l ∷ []) ≡ rulings rules [] xs ++ ruling_after rules xs l ∷ []
+  rulings-next xs l = rulings-append [] xs (l ∷ [])
 
   pub kept-append : (before xs ys : List Line)
       → kept_from rules before (xs ++ ys) ≡ kept_from rules before xs ++ kept_from rules (before ++ xs) ys

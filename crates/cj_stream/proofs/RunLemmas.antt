@@ -1,16 +1,15 @@
 -- How the calls of a run add up.
-use Rattle.cj_stream.proofs.Common.{Complete, Concludes, Consumes, Counts, Delivers, End, Ends, EngineState, Faults, HasRisen, IfSome, IsBelow, IsUnread, Keeps, List, Memory, None, Option, ReadFault, ReadLimit, Reading, Reads, Refused, Rules, Run, Scanned, SinkLaw, Some, StandsFor, Tells, Took, WriteFault, [], ap, append-nil, append_assoc, arith, closed, ending, exact_peaks, first_lines, inl, inr, judged, kept_first, length, length-append, limits_of, lines, lines_of, nat_tests, outcome_of, peaks_of, refl, refusal_in, rules_of, stretch, subst, suc, sym, up_to, whole, zero, ℕ, ◌++◌, ◌<◌, ◌∙◌, ◌∷◌, ◌≡◌, ◌≤◌}
+use Rattle.cj_stream.proofs.Common.{Complete, Concludes, Consumes, Counts, Delivers, End, Ends, EngineState, Faults, HasRisen, IfSome, IsBelow, IsUnread, Keeps, List, Memory, None, Option, ReadFault, ReadLimit, Reading, Reads, Refused, Rules, Run, Scanned, SinkLaw, Some, Tells, TookOf, WriteFault, [], ap, append-nil, append_assoc, arith, closed, ending, exact_peaks, first_lines, inl, inr, judged, kept_of, length, length-append, limits_of, lines, lines_of, nat_tests, peaks_of, refl, refusal_in, rules_of, rulings_first, stretch, subst, suc, sym, up_to, whole, zero, ℕ, ◌++◌, ◌<◌, ◌∙◌, ◌∷◌, ◌≡◌, ◌≤◌}
 use Rattle.std.proofs.Common.{◌≢◌}
 use Rattle.cj_stream.specs.Engine.{EngineFailsToGrow, HasFailedToGrow}
 use Rattle.cj_stream.specs.Run.{Gave, HeldBegun, IsLastRead, IsReadWithin, LacksRoom, Runs, StopsInTime}
-use Rattle.cj_stream.proofs.PieceLemmas.{Took-append}
 use Rattle.cj_stream.proofs.EngineLemmas.{begun-good, judged-front}
 use Rattle.cj_stream.proofs.ReadingLemmas.{length-map_lines}
 use Rattle.cj_stream.proofs.IsLinesLemmas.{lines-whole}
 use Rattle.cj_stream.proofs.GoodLemmas.{good-refused, ending-refused}
 use Rattle.cj_stream.proofs.LeastLemmas.{held-scanned, least-read}
-use Rattle.cj_stream.proofs.OutputLemmas.{Runs-told}
 use Rattle.cj_stream.proofs.RulingLemmas.{refusal-stays}
+use Rattle.cj_stream.proofs.TookLemmas.{More-over, More-then, over-kept}
 pub use Rattle.cj_stream.proofs.OutputLemmas.{memory-sink}
 
 pub Consumes-then : (a b c : Option (List ℕ)) (x y : List ℕ) → Consumes a b x → Consumes b c y → Consumes a c (x ++ y)
@@ -27,21 +26,21 @@ Consumes-kept (Some a) (Some b) (Some c) x p q = p ∙ ap (λ z. x ++ z) (sym q)
 
 -- what a sink takes of two steps, one after the other
 pub Delivers-join : {S : Type 0} {law : SinkLaw S} {rules : Rules} {r q : List ℕ} {from n m : ℕ} {s t u : S}
-    {e : Option End} → kept_first rules from q ≡ kept_first rules from r → kept_first rules n q ≡ kept_first rules n r
+    {e : Option End} → rulings_first rules from q ≡ rulings_first rules from r
+    → rulings_first rules n q ≡ rulings_first rules n r
     → Delivers law (stretch rules r from n) s t None → Delivers law (stretch rules q n m) t u e
     → Delivers law (stretch rules q from m) s u e
 Delivers-join {S} {law} {rules} {r} {q} {from} {n} {m} {s} {t} {u} first same h k = record {
-  added = h.added ++ k.added;
   middle = k.middle;
-  kept = k.kept ∙ (ap (λ z. z ++ k.added) (same ∙ (h.kept ∙ ap (λ z. z ++ h.added) (sym first)))
-      ∙ append_assoc (kept_first rules from q) h.added k.added);
-  took = Took-append law.takes s t k.middle h.added k.added
-      (subst (λ z. Took law.takes s h.added z) (sym h.fault) h.took) k.took;
+  took =
+      let now : TookOf law.takes kept_of (stretch rules r from n) s t =
+      subst (λ z. TookOf law.takes kept_of (stretch rules r from n) s z) (sym h.fault) h.took in
+      More-then law.takes over-kept (More-over law.takes over-kept first same now) k.took;
   fault = k.fault;
 }
 
 pub Delivers-then : {S : Type 0} {law : SinkLaw S} {rules : Rules} {r q : List ℕ} {n m : ℕ} {s t u : S}
-    {e : Option End} → kept_first rules n q ≡ kept_first rules n r → Delivers law (stretch rules r 0 n) s t None
+    {e : Option End} → rulings_first rules n q ≡ rulings_first rules n r → Delivers law (stretch rules r 0 n) s t None
     → Delivers law (stretch rules q n m) t u e → Delivers law (stretch rules q 0 m) s u e
 Delivers-then same h k = Delivers-join refl same h k
 
@@ -71,30 +70,17 @@ Ends-fed rules r n at_end other c = absurd c
 -- no more bytes came: no whole line was refused
 pub whole-good : (e : EngineState) (r : List ℕ) → Reads e.reading r → (refusal_in (rules_of e) (lines (whole r)) ≡ None)
     × (lines_of e ≡ length (lines (whole r)))
-whole-good e r h = (rw (lines-whole r) h.good, rw (lines-whole r) (h.lines ∙ sym (length-map_lines (closed r))))
+whole-good e r h = (rw (lines-whole r) h.counted.good, rw (lines-whole r) (h.lines ∙ sym (length-map_lines (closed r))))
 
 -- a step that keeps the sink as it is, with an end
 pub Delivers-ended : {S : Type 0} (law : SinkLaw S) (rules : Rules) (r : List ℕ) (n : ℕ) (s t : S) (e : End)
     → ((m u : S) → u ≡ m → Faults law (up_to rules r n) m u (Some e)) → Delivers law (stretch rules r 0 n) s t None
     → Delivers law (stretch rules r 0 n) s t (Some e)
 Delivers-ended law rules r n s t e still h = record {
-  added = h.added;
   middle = h.middle;
-  kept = h.kept;
   took = h.took;
   fault = still h.middle t h.fault;
 }
-
--- a run that is left between two pieces, with an end that keeps the sink as it is
-pub Runs-left : {S : Type 0} (law : SinkLaw S) (e : EngineState) (r : List ℕ) (at_end : Type 0) (s t : S) (end : End)
-    → (end ≡ Complete → ⊥) → Ends (rules_of e) r (lines_of e) at_end end → ((m u : S) → u ≡ m
-    → Faults law (up_to (rules_of e) r (lines_of e)) m u (Some end))
-    → StandsFor e r → Delivers law (stretch (rules_of e) r 0 (lines_of e)) s t None
-    → Runs law (record { rules = rules_of e; read = r; outcome = outcome_of e end }) at_end s t
-Runs-left law e r at_end s t end other ends still stands h = Runs-told law
-    (record { rules = rules_of e; read = r; outcome = outcome_of e end }) at_end s t
-    (record { bounded = stands.bounded; exact = λ x. absurd (other x); counts = stands.counts; ends = ends })
-    (Delivers-ended law (rules_of e) r (lines_of e) s t end still h)
 
 -- a count that rose in the last of some calls rose in all of them
 pub HasRisen-after : (a b c : ℕ) → a ≤ b → HasRisen b c → HasRisen a c
@@ -133,10 +119,10 @@ Runs-memory law rules at_end s = record {
   account = record {
     bounded = record { bytes = omega arith; tokens = omega arith; depth = omega arith };
     exact = λ e. cc;
-    counts = record { few = omega arith; good = refl; kept = refl; refused = refl };
+    counts = record { few = omega arith; counted = record { good = refl; kept = refl; refused = refl } };
     ends = tt;
   };
-  sink = record { added = []; middle = s; kept = refl; took = refl; fault = refl };
+  sink = record { middle = s; took = record { done = []; grown = refl; took = refl }; fault = refl };
   puts = record { more = []; others = []; middle = s; front = refl; took = refl; left = refl };
 }
 
@@ -275,7 +261,7 @@ enough-memory (Some a) reads e is = λ few limit. absurd (apart (sym is ∙ limi
 -- by no read no line is dealt with
 pub none-counted : (rules : Rules) (reads : ℕ) (r : List ℕ) (n features refusals : ℕ) (e : End) → reads ≡ 0
     → e ≡ ReadLimit → IsReadWithin reads r e → Counts rules r n features refusals → (n ≡ 0) × (features ≡ 0)
-none-counted rules reads [] zero features refusals e nothing is w h = (refl, h.kept)
+none-counted rules reads [] zero features refusals e nothing is w h = (refl, h.counted.kept)
 none-counted rules reads [] (suc n) features refusals e nothing is w h = let few : suc n ≤ 0 = h.few in
     absurd (omega arith)
 none-counted rules reads (x ∷ r) n features refusals e nothing is w h =

@@ -1,5 +1,5 @@
 -- The counts of a run over pieces are of the whole stream.
-use Rattle.cj_stream.proofs.Common.{Complete, Counts, CountsAll, End, Ends, IsUnhindered, IsUnread, List, Memory, Peaks, Refused, Rules, Some, WriteFault, [], ap, ending, filter, good, inl, is_feature, joined, judged, kept, kept_from, length, refusal_in, reported, reported_from, take, ℕ, ◌+◌, ◌∙◌, ◌≡◌, ◌⊎◌}
+use Rattle.cj_stream.proofs.Common.{Complete, Counts, CountsAll, End, Ends, IsUnhindered, IsUnread, List, Memory, Peaks, Refused, Rules, Some, WriteFault, [], ap, ending, filter, good, inl, is_feature, joined, judged, kept, kept_of, length, refusal_in, reported_of, take, ℕ, ◌+◌, ◌∙◌, ◌≡◌, ◌⊎◌}
 use Rattle.cj_stream.proofs.CutLemmas.{given-told}
 use Rattle.cj_stream.proofs.FirstLemmas.{first-good}
 
@@ -9,19 +9,18 @@ module _ (rules : Rules) (count features refusals : ℕ) (peaks : Peaks) where
       → CountsAll rules r (record { lines = count; kept = features; refused = refusals; peaks = peaks; ended = e })
   all-counted r e h all = record {
     lines = all;
-    kept = h.kept ∙ ap (λ items. length (filter is_feature items)) (first-good (kept_from rules) rules count r all);
-    refused = h.refused ∙ ap length (first-good (reported_from rules) rules count r all);
+    kept = h.counted.kept ∙ ap (λ rs. length (filter is_feature (kept_of rs))) (first-good rules count r all);
+    refused = h.counted.refused ∙ ap (λ rs. length (reported_of rs)) (first-good rules count r all);
   }
 
   -- the same of a stream with the same good lines
-  same-counted : (r s : List ℕ) (e : End) → good rules s ≡ good rules r → kept rules s ≡ kept rules r
-      → reported rules s ≡ reported rules r
+  same-counted : (r s : List ℕ) (e : End) → good rules s ≡ good rules r
       → CountsAll rules r (record { lines = count; kept = features; refused = refusals; peaks = peaks; ended = e })
       → CountsAll rules s (record { lines = count; kept = features; refused = refusals; peaks = peaks; ended = e })
-  same-counted r s e lines items reports h = record {
+  same-counted r s e lines h = record {
     lines = rw lines h.lines;
-    kept = rw items h.kept;
-    refused = rw reports h.refused;
+    kept = rw lines h.kept;
+    refused = rw lines h.refused;
   }
 
   -- the pieces that were given are all, or were the end
@@ -34,7 +33,7 @@ module _ (rules : Rules) (count features refusals : ℕ) (peaks : Peaks) where
       (record { lines = count; kept = features; refused = refusals; peaks = peaks; ended = e })
   given-counted pieces k e h told ends all =
       let same = given-told rules [] pieces k e told ends in
-      same-counted (joined (take (k + 1) pieces)) (joined pieces) e same.3 same.1 same.2
+      same-counted (joined (take (k + 1) pieces)) (joined pieces) e same.1
       (all-counted (joined (take (k + 1) pieces)) e h all)
 
   -- what was counted of the pieces that were given, by the end

@@ -8,16 +8,14 @@ use Rattle.cj_stream.specs.declared.ending.End.TheVariants.{Complete, Refused, W
 use Rattle.cj_stream.specs.Carrying.{FramerState}
 use Rattle.cj_stream.specs.Meaning.Lines.{Line, lines}
 use Rattle.cj_stream.specs.Lines.{closed, first_content, whole, begun_later}
-use Rattle.cj_stream.specs.Items.{Item}
 use Rattle.cj_stream.specs.Meaning.Rules.{Rules}
-use Rattle.cj_stream.specs.Verdict.{refusal_in, judged, verdict, item_after, is_kept, good, ending, kept_first}
-use Rattle.cj_stream.specs.Verdict.{features_first, reported_first, UpTo, up_to, Stretch}
+use Rattle.cj_stream.specs.Verdict.{refusal_in, judged, verdict, item_after, is_kept, good, ending, kept_of}
+use Rattle.cj_stream.specs.Verdict.{AreCounted, rulings_first, UpTo, up_to, Stretch}
 use Rattle.cj_stream.specs.Meaning.Bound.{IsBounded, of_first}
 use Rattle.cj_stream.specs.Bound.{IsBelow, tree_size}
 use Rattle.cj_stream.specs.Reading.{Reading, Reads, stored}
 use Rattle.cj_stream.specs.Scanning.{Scanning, Scanned, ListsFailToGrow}
-use Rattle.cj_stream.specs.Sink.{SinkLaw}
-use Rattle.cj_stream.specs.Meaning.Outputs.{Took}
+use Rattle.cj_stream.specs.Sink.{SinkLaw, TookOf}
 
 -- what a contract sees of an engine: the bytes and the tokens that it holds of a stream, the bytes it has taken, and
 -- the end it has come to
@@ -64,9 +62,7 @@ peaks_of e = record {
 -- the first n lines of p are good, and this many features are kept of them, and lines refused
 pub record Counts (rules : Rules) (p : List ℕ) (n features refusals : ℕ) : Type 0 where
   pub few : n ≤ length (lines p)
-  pub good : refusal_in rules (take n (lines p)) ≡ None
-  pub kept : features ≡ length (features_first rules n p)
-  pub refused : refusals ≡ length (reported_first rules n p)
+  pub counted : AreCounted (rulings_first rules n p) features refusals
 
 -- The engine represents these bytes: what it holds is within their bound, and its counts are of their lines. Before an
 -- end it has read them all.
@@ -102,10 +98,8 @@ Faults law first s t other = t ≡ s
 
 -- the sink has taken the kept ones of these lines, and after a write fault what that leaves
 pub record Delivers {S : Type 0} (law : SinkLaw S) (part : Stretch) (s t : S) (ended : Option End) : Type 0 where
-  pub added : List Item
   pub middle : S
-  pub kept : kept_first part.rules part.to part.bytes ≡ kept_first part.rules part.from part.bytes ++ added
-  pub took : Took law.takes s added middle
+  pub took : TookOf law.takes kept_of part s middle
   pub fault : Faults law (up_to part.rules part.bytes part.to) middle t ended
 
 -- nothing that could be judged of these bytes was the end: all whole lines are dealt with, and what is held are the

@@ -1,8 +1,7 @@
 -- What is held of a stream while its lines are read, and which bytes it stands for.
-use Rattle.std.specs.List.{filter}
 use Rattle.cj_spans.specs.Meaning.Tree.{Tree}
 use Rattle.std.specs.Prelude.{◌≡◌, ◌⊎◌, ℕ, ◌+◌, ◌<◌, ◌≤◌, List, [], ◌∷◌, ◌++◌, Bool, true, false, ◌&&◌, ◌==◌, nat_lt}
-use Rattle.std.specs.Prelude.{if◌then◌else◌, IsTrue, Some, None, Result, Ok, Err, length, map, max, MatchResult}
+use Rattle.std.specs.Prelude.{if◌then◌else◌, IsTrue, Some, Result, Ok, Err, length, map, max, MatchResult}
 use Rattle.std.specs.Prelude.{slice_get}
 use Rattle.cj_budget.specs.Bounded.{BoundedList, IsWithin, Becomes}
 use Rattle.cj_budget.specs.Meaning.Limits.{LimitPair}
@@ -14,13 +13,13 @@ use Rattle.cj_stream.specs.declared.ending.End.{End}
 use Rattle.cj_stream.specs.declared.ending.End.TheVariants.{Refused, WriteFault, Memory}
 use Rattle.cj_stream.specs.Meaning.Lines.{Line, lines, ended_line}
 use Rattle.cj_stream.specs.Lines.{closed, begun, first_content, later_of, begun_later}
-use Rattle.cj_stream.specs.Items.{Item, is_feature}
+use Rattle.cj_stream.specs.Items.{Item}
 use Rattle.cj_stream.specs.Item.{tree_of, item_at}
 use Rattle.cj_stream.specs.Query.{rules_for}
 use Rattle.cj_stream.specs.Meaning.Rules.{Rules}
 use Rattle.cj_stream.specs.Meaning.Verdict.{Verdict, Invalid, Blank, LeftOut, Kept}
-use Rattle.cj_stream.specs.Verdict.{verdict_at, verdict, item_after, is_kept, goes_on, refusal_in, kept_from}
-use Rattle.cj_stream.specs.Verdict.{reported_from, judged}
+use Rattle.cj_stream.specs.Verdict.{verdict_at, verdict, item_after, is_kept, goes_on, AreCounted, kept_of, judged}
+use Rattle.cj_stream.specs.Verdict.{rulings_closed}
 use Rattle.cj_stream.specs.Meaning.Bound.{greatest}
 use Rattle.cj_stream.specs.Bound.{held_length}
 use Rattle.cj_stream.specs.Sink.{SinkLaw, WithSink, TookMore}
@@ -187,18 +186,12 @@ pub record Reads (f : Reading) (p : List ℕ) : Type 0 where
   pub lenient : f.dropped ≡ true → is_lenient f ≡ true
   pub header : f.header.elements ≡ first_content p
   pub line : f.line.elements ≡ stored f.rules.limits.line (begun_later p)
-  pub good : refusal_in f.rules (map ended_line (closed p)) ≡ None
-  pub kept : f.kept ≡ length (filter is_feature (kept_from f.rules [] (map ended_line (closed p))))
-  pub refused : f.refused ≡ length (reported_from f.rules [] (map ended_line (closed p)))
+  pub counted : AreCounted (rulings_closed f.rules p) f.kept f.refused
   pub peak : f.header.peak ≡ length f.header.elements
   pub line_peak : f.line.peak ≡ max (greatest (held_length f.rules.limits) (later_of (closed p)))
       (held_length f.rules.limits (begun_later p))
   pub header_within : IsWithin f.header
   pub line_within : IsWithin f.line
-
--- the kept ones of the lines that LF ended, of a stream of which none of these is the end
-abbrev pub kept_closed : Rules → List ℕ → List Item
-kept_closed rules s = kept_from rules [] (map ended_line (closed s))
 
 -- bytes that have been read, and further ones
 pub record Further : Type 0 where
@@ -212,8 +205,8 @@ further read more = record { read = read; more = more }
 pub record Advances {S : Type 0} (law : SinkLaw S) (bytes : Further) (old new : WithSink Reading S) : Type 0 where
   pub rules : new.state.rules ≡ old.state.rules
   pub reads : Reads new.state (bytes.read ++ bytes.more)
-  pub puts : TookMore law.takes (kept_closed old.state.rules bytes.read)
-      (kept_closed old.state.rules (bytes.read ++ bytes.more)) old.sink new.sink
+  pub puts : TookMore law.takes kept_of (rulings_closed old.state.rules bytes.read)
+      (rulings_closed old.state.rules (bytes.read ++ bytes.more)) old.sink new.sink
 
 -- this line comes after those that LF ended in p, of the lines of q that can be judged
 abbrev pub IsNext : LimitPair → List ℕ → List ℕ → Line → Type 0
@@ -263,8 +256,8 @@ pub record Stops {S : Type 0} (law : SinkLaw S) (bytes : Further) (old : WithSin
   pub cut : bytes.more ≡ done ++ left
   pub rules : new.state.rules ≡ old.state.rules
   pub reads : Reads new.state (bytes.read ++ done)
-  pub puts : TookMore law.takes (kept_closed old.state.rules bytes.read)
-      (kept_closed old.state.rules (bytes.read ++ done)) old.sink middle
+  pub puts : TookMore law.takes kept_of (rulings_closed old.state.rules bytes.read)
+      (rulings_closed old.state.rules (bytes.read ++ done)) old.sink middle
   pub cause : HasCause law
       (stop_at old.state.rules (bytes.read ++ done) (bytes.read ++ bytes.more) new.state.lines) middle new.sink end
 

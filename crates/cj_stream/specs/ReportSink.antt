@@ -7,8 +7,8 @@ use Rattle.cj_stream.specs.declared.report_sink.Report.{Report}
 use Rattle.cj_stream.specs.Cut.{InPieces, all_of, given_of}
 use Rattle.cj_stream.specs.Lines.{whole}
 use Rattle.cj_stream.specs.Meaning.Outputs.{Took}
-use Rattle.cj_stream.specs.Sink.{prefixes, TookFront}
-use Rattle.cj_stream.specs.Verdict.{Stream, Stretch, reported, reported_first}
+use Rattle.cj_stream.specs.Sink.{TookOf, prefixes, TookFront}
+use Rattle.cj_stream.specs.Verdict.{Stream, Stretch, reported, reported_of}
 
 -- a report goes up a count by one, which stops at the greatest u64
 abbrev pub CountsReport : CountReports → Report → CountReports → Type 0
@@ -19,10 +19,8 @@ abbrev pub Collects : List Report → Report → List Report → Type 0
 Collects a r b = b ≡ a ++ r ∷ []
 
 -- the reports of these lines were noted
-pub record Notes {N : Type 0} (notes : N → Report → N → Type 0) (part : Stretch) (n m : N) : Type 0 where
-  pub added : List Report
-  pub told : reported_first part.rules part.to part.bytes ≡ reported_first part.rules part.from part.bytes ++ added
-  pub noted : Took notes n added m
+abbrev pub Notes : {N : Type 0} → (N → Report → N → Type 0) → Stretch → N → N → Type 0
+Notes notes part n m = TookOf notes reported_of part n m
 
 -- what was noted of the bytes that a run read, by its end: what is reported of them, or of their whole lines where a
 -- read failed or the reads ran out; or a prefix of that where a write failed, and nothing where memory was refused

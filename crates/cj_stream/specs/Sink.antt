@@ -3,6 +3,7 @@ use Rattle.std.specs.Prelude.{◌≡◌, ℕ, List, [], ◌∷◌, ◌++◌, Opt
 use Rattle.std.specs.Io.KnownBytes.{Appends}
 use Rattle.cj_stream.specs.Items.{Item}
 use Rattle.cj_stream.specs.Meaning.Outputs.{Took}
+use Rattle.cj_stream.specs.Verdict.{Ruling, Stretch, rulings_first}
 pub use Rattle.cj_budget.specs.Meaning.Counts.{HasRisen}
 pub use Rattle.cj_budget.specs.Counts.{counted}
 
@@ -29,9 +30,19 @@ abbrev pub RisesOnErr : {T E : Type 0} → Result T E → ℕ → ℕ → Type 0
 RisesOnErr (Ok x) old new = new ≡ old
 RisesOnErr (Err e) old new = HasRisen old new
 
--- it had taken some items, and has now taken these others, which begin with them
-abbrev pub TookMore : {S X : Type 0} → (S → X → S → Type 0) → List X → List X → S → S → Type 0
-TookMore {S} {X} step before after old new = (added : List X) × (after ≡ before ++ added) × Took step old added new
+-- What a sink has taken of lines, where f says what it gets by their results: of the lines with the first results it
+-- had taken that, and now it has taken that of all these lines, which begin with them.
+pub record TookMore {S X : Type 0} (step : S → X → S → Type 0) (f : List Ruling → List X) (before after : List Ruling)
+    (old new : S) : Type 0 where
+  pub done : List Ruling
+  pub grown : after ≡ before ++ done
+  pub took : Took step old (f done) new
+
+-- the same of the lines of a stream from one count of them to another
+abbrev pub TookOf : {S X : Type 0} → (S → X → S → Type 0) → (List Ruling → List X) → Stretch → S → S → Type 0
+TookOf step f part old new =
+    TookMore step f (rulings_first part.rules part.from part.bytes) (rulings_first part.rules part.to part.bytes) old
+    new
 
 -- what a failed step may leave, by the first of those that were to come
 abbrev pub LeavesNext : {S X : Type 0} → (S → X → S → Type 0) → List X → S → S → Type 0

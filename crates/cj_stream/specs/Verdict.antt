@@ -1,6 +1,6 @@
 -- What is kept, written and reported of a stream, line after line, as functions. The laws say that these are what the
 -- list of its judged lines says.
-use Rattle.std.specs.Prelude.{ℕ, ◌+◌, List, [], ◌∷◌, ◌++◌, Bool, true, false, not, ◌&&◌, ◌||◌, ◌==◌, nat_lt}
+use Rattle.std.specs.Prelude.{◌≡◌, ℕ, ◌+◌, List, [], ◌∷◌, ◌++◌, Bool, true, false, not, ◌&&◌, ◌||◌, ◌==◌, nat_lt}
 use Rattle.std.specs.Prelude.{if◌then◌else◌, Option, Some, None, length, take, map, unwrap_or, is_some}
 use Rattle.std.specs.List.{filter, flat_map, list_all}
 use Rattle.std.specs.Str.{is_utf8}
@@ -171,6 +171,19 @@ kept_from rules before ls = kept_of (rulings rules before ls)
 abbrev pub reported_from : Rules → List Line → List Line → List Report
 reported_from rules before ls = reported_of (rulings rules before ls)
 
+-- the results of the lines that LF ended in some bytes, and of the first n lines
+abbrev pub rulings_closed : Rules → List ℕ → List Ruling
+rulings_closed rules s = rulings rules [] (map ended_line (closed s))
+
+abbrev pub rulings_first : Rules → ℕ → List ℕ → List Ruling
+rulings_first rules n s = rulings rules [] (take n (lines s))
+
+-- none of these results is an end, and so many features are kept by them, and so many lines reported
+pub record AreCounted (rs : List Ruling) (features refusals : ℕ) : Type 0 where
+  pub good : first_end rs ≡ None
+  pub kept : features ≡ length (filter is_feature (kept_of rs))
+  pub refused : refusals ≡ length (reported_of rs)
+
 -- the first such refusal among the lines of a stream, or of a prefix of them
 abbrev pub refusal_in : Rules → List Line → Option End
 refusal_in rules ls = refusal_from rules [] ls
@@ -179,6 +192,10 @@ refusal_in rules ls = refusal_from rules [] ls
 -- lines, unless the first is invalid.
 abbrev pub good : Rules → List ℕ → List Line
 good rules s = good_from rules [] (lines s)
+
+-- the results of these
+abbrev pub rulings_good : Rules → List ℕ → List Ruling
+rulings_good rules s = rulings rules [] (good rules s)
 
 -- the header and the features among them
 abbrev pub kept : Rules → List ℕ → List Item
@@ -216,10 +233,6 @@ kept_first rules n s = kept_from rules [] (take n (lines s))
 -- what is written of the first n lines
 abbrev pub output_first : Rules → ℕ → List ℕ → List ℕ
 output_first rules n s = flat_map raw_item (kept_first rules n s)
-
--- the features among the kept ones
-abbrev pub features_first : Rules → ℕ → List ℕ → List Item
-features_first rules n s = filter is_feature (kept_first rules n s)
 
 -- what is reported of the first n lines
 abbrev pub reported_first : Rules → ℕ → List ℕ → List Report

@@ -1,4 +1,4 @@
-use Rattle.cityseq_command.proofs.Common.{Consumes, Filter, HasRisen, IsAtEnd, List, Memory, Ok, [], ap, channel, fault_line, output_failures, refl, run_of, status_after, stream_of, subst, sym, ℕ, ◌∙◌, ◌≡◌}
+use Rattle.cityseq_command.proofs.Common.{Consumes, Filter, HasRisen, IsAtEnd, List, Memory, Ok, Took, [], ap, channel, fault_line, output_failures, refl, run_of, status_after, stream_of, subst, sym, ℕ, ◌∙◌, ◌≡◌}
 use Rattle.cityseq_command.specs.Performed.{told_by, Does, Performs, asked, rules_of_ask}
 use Rattle.cityseq_command.specs.ReportWriter.{WritesReport, lent_output, report_lines}
 use Rattle.cityseq_command.proofs.PerformLemmas.{Answers-kept, Does-run, enough-told, lacks-room}
@@ -6,6 +6,8 @@ use Rattle.cityseq_command.proofs.WroteLemmas.{WroteAfter-then, wrote-reports}
 use Rattle.cityseq_command.proofs.ask.perform.Given.{Over}
 use Rattle.cityseq_command.proofs.ask.perform.Goals.{in-Check, in-Filter, in-Info}
 use Rattle.cityseq_command.proofs.ask.perform.Goals as goal
+use Rattle.cj_stream.specs.ReportSink.{Collects}
+use Rattle.cj_stream.proofs.TookLemmas.{More-all, over-reported}
 
 -- what is asked was done before the flush
 abbrev Did : (g : Over) → goal.After-status_after g → List ℕ → Type 0
@@ -79,12 +81,10 @@ performs g c r d =
           enough-told c.args.ask.now r _ d.outcome d.refused told _ _ _ d.answers d.within few is;
       reported = d.reported.collected;
       usual = λ off.
-          let added = d.reported.collected.reports in
           let law = c.first_invalid_line_is_the_end.ensures.unreported_first in
-          let none : added.added ≡ [] =
-          sym added.told ∙ law (rules_of_ask c.args.ask.now) r d.outcome.lines off d.account.counts.good in
-          let taken = rw none at added.noted in
-          taken;
+          subst (λ rs. Took Collects [] rs d.refused)
+          (law (rules_of_ask c.args.ask.now) r d.outcome.lines off d.account.counts.counted.good)
+          (More-all Collects over-reported d.reported.collected.reports);
       answers = Answers-kept c.args.ask.now r _ d.outcome d.refused told (channel g.W.Write.contents c.args.out.now)
           (channel g.W.Write.contents c.match-ask.out) (channel g.W.Write.contents c.flush.new.self) d.answers
           c.flush.ensures.bytes c.flush.ensures.failures;

@@ -6,7 +6,7 @@ use Rattle.cj_stream.proofs.laws.reports_are_collected.Goals as goal
 
 pub returns-clause-runs : goal.returns-clause-runs
 returns-clause-runs g c =
-    λ run left account none. Noting-collected run (IsAtEnd left) account.counts.good account.ends none
+    λ run left account none. Noting-collected run (IsAtEnd left) account none
 
 pub returns-clause-headline : goal.returns-clause-headline
 returns-clause-headline g c = λ run left a b runs lacks cause.
@@ -14,7 +14,7 @@ returns-clause-headline g c = λ run left a b runs lacks cause.
     Headline-run Collects run (IsAtEnd left) (channel contents a) (channel contents b) []
     (reported_first run.rules run.outcome.lines run.read) runs.account
     (Writes-puts (λ o. contents (output_writer o)) output_failures run.rules run.read a b run.outcome.ended runs.puts)
-    (Noting-collected run (IsAtEnd left) runs.account.counts.good runs.account.ends
+    (Noting-collected run (IsAtEnd left) runs.account
     (λ is. undealt run (IsAtEnd left) runs.account (lacks is))).noted cause lacks
     (λ is. subst (λ s. Keeps (contents (output_writer a)) (contents (output_writer s)))
     (sym (unput (output_law contents) run (IsAtEnd left) a b runs is (lacks is))) (Keeps-same _))

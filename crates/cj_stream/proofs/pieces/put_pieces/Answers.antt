@@ -14,10 +14,10 @@ returns g c =
     let pieces = map (λ piece. piece.now) c.args.pieces.now in
     let given = joined (take (c.feed_all.result.taken + 1) (map (λ piece. piece.now) c.args.pieces.now)) in
     let unread = unread-at rules [] pieces r.taken r.ended e.fed.at in
-    let sink = Delivers-whole g.S.LineSink.law rules [] 0 refl c.args.sink.now c.feed_all.new.sink pieces r.taken
+    let sink = Delivers-whole rules [] 0 refl g.S.LineSink.law c.args.sink.now c.feed_all.new.sink pieces r.taken
     (lines_of c.feed_all.new.engine) r.ended e.taken in
-    let noted = NotesRun-told g.N.ReportSink.notes rules given _ _ _ _ e.fed.counts.good e.reports r.ended e.ends
-    (λ lacks. (e.fed.memory lacks).none) in
+    let noted = NotesRun-told g.N.ReportSink.notes rules given _ (lines_of c.feed_all.new.engine) _ _
+    e.fed.counts.counted.good e.reports r.ended e.ends (λ lacks. (e.fed.memory lacks).none) in
     record {
       fed = e.fed;
       puts = PutsPieces-ends g.S.LineSink.law rules pieces r.taken _ _ _ _ _ e.fed.counts r.ended e.ends sink e.taken

@@ -1,10 +1,11 @@
-use Rattle.cj_stream.proofs.Common.{Err, Memory, ReadFault, ReadLimit, [], ap, append-nil, arith, inr, is_err, kept_from, length, length-append, length-take, lines_of, outcome_of, refl, rules_of, sym, take, ◌++◌, ◌+◌, ◌∙◌, ◌≡◌}
-use Rattle.cj_stream.proofs.RunLemmas.{Consumes-then, Consumes-kept, Delivers-then, Runs-left, Ends-finished, Ends-fed, whole-good, HasRisen-after, told-not_complete, fault-not_complete, limit-not_complete, Gave-finished, Gave-fed, last-none, last-piece, least-going, begun-judged, stops-after}
+use Rattle.cj_stream.proofs.Common.{Err, IsAtEnd, Memory, ReadFault, ReadLimit, Run, [], ap, append-nil, arith, inr, is_err, length, length-append, length-take, lines_of, outcome_of, refl, rules_of, sym, take, ◌++◌, ◌+◌, ◌∙◌, ◌≡◌}
+use Rattle.cj_stream.proofs.RunLemmas.{Consumes-then, Consumes-kept, Delivers-then, Ends-finished, Ends-fed, whole-good, HasRisen-after, told-not_complete, fault-not_complete, limit-not_complete, Gave-finished, Gave-fed, last-none, last-piece, least-going, begun-judged, stops-after}
 use Rattle.cj_stream.proofs.LeastLemmas.{begun-held}
 use Rattle.cj_stream.proofs.CutLemmas.{unread-told, unread-concludes}
 use Rattle.cj_stream.proofs.FirstLemmas.{first-same}
-use Rattle.cj_stream.proofs.NoteLemmas.{Notes-then, Notes-more, Noting-told}
-use Rattle.cj_stream.proofs.OutputLemmas.{Runs-told}
+use Rattle.cj_stream.proofs.NoteLemmas.{Both-left, Both-told}
+use Rattle.cj_stream.proofs.TookLemmas.{More-over, More-then, over-reported}
+use Rattle.cj_stream.specs.Source.{source_reader}
 use Rattle.cj_stream.proofs.DeviceLemmas.{unfailed-end, unfailed-limit, unread-limit}
 use Rattle.cj_stream.proofs.running.drive.Goals as goal
 
@@ -18,7 +19,10 @@ pub returns-in-Err-clause-runs : goal.returns-in-Err-clause-runs
 returns-in-Err-clause-runs g c =
     let i = c.loop-i.invariant in
     let r = i.5.0 in
-    let stands = i.5.2 in (
+    let stands = i.5.2 in
+    let both = Both-left g.S.LineSink.law g.N.ReportSink.notes c.loop-i.engine (rules_of c.args.engine.now) r
+    (IsAtEnd (g.R.Read.remaining (source_reader c.read.new.self))) _ _ _ _ ReadFault i.3 fault-not_complete fault-apart
+    (whole-good c.loop-i.engine r (stands.going i.2).0) (λ m u e. e) stands i.5.3 i.5.5 in (
       r,
       Consumes-kept _ _ _ r i.5.1 c.in-Err.ensures.bytes,
       record {
@@ -27,14 +31,8 @@ returns-in-Err-clause-runs g c =
         least = i.5.4;
         most = omega (arith, i.1, (stands.going i.2).2);
       },
-      rw (← i.3) (let k = rw (← i.3) at i.5.3 in
-          Runs-left _ c.loop-i.engine r _ _ _ ReadFault fault-not_complete
-          (whole-good c.loop-i.engine r (stands.going i.2).0) (λ m u e. e) stands k),
-      Noting-told g.N.ReportSink.notes
-          (record { rules = rules_of c.args.engine.now; read = r; outcome = outcome_of c.loop-i.engine ReadFault })
-          (Unit {0}) c.args.reports.now c.loop-i.reports
-          (let k = stands.counts.good in rw i.3 at k) (let k = whole-good c.loop-i.engine r (stands.going i.2).0 in
-          rw i.3 at k) (λ h. absurd (fault-apart h)) i.5.5,
+      both.0,
+      both.1,
       stops-after c.loop-i.engine.reading _ r [] (stands.going i.2).0 i.3 (sym (append-nil r)) refl (omega arith)
           (λ h. absurd (fault-apart h))
           (let k = least-going c.loop-i.engine r (stands.going i.2).0 (stands.going i.2).1 in rw i.3 at k)
@@ -45,56 +43,42 @@ pub returns-in-Ok-eq0-clause-runs : goal.returns-in-Ok-eq0-clause-runs
 returns-in-Ok-eq0-clause-runs g c =
     let i = c.loop-i.invariant in
     let r = i.5.0 in
-    let stands = c.finish.ensures.finished.stands r i.5.2 in (
+    let finished = c.finish.ensures.finished in
+    let stands = finished.stands r i.5.2 in
+    let run : Run =
+    record { rules = rules_of c.args.engine.now; read = r; outcome = outcome_of c.finish.new.self c.finish.result } in
+    let unread = unread-concludes _ r _ c.finish.result (finished.concludes r i.5.2 i.2) in
+    let both = Both-told g.S.LineSink.law g.N.ReportSink.notes run
+    (IsAtEnd (g.R.Read.remaining (source_reader c.read.new.self))) c.args.sink.now c.finish.new.sink c.args.reports.now
+    c.finish.new.reports
+    (record {
+      bounded = let k = stands.bounded in rw (finished.rules, i.3) at k;
+      exact = λ h. let k = finished.exact r i.5.2 i.2 h in rw i.3 at k;
+      counts = let k = stands.counts in rw (finished.rules, i.3) at k;
+      ends = Ends-finished _ r _ _ c.finish.result
+          (c.in-Ok-eq0.ensures.bytes.1 c.in-Ok-eq0.field-0-test (omega (arith, c.read.auto.buffer, i.0)))
+          (let k = finished.concludes r i.5.2 i.2 in rw i.3 at k);
+    })
+    (λ h. absurd (finished.memory i.2 h))
+    (let k = finished.sink r i.5.2 i.2 in
+    let j = rw (i.3, finished.ended) at k in
+    Delivers-then refl i.5.3 j)
+    (let k = c.finish.ensures.reports r i.5.2 i.2 in
+    More-then g.N.ReportSink.notes over-reported i.5.5 (rw i.3 at k)) in (
       r,
       let k = Consumes-then _ _ _ r (take c.in-Ok-eq0.field-0 c.read.new.buffer) i.5.1 c.in-Ok-eq0.ensures.bytes.0 in
           rw (c.in-Ok-eq0.field-0-test, append-nil r) at k,
       record {
         giving = c.loop-i._i;
-        gave = Gave-finished _ _ c.finish.result (omega arith)
-            (unread-concludes _ r _ c.finish.result (c.finish.ensures.finished.concludes r i.5.2 i.2));
+        gave = Gave-finished _ _ c.finish.result (omega arith) unread;
         least = i.5.4;
         most = omega (arith, i.1, (i.5.2.going i.2).2);
       },
-      Runs-told g.S.LineSink.law (record {
-        rules = rules_of c.args.engine.now;
-        read = r;
-        outcome = outcome_of
-            c.finish.new.self c.finish.result;
-      }) _ c.args.sink.now c.finish.new.sink
-          (record {
-            bounded = let k = stands.bounded in rw (c.finish.ensures.finished.rules, i.3) at k;
-            exact = λ h. let k = c.finish.ensures.finished.exact r i.5.2 i.2 h in rw i.3 at k;
-            counts = let k = stands.counts in rw (c.finish.ensures.finished.rules, i.3) at k;
-            ends = Ends-finished _ r _ _ c.finish.result
-                (c.in-Ok-eq0.ensures.bytes.1 c.in-Ok-eq0.field-0-test (omega (arith, c.read.auto.buffer, i.0)))
-                (let k = c.finish.ensures.finished.concludes r i.5.2 i.2 in rw i.3 at k);
-          })
-          (let k = c.finish.ensures.finished.sink r i.5.2 i.2 in
-          let j = rw (i.3, c.finish.ensures.finished.ended) at k in
-          Delivers-then refl i.5.3 j),
-      Noting-told g.N.ReportSink.notes
-          (record {
-            rules = rules_of c.args.engine.now;
-            read = r;
-            outcome = outcome_of c.finish.new.self c.finish.result;
-          }) (Unit {0}) c.args.reports.now
-          c.finish.new.reports
-          (let k = stands.counts.good in rw (c.finish.ensures.finished.rules, i.3) at k)
-          (Ends-finished _ r _ (Unit {0}) c.finish.result tt (let k = c.finish.ensures.finished.concludes r i.5.2 i.2 in
-          rw i.3 at k))
-          (λ h. absurd (c.finish.ensures.finished.memory i.2 h))
-          (let k = c.finish.ensures.reports r i.5.2 i.2 in Notes-then g.N.ReportSink.notes _ i.5.5 (rw i.3 at k)),
+      both.0,
+      both.1,
       stops-after c.loop-i.engine.reading _ r [] (i.5.2.going i.2).0 i.3 (sym (append-nil r))
-          (last-none c.finish.result) (c.finish.ensures.finished.onward r i.5.2)
-          (λ h. absurd (c.finish.ensures.finished.memory i.2 h))
-          (let k = c.finish.ensures.finished.least r i.5.2 i.2 in rw i.3 at k)
-          (begun-judged (record {
-            rules = rules_of c.args.engine.now;
-            read = r;
-            outcome = outcome_of c.finish.new.self c.finish.result;
-          }) c.finish.result
-          (unread-concludes _ r _ c.finish.result (c.finish.ensures.finished.concludes r i.5.2 i.2))),
+          (last-none c.finish.result) (finished.onward r i.5.2) (λ h. absurd (finished.memory i.2 h))
+          (let k = finished.least r i.5.2 i.2 in rw i.3 at k) (begun-judged run c.finish.result unread),
     )
 
 pub returns-in-Ok-eq0-clause-cause : goal.returns-in-Ok-eq0-clause-cause
@@ -107,61 +91,50 @@ returns-in-Err-feed-clause-runs g c =
     let r = i.5.0 in
     let piece = take c.in-Ok.n c.read.new.buffer in
     let e = c.loop-i.engine in
+    let feeds = c.in-Err-feed.ensures.feeds in
     let grown : length (r ++ piece) ≡ length r + c.in-Ok.n = length-append r piece
     ∙ ap (λ n. length r + n) (sym c.in-Ok.ensures.bound.1) in
-    let stands = c.feed.ensures.feeds.stands r i.5.2 in (
+    let stands = feeds.stands r i.5.2 in
+    let told = feeds.told r i.5.2 i.2 in
+    let lacks = λ (h : c.in-Err-feed.end ≡ Memory).
+    (feeds.memory r i.5.2 i.2 (ap Err h)).0 in
+    let same = first-same (rules_of c.args.engine.now) (lines_of e) r piece (i.5.2.going i.2).0.lines in
+    let run : Run =
+    record { rules = rules_of c.args.engine.now; read = r ++ piece; outcome = outcome_of c.feed.new.self
+        c.in-Err-feed.end } in
+    let both = Both-told g.S.LineSink.law g.N.ReportSink.notes run
+    (IsAtEnd (g.R.Read.remaining (source_reader c.read.new.self))) c.args.sink.now c.feed.new.sink c.args.reports.now
+    c.feed.new.reports
+    (record {
+      bounded = let k = stands.bounded in rw (i.2, feeds.rules, i.3) at k;
+      exact = λ h. absurd (told-not_complete (rules_of e) (r ++ piece) (lines_of c.feed.new.self) c.in-Err-feed.end told
+          h);
+      counts = let k = stands.counts in rw (i.2, feeds.rules, i.3) at k;
+      ends = Ends-fed _ (r ++ piece) _ _ c.in-Err-feed.end (rw i.3 at told);
+    })
+    (λ h. (lacks h).none)
+    (let k = feeds.sink r i.5.2 i.2 in
+    let j = rw (i.3, feeds.ended) at k in
+    Delivers-then same i.5.3 j)
+    (let k = c.feed.ensures.reports r i.5.2 i.2 in
+    More-then g.N.ReportSink.notes over-reported (More-over g.N.ReportSink.notes over-reported refl same i.5.5)
+    (rw i.3 at k)) in (
       r ++ piece,
       Consumes-then _ _ _ r piece i.5.1 c.in-Ok.ensures.bytes.0,
       record {
         giving = c.loop-i._i + 1;
-        gave = Gave-fed _ (r ++ piece) _ _ _ c.in-Err-feed.end (omega arith)
-            (c.in-Err-feed.ensures.feeds.told r i.5.2 i.2);
+        gave = Gave-fed _ (r ++ piece) _ _ _ c.in-Err-feed.end (omega arith) told;
         least = omega (arith, i.5.4, grown);
         most = omega (arith, i.1, (i.5.2.going i.2).2, grown, c.in-Ok.ensures.bound.0, c.read.auto.buffer, i.0);
       },
-      Runs-told g.S.LineSink.law (record {
-        rules = rules_of c.args.engine.now;
-        read = r ++ piece;
-        outcome = outcome_of
-            c.feed.new.self c.in-Err-feed.end;
-      }) _ c.args.sink.now c.feed.new.sink
-          (record {
-            bounded = let k = stands.bounded in rw (i.2, c.feed.ensures.feeds.rules, i.3) at k;
-            exact = λ h. absurd (told-not_complete (rules_of e) (r ++ piece) (lines_of c.feed.new.self)
-                c.in-Err-feed.end (c.in-Err-feed.ensures.feeds.told r i.5.2 i.2) h);
-            counts = let k = stands.counts in rw (i.2, c.feed.ensures.feeds.rules, i.3) at k;
-            ends = Ends-fed _ (r ++ piece) _ _ c.in-Err-feed.end
-                (let k = c.in-Err-feed.ensures.feeds.told r i.5.2 i.2 in rw i.3 at k);
-          })
-          (let k = c.feed.ensures.feeds.sink r i.5.2 i.2 in
-          let j = rw (i.3, c.in-Err-feed.ensures.feeds.ended) at k in
-          Delivers-then
-          (first-same (kept_from (rules_of c.args.engine.now)) (lines_of e) r piece (i.5.2.going i.2).0.lines) i.5.3 j),
-      Noting-told g.N.ReportSink.notes
-          (record {
-            rules = rules_of c.args.engine.now;
-            read = r ++ piece;
-            outcome = outcome_of c.feed.new.self c.in-Err-feed.end;
-          }) (Unit {0}) c.args.reports.now c.feed.new.reports
-          (let k = stands.counts.good in rw (i.2, c.feed.ensures.feeds.rules, i.3) at k)
-          (Ends-fed _ (r ++ piece) _ (Unit {0}) c.in-Err-feed.end
-          (let k = c.in-Err-feed.ensures.feeds.told r i.5.2 i.2 in rw i.3 at k))
-          (λ h. (c.feed.ensures.feeds.memory r i.5.2 i.2 (c.in-Err-feed.is ∙ ap Err h)).0.none)
-          (let k = c.feed.ensures.reports r i.5.2 i.2 in
-          Notes-then g.N.ReportSink.notes _
-          (Notes-more g.N.ReportSink.notes _ r piece _ _ _ (i.5.2.going i.2).0.lines i.5.5) (rw i.3 at k)),
+      both.0,
+      both.1,
       stops-after e.reading _ r piece (i.5.2.going i.2).0 i.3 refl
-          (last-piece _ (r ++ piece) _ c.in-Err-feed.end piece (c.in-Err-feed.ensures.feeds.told r i.5.2 i.2)
+          (last-piece _ (r ++ piece) _ c.in-Err-feed.end piece told
           (omega (arith, c.in-Ok.ensures.bound.0, c.in-Ok.ensures.bound.1, c.read.auto.buffer, i.0)))
-          (c.feed.ensures.feeds.onward r i.5.2)
-          (λ h. inr (let k = (c.feed.ensures.feeds.memory r i.5.2 i.2 (c.in-Err-feed.is ∙ ap Err h)).0 in rw i.3 at k))
-          (let k = c.feed.ensures.feeds.least r i.5.2 i.2 in rw i.3 at k)
-          (begun-judged (record {
-            rules = rules_of c.args.engine.now;
-            read = r ++ piece;
-            outcome = outcome_of c.feed.new.self c.in-Err-feed.end;
-          }) c.in-Err-feed.end
-          (unread-told _ (r ++ piece) _ c.in-Err-feed.end (c.in-Err-feed.ensures.feeds.told r i.5.2 i.2))),
+          (feeds.onward r i.5.2) (λ h. inr (let k = lacks h in rw i.3 at k))
+          (let k = feeds.least r i.5.2 i.2 in rw i.3 at k)
+          (begun-judged run c.in-Err-feed.end (unread-told _ (r ++ piece) _ c.in-Err-feed.end told)),
     )
 
 pub returns-in-Err-feed-clause-cause : goal.returns-in-Err-feed-clause-cause
@@ -184,6 +157,7 @@ loop-i-preserved g c =
     let r = i.5.0 in
     let piece = take c.in-Ok.n c.read.new.buffer in
     let e = c.loop-i.engine in
+    let same = first-same (rules_of c.args.engine.now) (lines_of e) r piece (i.5.2.going i.2).0.lines in
     let grown : length (r ++ piece) ≡ length r + c.in-Ok.n = length-append r piece
     ∙ ap (λ n. length r + n) (sym c.in-Ok.ensures.bound.1) in (
       c.read.auto.buffer ∙ i.0,
@@ -197,13 +171,11 @@ loop-i-preserved g c =
         let k = c.feed.ensures.feeds.stands r i.5.2 in rw i.2 at k,
         let k = c.feed.ensures.feeds.sink r i.5.2 i.2 in
             let j = rw (i.3, c.in_default.ensures.feeds.unended) at k in
-            Delivers-then
-            (first-same (kept_from (rules_of c.args.engine.now)) (lines_of e) r piece
-            (i.5.2.going i.2).0.lines) i.5.3 j,
+            Delivers-then same i.5.3 j,
         omega (arith, i.5.4, grown),
         let k = c.feed.ensures.reports r i.5.2 i.2 in
-            Notes-then g.N.ReportSink.notes _
-            (Notes-more g.N.ReportSink.notes _ r piece _ _ _ (i.5.2.going i.2).0.lines i.5.5) (rw i.3 at k),
+            More-then g.N.ReportSink.notes over-reported
+            (More-over g.N.ReportSink.notes over-reported refl same i.5.5) (rw i.3 at k),
       ),
       c.read.ensures.failed ∙ ap is_err c.in-Ok.is,
       c.read.ensures.same_reference ∙ i.7,
@@ -232,7 +204,10 @@ pub returns-clause-runs : goal.returns-clause-runs
 returns-clause-runs g c =
     let i = c.loop-i.invariant in
     let r = i.5.0 in
-    let stands = i.5.2 in (
+    let stands = i.5.2 in
+    let both = Both-left g.S.LineSink.law g.N.ReportSink.notes c.loop-i.engine (rules_of c.args.engine.now) r
+    (IsAtEnd (g.R.Read.remaining (source_reader c.loop-i.source))) _ _ _ _ ReadLimit i.3 limit-not_complete limit-apart
+    (whole-good c.loop-i.engine r (stands.going i.2).0) (λ m u e. e) stands i.5.3 i.5.5 in (
       r,
       i.5.1,
       record {
@@ -241,14 +216,8 @@ returns-clause-runs g c =
         least = omega (arith, i.5.4);
         most = omega (arith, i.1, (stands.going i.2).2);
       },
-      rw (← i.3) (let k = rw (← i.3) at i.5.3 in
-          Runs-left _ c.loop-i.engine r _ _ _ ReadLimit limit-not_complete
-          (whole-good c.loop-i.engine r (stands.going i.2).0) (λ m u e. e) stands k),
-      Noting-told g.N.ReportSink.notes
-          (record { rules = rules_of c.args.engine.now; read = r; outcome = outcome_of c.loop-i.engine ReadLimit })
-          (Unit {0}) c.args.reports.now c.loop-i.reports
-          (let k = stands.counts.good in rw i.3 at k) (let k = whole-good c.loop-i.engine r (stands.going i.2).0 in
-          rw i.3 at k) (λ h. absurd (limit-apart h)) i.5.5,
+      both.0,
+      both.1,
       stops-after c.loop-i.engine.reading _ r [] (stands.going i.2).0 i.3 (sym (append-nil r)) refl (omega arith)
           (λ h. absurd (limit-apart h))
           (let k = least-going c.loop-i.engine r (stands.going i.2).0 (stands.going i.2).1 in rw i.3 at k)

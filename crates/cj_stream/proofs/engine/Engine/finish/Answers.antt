@@ -29,6 +29,7 @@ returns-clause-reports g c =
           let counts = Counts-finished g.S.LineSink.law c.self.inside.framer.reading w.finish_first.new.self.reading
           c.args.sink.now w.finish_first.new.sink p (st.going going).0 (answer_of header_end w.finish_first.result)
           (w.finish_first.ensures.finishes.answers p (st.going going).0) in
-          Notes-first g.N.ReportSink.notes c.self.inside.framer.reading.rules p _ _ _ _
-          (omega (arith, w.if-lines-gt0.false, c.lines.ensures)) w.finish_first.ensures.few counts.good refl)
+          Notes-first g.N.ReportSink.notes c.self.inside.framer.reading.rules p c.self.inside.framer.reading.lines
+          w.finish_first.new.self.reading.lines _ _
+          (omega (arith, w.if-lines-gt0.false, c.lines.ensures)) w.finish_first.ensures.few counts.counted.good refl)
     ]

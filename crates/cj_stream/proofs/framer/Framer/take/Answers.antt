@@ -11,7 +11,8 @@ whole bytes k =
 
 pub returns-in_err-progress-clause-reports : goal.returns-in_err-progress-clause-reports
 returns-in_err-progress-clause-reports g c = λ p reads.
-    Notes-none g.N.ReportSink.notes c.args.self.now.reading.rules _ _ _ _ _
+    Notes-none g.N.ReportSink.notes c.args.self.now.reading.rules (p ++ c.args.piece.now)
+    c.args.self.now.reading.lines c.take_front.new.self.reading.lines _ _
     (omega (arith, c.in_err-progress.ensures.none, c.if-lines-gt0.false, c.lines.ensures)) refl
 
 -- ---- what came of the rest
@@ -33,7 +34,10 @@ returns-in_err-take_piece-2-clause-least g c =
 pub returns-in_err-take_piece-2-clause-reports : goal.returns-in_err-take_piece-2-clause-reports
 returns-in_err-take_piece-2-clause-reports g c = λ p reads.
     let a = c.in_ok-progress.ensures.ok.advances p reads in
-    let k = Notes-header g.N.ReportSink.notes c.args.self.now.reading c.take_front.new.self.reading p _ _ _ _ _
+    let used = c.in_ok-progress.progress.used in
+    let rest = take (length c.args.piece.now - used) (drop used c.args.piece.now) in
+    let k = Notes-header g.N.ReportSink.notes c.args.self.now.reading c.take_front.new.self.reading p
+    (take used c.args.piece.now) rest c.take_piece-2.new.self.reading.lines _ _
     (omega (arith, c.if-lines-gt0.false, c.lines.ensures)) c.take_front.ensures.few a.rules a.reads
     (c.take_piece-2.ensures.reports (p ++ take c.in_ok-progress.progress.used c.args.piece.now) a.reads) in
     rw (whole c.args.piece.now c.in_ok-progress.progress.used) at k
@@ -46,7 +50,10 @@ returns-clause-ok g c =
 pub returns-clause-reports : goal.returns-clause-reports
 returns-clause-reports g c = λ p reads.
     let a = c.in_ok-progress.ensures.ok.advances p reads in
-    let k = Notes-header g.N.ReportSink.notes c.args.self.now.reading c.take_front.new.self.reading p _ _ _ _ _
+    let used = c.in_ok-progress.progress.used in
+    let rest = take (length c.args.piece.now - used) (drop used c.args.piece.now) in
+    let k = Notes-header g.N.ReportSink.notes c.args.self.now.reading c.take_front.new.self.reading p
+    (take used c.args.piece.now) rest c.take_piece-2.new.self.reading.lines _ _
     (omega (arith, c.if-lines-gt0.false, c.lines.ensures)) c.take_front.ensures.few a.rules a.reads
     (c.take_piece-2.ensures.reports (p ++ take c.in_ok-progress.progress.used c.args.piece.now) a.reads) in
     rw (whole c.args.piece.now c.in_ok-progress.progress.used) at k

@@ -1,11 +1,12 @@
 use Rattle.cj_stream.proofs.Common.{[], answer_of, ap, append-nil, append_assoc, arith, drop, err_from_is_err_and, line_end, refl, sym, take, ◌++◌, ◌+◌, ◌∙◌, ◌∷◌, ◌≡◌}
-use Rattle.cj_stream.proofs.NoteLemmas.{Notes-line, Notes-none, Notes-then}
+use Rattle.cj_stream.proofs.NoteLemmas.{Notes-line, Notes-none}
 use Rattle.cj_stream.proofs.PieceSlices.{lf_found, NoLf-before, NoLf-not_found, left_length, piece_more}
 use Rattle.cj_stream.proofs.PieceLemmas.{Advances-none}
 use Rattle.cj_stream.proofs.StaysLemmas.{Stays-then, Stays-same, settled-err}
 use Rattle.cj_stream.proofs.ScanningLemmas.{Rises-then, Rises-same}
 use Rattle.cj_stream.proofs.CarryingLemmas.{TakesAll-then, TakesSome-then}
 use Rattle.cj_stream.proofs.TakingLemmas.{TakesAll-stored, TakesSome-unstored, TakesSome-last, TakesAll-line, TakesSome-line}
+use Rattle.cj_stream.proofs.TookLemmas.{More-then, over-reported}
 use Rattle.cj_stream.proofs.framer.Framer.take_piece.Goals as goal
 
 pub loop-at-init : goal.loop-at-init
@@ -24,8 +25,8 @@ loop-at-init g c = record {
       scanned = λ q reads s. rw (append-nil q) s;
     },
   );
-  reports = λ q reads. Notes-none g.N.ReportSink.notes c.args.self.now.reading.rules (q ++ c.args.piece.now) _ _ _ _
-      refl refl;
+  reports = λ q reads. Notes-none g.N.ReportSink.notes c.args.self.now.reading.rules (q ++ c.args.piece.now)
+      c.args.self.now.reading.lines c.args.self.now.reading.lines _ _ refl refl;
 }
 
 pub loop-at-preserved : goal.loop-at-preserved
@@ -65,7 +66,7 @@ loop-at-preserved g c =
           let now = Notes-line g.N.ReportSink.notes c.loop-at.self.reading c.store.new.self.reading
           c.deal.new.self.reading (q ++ i.0) (take k rest) (drop (k + 1) rest) c.loop-at.reports c.deal.new.reports
           (i.2.advances q reads).reads free stored c.in_ok-deal.ensures.one c.in_ok-deal.ensures.noted in
-          Notes-then g.N.ReportSink.notes c.args.self.now.reading.rules (c.loop-at.invariant.reports q reads)
+          More-then g.N.ReportSink.notes over-reported (c.loop-at.invariant.reports q reads)
           (rw (text, c.loop-at.invariant.stays.rules) at now);
     }
 
