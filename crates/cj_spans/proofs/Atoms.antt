@@ -1,23 +1,22 @@
 -- Scalars and names in a line: what has been read of one, and the machine over it.
-use Rattle.cj_spans.proofs.Common.{◌≡◌, ℕ, zero, suc, ◌+◌, ◌-◌, ◌<◌, ◌≤◌, List, [], ◌∷◌, ◌++◌, length, true, Option, Some, None, refl, sym, ap, subst, arith, ◌∙◌, ◌⊎◌, inl, inr, cases_lt, option_and_then, Kind, Token, Lex, InString, Mode, After, Move, byte, token_at, State, state, between, in_atom, read, end_atom, go_on, step, settle, lex_step, lex_kind, Continues, still, further, Halts, Reaches, here, on, ComesTo, SticksFlat, phase_after, is_plain}
+use Rattle.cj_spans.proofs.Common.{◌≡◌, ℕ, zero, suc, ◌+◌, ◌-◌, ◌<◌, ◌≤◌, List, [], ◌∷◌, ◌++◌, length, true, Option, Some, None, refl, sym, ap, arith, ◌∙◌, ◌⊎◌, inl, inr, cases_lt, option_and_then, Kind, Token, Lex, InString, Mode, After, Move, byte, token_at, State, state, between, in_atom, read, end_atom, go_on, step, settle, lex_step, lex_kind, Continues, still, further, Halts, Reaches, here, on, ComesTo, SticksFlat, phase_after, is_plain}
 use Rattle.cj_spans.proofs.Spellings.{none_some, plain_goes}
 
 -- ---- the code's loop
 
 pub read_first : (b : List ℕ) (i : ℕ) (x : Lex) → Continues b (suc i) x (i + 1) x
-read_first b i x = let e : suc i ≡ i + 1 = omega arith in subst (λ k. Continues b (suc i) x k x) e still
+read_first b i x = let e : suc i ≡ i + 1 = omega arith in rw (← e) still
 
 pub read_more : {b : List ℕ} {i : ℕ} (k : ℕ) {x : Lex} (y z : Lex) {o : Option Lex} → Continues b i x k y → o ≡ Some z
     → o ≡ lex_step y (byte b k) → Continues b i x (k + 1) z
-read_more {b} {i} k {x} y z r is h =
+read_more k y z r is h =
     let e : suc k ≡ k + 1 = omega arith in
-    subst (λ n. Continues b i x n z) e (further k y z r (sym h ∙ is))
+    rw e at (further k y z r (sym h ∙ is))
 
 -- a byte that leaves the reading as it is
 pub read_same : {b : List ℕ} {i k : ℕ} {x y : Lex} → Continues b i x k y → lex_step y (byte b k) ≡ Some y
     → Continues b i x (k + 1) y
-read_same {b} {i} {k} {x} {y} r h = let e : suc k ≡ k + 1 = omega arith in subst (λ n. Continues b i x n y) e
-    (further k y y r h)
+read_same {k} {y} r h = let e : suc k ≡ k + 1 = omega arith in rw e at (further k y y r h)
 
 pub read_plain : {b : List ℕ} {i k : ℕ} {x : Lex} → Continues b i x k InString → is_plain (byte b k) ≡ true
     → Continues b i x (k + 1) InString
@@ -26,19 +25,19 @@ read_plain {b} {k} r h = read_same r (plain_goes (byte b k) h)
 -- n bytes that leave the reading as it is
 pub read_run : (n : ℕ) {b : List ℕ} {i k : ℕ} {x y : Lex}
     → ((j : ℕ) → k ≤ j → j < k + n → lex_step y (byte b j) ≡ Some y) → Continues b i x k y → Continues b i x (k + n) y
-read_run zero {b} {i} {k} {x} {y} each r = let e : k ≡ k + 0 = omega arith in subst (λ j. Continues b i x j y) e r
-read_run (suc n) {b} {i} {k} {x} {y} each r =
+read_run zero {k} each r = let e : k ≡ k + 0 = omega arith in rw e at r
+read_run (suc n) {k} each r =
     let e : k + 1 + n ≡ k + suc n = omega arith in
-    subst (λ j. Continues b i x j y) e (read_run n (λ j a c. each j (omega arith) (omega arith))
+    rw e at (read_run n (λ j a c. each j (omega arith) (omega arith))
     (read_same r (each k (omega arith) (omega arith))))
 
 -- the same of the bytes up to a place
 pub read_to : {b : List ℕ} {i k : ℕ} (n : ℕ) {x y : Lex} → k ≤ n
     → ((j : ℕ) → k ≤ j → j < n → lex_step y (byte b j) ≡ Some y)
     → Continues b i x k y → Continues b i x n y
-read_to {b} {i} {k} n {x} {y} l each r =
+read_to {k} n l each r =
     let e : k + (n - k) ≡ n = omega arith in
-    subst (λ j. Continues b i x j y) e (read_run (n - k) (λ j a c. each j a (omega arith)) r)
+    rw e at (read_run (n - k) (λ j a c. each j a (omega arith)) r)
 
 -- bytes of a string that stand for themselves
 pub plain_run : (n : ℕ) {b : List ℕ} {i k : ℕ} {x : Lex} → ((j : ℕ) → k ≤ j → j < k + n → is_plain (byte b j) ≡ true)
@@ -51,19 +50,18 @@ plain_to {b} n l each r = read_to n l (λ j a c. plain_goes (byte b j) (each j a
 
 -- ---- the machine
 
-atom_goes : (b ks : List ℕ) (ts : List Token) (m : Mode) (a k p : ℕ) (x z : Lex) → lex_step x (byte b k) ≡ Some z
-    → step (byte b k) (state (in_atom m a x) ks ts k p) ≡ Some (state (in_atom m a z) ks ts (suc k) p)
-atom_goes b ks ts m a k p x z h =
+pub atom_goes : (c : ℕ) (ks : List ℕ) (ts : List Token) (m : Mode) (a k p : ℕ) (x z : Lex) → lex_step x c ≡ Some z
+    → step c (state (in_atom m a x) ks ts k p) ≡ Some (state (in_atom m a z) ks ts (suc k) p)
+atom_goes c ks ts m a k p x z h =
     let s = state (in_atom m a x) ks ts k p in
-    ap (λ o. go_on (λ y. in_atom m a y) o s (option_and_then (read m (byte b k)) (end_atom m a (lex_kind x) s))) h
+    ap (λ o. go_on (λ y. in_atom m a y) o s (option_and_then (read m c) (end_atom m a (lex_kind x) s))) h
 
 pub continues_reaches : {b : List ℕ} {i : ℕ} {x : Lex} {k : ℕ} {y : Lex} → Continues b i x k y
     → {s : State} (m : Mode) (a : ℕ) (ks : List ℕ) (ts : List Token) (p : ℕ)
     → Reaches b s (state (in_atom m a x) ks ts i p) → Reaches b s (state (in_atom m a y) ks ts k p)
-continues_reaches {b} still m a ks ts p r = r
+continues_reaches still m a ks ts p r = r
 continues_reaches {b} (further k y z c h) m a ks ts p r =
-    on (state (in_atom m a y) ks ts k p) (state (in_atom m a z) ks ts (suc k) p) (continues_reaches c m a ks ts p r)
-    (atom_goes b ks ts m a k p y z h)
+    on _ _ (continues_reaches c m a ks ts p r) (atom_goes _ ks ts m a k p y z h)
 
 halted : (b ks : List ℕ) (ts : List Token) (m : Mode) (a k p : ℕ) (x : Lex) {r : Option Kind}
     → lex_step x (byte b k) ≡ None → lex_kind x ≡ r
@@ -71,8 +69,7 @@ halted : (b ks : List ℕ) (ts : List Token) (m : Mode) (a k p : ℕ) (x : Lex) 
     (end_atom m a r (state (in_atom m a x) ks ts k p))
 halted b ks ts m a k p x none kind =
     let s = state (in_atom m a x) ks ts k p in
-    ap (λ o. go_on (λ y. in_atom m a y) o s (option_and_then (read m (byte b k)) (end_atom m a (lex_kind x) s))) none
-    ∙ ap (λ q. option_and_then (read m (byte b k)) (end_atom m a q s)) kind
+    cc
 
 -- a scalar that may end where it halts has ended there
 pub ends_ok : {b : List ℕ} (i : ℕ) {k : ℕ} (p : ℕ) {x y : Lex} (kd : Kind) (m : Mode) (ks : List ℕ) (ts : List Token)
@@ -82,7 +79,7 @@ pub ends_ok : {b : List ℕ} (i : ℕ) {k : ℕ} (p : ℕ) {x y : Lex} (kd : Kin
 ends_ok {b} i {k} p {y} kd m ks ts {us} c h kind is =
     let last = state (in_atom m i y) ks ts k p in
     let next : suc (length ts) ≡ length ts + 1 = omega arith in
-    let e : ts ++ token_at i k (suc (length ts)) ∷ [] ≡ us = ap (λ l. ts ++ token_at i k l ∷ []) next ∙ sym is in
+    let e : ts ++ token_at i k (suc (length ts)) ∷ [] ≡ us = cc (next, is) in
     record {
       last = last;
       reached = continues_reaches c m i ks ts p here;
@@ -130,8 +127,7 @@ pub settles_at : (b : List ℕ) (m n : Mode) (i j p : ℕ) {v w : Move} (ks : Li
     → ComesTo b (state (phase_after m i v) ks ts (suc i) p) (state (between n) ks ts j p)
 settles_at b m n i j p {v} ks ts e f g =
     let h : suc i ≡ j = omega arith in
-    let q : phase_after m i v ≡ between n = ap (phase_after m i) e ∙ f in
+    let q : phase_after m i v ≡ between n = cc (e, f) in
     let s = state (between n) ks ts (suc i) p in
     let base : ComesTo b s s = record { last = s; reached = here; settles = refl; same = λ l. refl } in
-    subst (λ z. ComesTo b (state z ks ts (suc i) p) (state (between n) ks ts j p)) (sym q)
-    (subst (λ z. ComesTo b s (state (between n) ks ts z p)) h base)
+    rw q (rw (← h) base)

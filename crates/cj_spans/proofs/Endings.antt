@@ -1,15 +1,15 @@
 -- A prefix is what a text begins with: some bytes more make it one.
-use Rattle.cj_spans.proofs.Common.{◌≡◌, inl, inr, ℕ, zero, suc, ◌+◌, ◌<◌, ◌≤◌, List, [], ◌∷◌, ◌++◌, length, take, drop, get_or, Option, Some, None, refl, sym, ap, subst, arith, ◌∙◌, slice_get, slice_set, length-append, eq-or-lt_of_le, option_map, common_steps, take-append-drop, Kind, Array, Object, Token, Lex, Zero, InString, StringDone, Mode, Ready, FirstItem, After, FirstName, NextName, AfterName, Tree, nest, byte, Json, JsonPrefix, IsJsonPrefix, SyntaxAt, stuck, short, token_at, flatten, flatten_items, flatten_members, open_kind, State, state, in_atom, step, end_atom, after_token, after_in, still, Reaches, here, on, start, SinksAt, BeginsValue}
+use Rattle.cj_spans.proofs.Common.{◌≡◌, inl, inr, ℕ, zero, suc, ◌+◌, ◌<◌, ◌≤◌, List, [], ◌∷◌, ◌++◌, length, take, drop, get_or, Option, Some, None, refl, sym, ap, subst, arith, ◌∙◌, slice_get, slice_set, length-append, eq-or-lt_of_le, option_map, option_and_then, common_steps, take-append-drop, Kind, Array, Object, Token, Lex, Mode, Ready, FirstItem, After, FirstName, NextName, AfterName, Tree, nest, byte, Json, JsonPrefix, IsJsonPrefix, SyntaxAt, stuck, short, token_at, flatten, flatten_items, flatten_members, open_kind, State, state, in_atom, step, settle, end_atom, lex_step, Reaches, here, on, start, SinksAt, BeginsValue}
+use Rattle.std.specs.Prelude.{codes}
 use Rattle.std.proofs.lemmas.List.{get_or-append-add}
 use Rattle.std.proofs.Math.ListN.{get_or-append}
 use Rattle.cj_spans.specs.Meaning.Begins.{BeginsText, IsFirstFault, IsFirstTooDeep}
-use Rattle.cj_spans.proofs.Spellings.{can_end}
+use Rattle.cj_spans.proofs.Spellings.{some_same, stepped, lex_run, can_end}
 use Rattle.cj_spans.proofs.Lists.{slice_get-append, slice_get-seam, get_before, rise-nest}
-use Rattle.cj_spans.proofs.Runs.{IsEnd, colon, bracket, brace, Arrives, arrive_on, arrived, settled, idle, BeginsName}
+use Rattle.cj_spans.proofs.Runs.{IsEnd, colon, bracket, brace, Arrives, arrive_on, arrived, settled, settled_step, idle, BeginsName}
 use Rattle.cj_spans.proofs.Follows.{run_json}
-use Rattle.cj_spans.proofs.Places.{continues_run, step_name}
-use Rattle.cj_spans.proofs.Atoms.{continues_reaches}
-use Rattle.cj_spans.proofs.Sound.{with_name, Context, root, in_array, in_member, Inv, ready, first_item, after_tree, first_name, next_name, after_name, in_scalar, in_name, inv_reaches}
+use Rattle.cj_spans.proofs.Atoms.{atom_goes}
+use Rattle.cj_spans.proofs.Sound.{opened_object, with_name, Context, root, in_array, in_member, Inv, ready, first_item, after_tree, first_name, next_name, after_name, in_scalar, in_name, inv_reaches}
 use Rattle.cj_spans.proofs.Facts.{next_place, same_state, lawful_reaches, state_before}
 use Rattle.cj_spans.proofs.Fronts.{front_runs, inv_front}
 use Rattle.cj_spans.proofs.Verdicts.{spells, nest_of, sinks_deep, fronts_below, syntax_within}
@@ -19,7 +19,7 @@ use Rattle.cj_spans.proofs.Verdicts.{spells, nest_of, sinks_deep, fronts_below, 
 transfer : {b : List ℕ} (c : List ℕ) (n : ℕ) → ((k : ℕ) → k < n → byte b k ≡ byte c k) → {s : State} → Reaches b start s
     → s.place ≤ n → Reaches c start s
 transfer c n same here l = here
-transfer {b} c n same (on t v r h) l =
+transfer c n same (on t v r h) l =
     let p = next_place v r h in
     on t v (transfer c n same r (omega arith)) (ap (λ z. step z t) (sym (same t.place (omega arith))) ∙ h)
 
@@ -42,7 +42,7 @@ text_front {b} {i} l x =
     let r = transfer b i (λ k h. sym (same_byte b x.rest i k l h)) w.reached (omega arith) in
     record {
       open_count = length w.at.stack;
-      front = subst (λ n. JsonPrefix b 0 n (length w.at.stack)) w.place (inv_front (inv_reaches r));
+      front = rw w.place at (inv_front (inv_reaches r));
     }
 
 -- ---- the open containers and what closes them
@@ -80,7 +80,7 @@ container_more ts us k h = by_get (slice_get ts k) refl h
     by_get : (o : Option Token) → slice_get ts k ≡ o → IsContainer (option_map open_kind o)
         → IsContainer (kind_at (ts ++ us) k)
     by_get None e h = absurd h
-    by_get (Some t) e h = subst (λ o. IsContainer (option_map open_kind o)) (sym (slice_get-append ts us k t e)) h
+    by_get (Some t) e h = rw (slice_get-append ts us k t e) h
 
 containers_more : (ks : List ℕ) (ts us : List Token) → AllContainers ks ts → AllContainers ks (ts ++ us)
 containers_more [] ts us h = tt
@@ -88,12 +88,12 @@ containers_more (k ∷ ks) ts us h = (container_more ts us k h.0, h.1, container
 
 container_last : (ts : List Token) (t : Token) → IsContainer (Some (open_kind t))
     → IsContainer (kind_at (ts ++ t ∷ []) (length ts))
-container_last ts t h = subst (λ o. IsContainer (option_map open_kind o)) (sym (slice_get-seam ts [] t)) h
+container_last ts t h = rw (slice_get-seam ts [] t) h
 
 container_below : (ts : List Token) (k : ℕ) → IsContainer (kind_at ts k) → k < length ts
 container_below [] k h = absurd h
 container_below (z ∷ ts) zero h = omega arith
-container_below (z ∷ ts) (suc k) h = let l = container_below ts k h in omega arith
+container_below (z ∷ ts) (suc k) h = omega (arith, container_below ts k h)
 
 containers_below : (ks : List ℕ) (ts : List Token) → AllContainers ks ts → AreBelow (length ts) ks
 containers_below [] ts h = tt
@@ -120,7 +120,7 @@ context_containers (in_member e j k l ks ts us n c o m d w) =
 
 -- a token that is written anew leaves those before it as they are
 kind_set : (ts : List Token) (k j : ℕ) (u : Token) → j < k → kind_at (slice_set ts k u) j ≡ kind_at ts j
-kind_set ts k j u l = ap (option_map open_kind) (get_before ts k j u l)
+kind_set ts k j u l = cc (get_before ts k j u l)
 
 containers_set : (ks : List ℕ) (ts : List Token) (k : ℕ) (u : Token) → AreBelow k ks → AllContainers ks ts
     → AllContainers ks (slice_set ts k u)
@@ -131,8 +131,7 @@ containers_set (j ∷ ks) ts k u l h =
 closers_set : (ks : List ℕ) (ts : List Token) (k : ℕ) (u : Token) → AreBelow k ks
     → closers ks (slice_set ts k u) ≡ closers ks ts
 closers_set [] ts k u l = refl
-closers_set (j ∷ ks) ts k u l = ap (λ z. closer z ∷ closers ks (slice_set ts k u)) (kind_set ts k j u l.0)
-    ∙ ap (λ zs. closer (kind_at ts j) ∷ zs) (closers_set ks ts k u l.1)
+closers_set (j ∷ ks) ts k u l = cc (kind_set ts k j u l.0, closers_set ks ts k u l.1)
 
 -- from the place j on, the line has these bytes and no more
 record Has (c : List ℕ) (j : ℕ) (cs : List ℕ) : Type 0 where
@@ -140,11 +139,10 @@ record Has (c : List ℕ) (j : ℕ) (cs : List ℕ) : Type 0 where
   bytes : (n : ℕ) → n < length cs → byte c (j + n) ≡ get_or cs n 0
 
 has_head : (c : List ℕ) (j x : ℕ) (cs : List ℕ) → Has c j (x ∷ cs) → byte c j ≡ x
-has_head c j x cs h = let e : j ≡ j + 0 = omega arith in ap (byte c) e ∙ h.bytes 0 (omega arith)
+has_head c j x cs h = let e : j ≡ j + 0 = omega arith in cc (h.bytes 0 (omega arith))
 
 has_tail : (c : List ℕ) (j x : ℕ) (cs : List ℕ) → Has c j (x ∷ cs) → Has c (suc j) cs
 has_tail c j x cs h =
-    let w = h.whole in
     record {
       whole = omega arith;
       bytes = λ n l. let e : suc j + n ≡ j + suc n = omega arith in
@@ -156,9 +154,9 @@ close_step : (k : ℕ) (ks : List ℕ) (ts : List Token) (j p : ℕ) (t : Token)
     → step (closer (Some kd)) (idle After (k ∷ ks) ts j p)
     ≡ Some (idle After ks (slice_set ts k (token_at t.start (suc j) (length ts))) (suc j) p)
 close_step k ks ts j p t Array e q h = let s = idle After (k ∷ ks) ts j p in
-    ap (λ o. after_token 93 k o s) e ∙ ap (λ z. after_in z 93 k t s) q
+    cc
 close_step k ks ts j p t Object e q h = let s = idle After (k ∷ ks) ts j p in
-    ap (λ o. after_token 125 k o s) e ∙ ap (λ z. after_in z 125 k t s) q
+    cc
 close_step k ks ts j p t _ e q h = absurd h
 
 closer_end : (kd : Kind) → IsContainer (Some kd) → IsEnd (closer (Some kd))
@@ -189,7 +187,7 @@ close_all : (ks : List ℕ) {c cs : List ℕ} (ts : List Token) {j : ℕ} (p : �
 close_all [] {c} {cs} ts {j} p a all e h =
     let n : length cs ≡ 0 = sym (ap length e) in
     let q : j ≡ length c = omega arith in
-    record { tokens = ts; arrives = subst (λ z. Arrives c start (idle After [] ts z p)) q a }
+    record { tokens = ts; arrives = rw q at a }
 close_all (k ∷ ks) {c} ts {j} p a all e h =
     close_one ks ts k j (slice_get ts k) refl a all.0 (has_head c j _ _ (subst (Has c j) (sym e) h)) (λ u r.
     close_all ks (slice_set ts k u) {j = suc j} p
@@ -198,53 +196,43 @@ close_all (k ∷ ks) {c} ts {j} p a all e h =
 
 -- ---- a value after the front
 
--- a number after a place where a value may begin
-zero_step : {c : ℕ} (m : Mode) (ks : List ℕ) (ts : List Token) (j p : ℕ) → BeginsValue m → c ≡ 48
-    → step c (idle m ks ts j p) ≡ Some (state (in_atom After j Zero) ks ts (suc j) p)
-zero_step Ready ks ts j p h e = ap (λ z. step z (idle Ready ks ts j p)) e
-zero_step FirstItem ks ts j p h e = ap (λ z. step z (idle FirstItem ks ts j p)) e
-zero_step _ ks ts j p h e = absurd h
+-- the machine over these bytes
+abbrev over : List ℕ → State → Option State
+over [] s = Some s
+over (x ∷ w) s = option_and_then (over w) (step x s)
 
-read_zero : {c : List ℕ} (m : Mode) (ks : List ℕ) (ts : List Token) (j p : ℕ) → BeginsValue m → byte c j ≡ 48
-    → Reaches c start (idle m ks ts j p)
-    → Arrives c start (idle After ks (ts ++ token_at j (suc j) (suc (length ts)) ∷ []) (suc j) p)
-read_zero m ks ts j p h e r = record {
-  at = state (in_atom After j Zero) ks ts (suc j) p;
-  reached = on (idle m ks ts j p) (state (in_atom After j Zero) ks ts (suc j) p) r
-      (zero_step m ks ts j p h e);
-  settles = refl;
-}
+then_more : (f g h : State → Option State) → ((t : State) → h t ≡ option_and_then g (f t)) → (o : Option State)
+    → option_and_then h o ≡ option_and_then g (option_and_then f o)
+then_more f g h e None = refl
+then_more f g h e (Some t) = e t
 
-read_colon : {c : List ℕ} (ks : List ℕ) (ts : List Token) (j p : ℕ) → byte c j ≡ 58
-    → Arrives c start (idle AfterName ks ts j p) → Reaches c start (idle Ready ks ts (suc j) p)
-read_colon ks ts j p e a =
-    arrive_on (idle Ready ks ts (suc j) p) (subst IsEnd (sym e) colon) a (ap (λ z. step z (idle AfterName ks ts j p)) e)
+over-append : (v w : List ℕ) (s : State) → over (v ++ w) s ≡ option_and_then (over w) (over v s)
+over-append [] w s = refl
+over-append (x ∷ v) w s = then_more (over v) (over w) (over (v ++ w)) (λ t. over-append v w t) (step x s)
 
-read_value : {c : List ℕ} (ks : List ℕ) (ts : List Token) (j p : ℕ) → byte c j ≡ 58 → byte c (suc j) ≡ 48
-    → Arrives c start (idle AfterName ks ts j p)
-    → Arrives c start (idle After ks (ts ++ token_at (suc j) (suc (suc j)) (suc (length ts)) ∷ []) (suc (suc j)) p)
-read_value ks ts j p e f a = read_zero Ready ks ts (suc j) p tt f (read_colon ks ts j p e a)
+-- it comes so far in a line that has them
+runs_over : {c : List ℕ} (w : List ℕ) {s : State} (t : State) → Reaches c start s
+    → ((n : ℕ) → n < length w → byte c (s.place + n) ≡ get_or w n 0) → over w s ≡ Some t → Reaches c start t
+runs_over {c} [] t r b h = subst (Reaches c start) (some_same _ t h) r
+runs_over {c} (x ∷ w) {s} t r b h =
+    let q = stepped (over w) (step x s) t h in
+    let z : s.place ≡ s.place + 0 = omega arith in
+    let go : step (byte c s.place) s ≡ Some q.0 = ap (λ k. step k s) (ap (byte c) z ∙ b 0 (omega arith)) ∙ q.1 in
+    let p = next_place q.0 r go in
+    runs_over w t (on s q.0 r go) (λ n l.
+    let e : q.0.place + n ≡ s.place + suc n = omega arith in ap (byte c) e ∙ b (suc n) (omega arith)) q.2
 
--- an empty name
-read_name : {c : List ℕ} (m : Mode) (ks : List ℕ) (ts : List Token) (j p : ℕ) → BeginsName m → byte c j ≡ 34
-    → byte c (suc j) ≡ 34 → Reaches c start (idle m ks ts j p)
-    → Arrives c start (idle AfterName ks (ts ++ token_at j (suc (suc j)) (suc (length ts)) ∷ []) (suc (suc j)) p)
-read_name m ks ts j p h e f r =
-    let s = state (in_atom AfterName j InString) ks ts (suc j) p in
-    let q = on (idle m ks ts j p) s r (step_name m ks ts j p h e) in
-    record {
-      at = state (in_atom AfterName j StringDone) ks ts (suc (suc j)) p;
-      reached = on s (state (in_atom AfterName j StringDone) ks ts (suc (suc j)) p) q (ap (λ z. step z s) f);
-      settles = refl;
-    }
-
-read_member : {c : List ℕ} (m : Mode) (ks : List ℕ) (ts : List Token) (j p : ℕ) → BeginsName m → byte c j ≡ 34
-    → byte c (suc j) ≡ 34 → byte c (suc (suc j)) ≡ 58 → byte c (suc (suc (suc j))) ≡ 48
-    → Reaches c start (idle m ks ts j p)
-    → Arrives c start (idle After ks (let us = with_name ts j (suc (suc j)) in
-    us ++ token_at (suc (suc (suc j))) (suc (suc (suc (suc j)))) (suc (length us)) ∷ []) (suc (suc (suc (suc j)))) p)
-read_member m ks ts j p h e f g i r =
-    read_value ks (with_name ts j (suc (suc j))) (suc (suc j)) p g i (read_name m ks ts j p h e f r)
+-- over what a scalar or a name goes on with
+over_atom : (r : List ℕ) (m : Mode) (a k p : ℕ) (ks : List ℕ) (ts : List Token) (x y : Lex) → lex_run r x ≡ Some y
+    → over r (state (in_atom m a x) ks ts k p) ≡ Some (state (in_atom m a y) ks ts (k + length r) p)
+over_atom [] m a k p ks ts x y h =
+    let q : k ≡ k + 0 = omega arith in
+    let e = some_same x y h in λ i. Some (state (in_atom m a (e i)) ks ts (q i) p)
+over_atom (d ∷ r) m a k p ks ts x y h =
+    let w = stepped (lex_run r) (lex_step x d) y h in
+    let q : suc k + length r ≡ k + suc (length r) = omega arith in
+    ap (option_and_then (over r)) (atom_goes d ks ts m a k p x w.0 w.1) ∙ over_atom r m a (suc k) p ks ts w.0 y w.2
+    ∙ ap (λ n. Some (state (in_atom m a y) ks ts n p)) q
 
 -- bytes after which the value that is begun, or is to come, has ended
 record Finish (s : State) : Type 0 where
@@ -255,125 +243,81 @@ record Finish (s : State) : Type 0 where
   goes : (c : List ℕ) → Reaches c start s → ((n : ℕ) → n < length rest → byte c (s.place + n) ≡ get_or rest n 0)
       → Arrives c start (idle After stack tokens (s.place + length rest) s.deepest)
 
-place_at : (c : List ℕ) (j k : ℕ) {x : ℕ} → j ≡ k → byte c k ≡ x → byte c j ≡ x
-place_at c j k e h = ap (byte c) e ∙ h
-
-arrives_at : {c : List ℕ} (ks : List ℕ) (ts : List Token) (j k p : ℕ) → j ≡ k → Arrives c start (idle After ks ts j p)
-    → Arrives c start (idle After ks ts k p)
-arrives_at {c} ks ts j k p e a = subst (λ z. Arrives c start (idle After ks ts z p)) e a
-
-finish_value : (m : Mode) (k p : ℕ) (ks : List ℕ) (ts : List Token) → BeginsValue m → AllContainers ks ts
-    → Finish (idle m ks ts k p)
-finish_value m k p ks ts h all = record {
-  rest = 48 ∷ [];
+finish_by : {s t : State} {us : List Token} (j : ℕ) (ks w : List ℕ) → j ≡ s.place + length w → AllContainers ks us
+    → over w s ≡ Some t → settle t ≡ Some (idle After ks us j s.deepest) → Finish s
+finish_by {s} {t} {us} j ks w q all h e = record {
+  rest = w;
   stack = ks;
-  tokens = ts ++ token_at k (suc k) (suc (length ts)) ∷ [];
-  containers = containers_more ks ts _ all;
-  goes = λ c r b. arrives_at ks _ (suc k) (k + 1) p (omega arith)
-      (read_zero m ks ts k p h (place_at c k (k + 0) (omega arith) (b 0 (omega arith))) r);
-}
-
-finish_name : (m : Mode) (k p : ℕ) (ks : List ℕ) (ts : List Token) → BeginsName m → AllContainers ks ts
-    → Finish (idle m ks ts k p)
-finish_name m k p ks ts h all = record {
-  rest = 34 ∷ 34 ∷ 58 ∷ 48 ∷ [];
-  stack = ks;
-  tokens = let us = with_name ts k (suc (suc k)) in
-      us ++ token_at (suc (suc (suc k))) (suc (suc (suc (suc k)))) (suc (length us)) ∷ [];
-  containers = containers_more ks _ _ (containers_more ks ts _ all);
-  goes = λ c r b. arrives_at ks _ (suc (suc (suc (suc k)))) (k + 4) p (omega arith)
-      (read_member m ks ts k p h (place_at c k (k + 0) (omega arith) (b 0 (omega arith)))
-      (place_at c (suc k) (k + 1) (omega arith) (b 1 (omega arith)))
-      (place_at c (suc (suc k)) (k + 2) (omega arith) (b 2 (omega arith)))
-      (place_at c (suc (suc (suc k))) (k + 3) (omega arith) (b 3 (omega arith))) r);
-}
-
-finish_tree : (k p : ℕ) (ks : List ℕ) (ts : List Token) → AllContainers ks ts → Finish (idle After ks ts k p)
-finish_tree k p ks ts all = record {
-  rest = [];
-  stack = ks;
-  tokens = ts;
+  tokens = us;
   containers = all;
-  goes = λ c r b. arrives_at ks ts k (k + 0) p (omega arith) (arrived After ks ts k p r);
+  goes = λ c r b. subst (λ n. Arrives c start (idle After ks us n s.deepest)) q
+      (record { at = t; reached = runs_over w t r b h; settles = e });
 }
 
-finish_colon : (k p : ℕ) (ks : List ℕ) (ts : List Token) → AllContainers ks ts → Finish (idle AfterName ks ts k p)
-finish_colon k p ks ts all = record {
-  rest = 58 ∷ 48 ∷ [];
-  stack = ks;
-  tokens = ts ++ token_at (suc k) (suc (suc k)) (suc (length ts)) ∷ [];
-  containers = containers_more ks ts _ all;
-  goes = λ c r b. arrives_at ks _ (suc (suc k)) (k + 2) p (omega arith)
-      (read_value ks ts k p (place_at c k (k + 0) (omega arith) (b 0 (omega arith)))
-      (place_at c (suc k) (k + 1) (omega arith) (b 1 (omega arith))) (arrived AfterName ks ts k p r));
-}
+module _ (k p : ℕ) (ks : List ℕ) (ts : List Token) (all : AllContainers ks ts) where
+  finish_value : (m : Mode) → BeginsValue m → Finish (idle m ks ts k p)
+  finish_value Ready h = finish_by (suc k) ks (codes "0") (omega arith) (containers_more ks ts _ all) refl refl
+  finish_value FirstItem h = finish_by (suc k) ks (codes "0") (omega arith) (containers_more ks ts _ all) refl refl
+  finish_value _ h = absurd h
 
-finish_scalar : (e k p : ℕ) (ks : List ℕ) (ts : List Token) (x : Lex) → AllContainers ks ts
-    → Finish (state (in_atom After e x) ks ts k p)
-finish_scalar e k p ks ts x all =
-    let z = can_end x in
-    record {
-      rest = z.rest;
-      stack = ks;
-      tokens = ts ++ token_at e (k + length z.rest) (suc (length ts)) ∷ [];
-      containers = containers_more ks ts _ all;
-      goes = λ c r b. record {
-        at = state (in_atom After e z.last) ks ts (k + length z.rest) p;
-        reached = continues_reaches (continues_run z.rest z.last still z.run b) After e ks ts p r;
-        settles = ap (λ q. end_atom After e q (state (in_atom After e z.last) ks ts (k + length z.rest) p)) z.done;
-      };
-    }
+  -- an empty name
+  finish_name : (m : Mode) → BeginsName m → Finish (idle m ks ts k p)
+  finish_name FirstName h =
+      finish_by (suc (suc (suc (suc k)))) ks (codes "\"\":0") (omega arith)
+      (containers_more ks (with_name ts k (suc (suc k))) _ (containers_more ks ts _ all)) refl refl
+  finish_name NextName h =
+      finish_by (suc (suc (suc (suc k)))) ks (codes "\"\":0") (omega arith)
+      (containers_more ks (with_name ts k (suc (suc k))) _ (containers_more ks ts _ all)) refl refl
+  finish_name _ h = absurd h
 
-finish_in_name : (l k p : ℕ) (ks : List ℕ) (ts : List Token) (x : Lex) → AllContainers ks ts
-    → Finish (state (in_atom AfterName l x) ks ts k p)
-finish_in_name l k p ks ts x all =
-    let z = can_end x in
-    let n = length z.rest in
-    let us = with_name ts l (k + n) in
-    let w2 = length-append z.rest (58 ∷ 48 ∷ []) in
-    record {
-      rest = z.rest ++ 58 ∷ 48 ∷ [];
-      stack = ks;
-      tokens = us ++ token_at (suc (k + n)) (suc (suc (k + n))) (suc (length us)) ∷ [];
-      containers = containers_more ks us _ (containers_more ks ts _ all);
-      goes = λ c r b.
-          let f = continues_run z.rest z.last still z.run
-          (λ i h. b i (omega arith) ∙ get_or-append z.rest (58 ∷ 48 ∷ []) 0 i h) in
-          let s = state (in_atom AfterName l z.last) ks ts (k + n) p in
-          let a : Arrives c start (idle AfterName ks us (k + n) p) =
-          record {
-            at = s;
-            reached = continues_reaches f AfterName l ks ts p r;
-            settles = ap (λ o. end_atom AfterName l o s) z.done;
-          } in
-          arrives_at ks _ (suc (suc (k + n))) (k + length (z.rest ++ 58 ∷ 48 ∷ [])) p (omega arith)
-          (read_value ks us (k + n) p (place_at c (k + n) (k + (n + 0)) (omega arith)
-          (b (n + 0) (omega arith) ∙ get_or-append-add z.rest (58 ∷ 48 ∷ []) 0 0))
-          (place_at c (suc (k + n)) (k + (n + 1)) (omega arith)
-          (b (n + 1) (omega arith) ∙ get_or-append-add z.rest (58 ∷ 48 ∷ []) 1 0)) a);
-    }
+  finish_tree : Finish (idle After ks ts k p)
+  finish_tree = finish_by k ks [] (omega arith) all refl refl
+
+  finish_colon : Finish (idle AfterName ks ts k p)
+  finish_colon = finish_by (suc (suc k)) ks (codes ":0") (omega arith) (containers_more ks ts _ all) refl refl
+
+  finish_scalar : (e : ℕ) (x : Lex) → Finish (state (in_atom After e x) ks ts k p)
+  finish_scalar e x =
+      let z = can_end x in
+      let n = k + length z.rest in
+      finish_by n ks z.rest refl (containers_more ks ts _ all)
+      (over_atom z.rest After e k p ks ts x z.last z.run)
+      (ap (λ o. end_atom After e o (state (in_atom After e z.last) ks ts n p)) z.done)
+
+  finish_in_name : (l : ℕ) (x : Lex) → Finish (state (in_atom AfterName l x) ks ts k p)
+  finish_in_name l x =
+      let z = can_end x in
+      let n = k + length z.rest in
+      let us = with_name ts l n in
+      let s = state (in_atom AfterName l z.last) ks ts n p in
+      let named : settle s ≡ Some (idle AfterName ks us n p) = ap (λ o. end_atom AfterName l o s) z.done in
+      finish_by (suc (suc n)) ks (z.rest ++ 58 ∷ 48 ∷ [])
+      (omega (arith, length-append z.rest (58 ∷ 48 ∷ [])))
+      (containers_more ks us _ (containers_more ks ts _ all))
+      (over-append z.rest (58 ∷ 48 ∷ []) (state (in_atom AfterName l x) ks ts k p)
+      ∙ ap (option_and_then (over (58 ∷ 48 ∷ []))) (over_atom z.rest AfterName l k p ks ts x z.last z.run)
+      ∙ ap (option_and_then (over (48 ∷ []))) (settled_step s (idle AfterName ks us n p) colon named)) refl
 
 finish : {b : List ℕ} {s : State} → Inv b s → Finish s
-finish (ready k p ks ts c) = finish_value Ready k p ks ts tt (context_containers c)
+finish (ready k p ks ts c) = finish_value k p ks ts (context_containers c) Ready tt
 finish (first_item e k p ks ts c o w) = let t = token_at e 0 0 in
-    finish_value FirstItem k p (length ts ∷ ks) (ts ++ t ∷ []) tt (just_inside ks ts t tt (context_containers c))
+    finish_value k p (length ts ∷ ks) (ts ++ t ∷ []) (just_inside ks ts t tt (context_containers c)) FirstItem tt
 finish (after_tree e j k p ks ts t c v w) =
     finish_tree k p ks (ts ++ flatten (length ts) t)
     (containers_more ks ts (flatten (length ts) t) (context_containers c))
 finish (first_name e k p ks ts c o w) = let t = token_at e 0 1 in
-    finish_name FirstName k p (length ts ∷ ks) (ts ++ t ∷ []) tt (just_inside ks ts t tt (context_containers c))
+    finish_name k p (length ts ∷ ks) (ts ++ t ∷ []) (just_inside ks ts t tt (context_containers c)) FirstName tt
 finish (next_name e j k p ks ts us c o l w) =
-    let t = token_at e 0 1 in let fs = flatten_members (suc (length ts)) us in
-    finish_name NextName k p (length ts ∷ ks) ((ts ++ t ∷ []) ++ fs) tt (inside ks ts t fs tt (context_containers c))
+    finish_name k p (length ts ∷ ks) (opened_object ts e us)
+    (inside ks ts (token_at e 0 1) (flatten_members (suc (length ts)) us) tt (context_containers c)) NextName tt
 finish (after_name e j l m k p ks ts us c o ld w0 wd w) =
-    let t = token_at e 0 1 in let fs = flatten_members (suc (length ts)) us in
-    let n = token_at l m (suc (length ((ts ++ t ∷ []) ++ fs))) in
-    finish_colon k p (length ts ∷ ks) (((ts ++ t ∷ []) ++ fs) ++ n ∷ [])
-    (containers_more (length ts ∷ ks) ((ts ++ t ∷ []) ++ fs) (n ∷ []) (inside ks ts t fs tt (context_containers c)))
-finish (in_scalar e k p ks ts x c w) = finish_scalar e k p ks ts x (context_containers c)
+    finish_colon k p (length ts ∷ ks) (with_name (opened_object ts e us) l m)
+    (containers_more (length ts ∷ ks) (opened_object ts e us) _
+    (inside ks ts (token_at e 0 1) (flatten_members (suc (length ts)) us) tt (context_containers c)))
+finish (in_scalar e k p ks ts x c w) = finish_scalar k p ks ts (context_containers c) e x
 finish (in_name e j l k p ks ts us x c o ld w0 q w) =
-    let t = token_at e 0 1 in let fs = flatten_members (suc (length ts)) us in
-    finish_in_name l k p (length ts ∷ ks) ((ts ++ t ∷ []) ++ fs) x (inside ks ts t fs tt (context_containers c))
+    finish_in_name k p (length ts ∷ ks) (opened_object ts e us)
+    (inside ks ts (token_at e 0 1) (flatten_members (suc (length ts)) us) tt (context_containers c)) l x
 
 -- ---- fronts and texts
 
@@ -432,7 +376,7 @@ first_fault {b} {i} s =
 pub text_no_fault : (b : List ℕ) (t : Tree) → Json b t → (i : ℕ) → IsFirstFault b i → ⊥
 text_no_fault b t j i f = elim (eq-or-lt_of_le f.within) [
   | inr l ↦ f.here l (record
-      { rest = drop (suc i) b; tree = t; json = subst (λ c. Json c t) (sym (take-append-drop (suc i) b)) j })
+      { rest = drop (suc i) b; tree = t; json = rw (take-append-drop (suc i) b) j })
   | inl e ↦ f.whole e t j
 ]
 
@@ -448,7 +392,7 @@ text_nest {b} {i} n l f x =
     let w = state_before i v.reached (omega arith) in
     let same : u.at ≡ w.at = same_state r w.reached (u.place ∙ sym w.place) in
     let a = (lawful_reaches u.reached).deep in
-    let s : u.at.deepest ≡ w.at.deepest = ap (λ z. z.deepest) same in
+    let s : u.at.deepest ≡ w.at.deepest = cc same in
     let g = rise-nest 0 0 x.tree (omega arith) in
     omega arith
 
@@ -465,7 +409,6 @@ first_too_deep {b} {d} {i} a =
   where
     shallow_text : (j : ℕ) → j < i → (x : BeginsText b (suc j)) × (nest x.tree ≤ d)
     shallow_text j h =
-        let w = a.within in
         let s = state_before (suc j) a.reached (omega arith) in
         let t = state_text (omega arith) s.reached s.place in
         (t.text, omega arith)

@@ -52,161 +52,136 @@ reach_more Ready i = omega arith
 reach_more _ i = omega arith
 
 module _ (i p : ℕ) (ts : List Token) where
+  -- what a step needs of the open containers, where n bytes stand for the tokens
+  abbrev Fits : ℕ → List ℕ → Type 0
+  Fits n ks = (length ks ≤ i) × (length ks ≤ p) × (2 * length ts ≤ n + length ks)
+
   -- to a mode at the next place
-  goes_to : (m : Mode) (ks : List ℕ) → length ks ≤ i → length ks ≤ p → 2 * length ts ≤ reach_in m (suc i) + length ks
-      → Goes i p (length ks) (idle m ks ts (suc i) p)
-  goes_to m ks o d c =
-      record {
-        place = refl;
-        deepest = omega arith;
-        climbs = omega arith;
-        lawful = record { open_count = omega arith; deep = d; token_count = c; began = tt };
-      }
+  goes_to : (m : Mode) (ks : List ℕ) → Fits (reach_in m (suc i)) ks → Goes i p (length ks) (idle m ks ts (suc i) p)
+  goes_to m ks h = omega arith
 
   -- into a scalar or a name
-  goes_atom : (m : Mode) (x : Lex) (ks : List ℕ) → EndsAtom m → length ks ≤ i → length ks ≤ p
-      → 2 * length ts ≤ i + length ks → Goes i p (length ks) (state (in_atom m i x) ks ts (suc i) p)
-  goes_atom m x ks e o d c =
+  goes_atom : (m : Mode) (x : Lex) (ks : List ℕ) → EndsAtom m → Fits i ks
+      → Goes i p (length ks) (state (in_atom m i x) ks ts (suc i) p)
+  goes_atom m x ks e h =
       record {
         place = refl;
         deepest = omega arith;
         climbs = omega arith;
-        lawful = record { open_count = omega arith; deep = d; token_count = c; began = (omega arith, e) };
+        lawful = record { open_count = omega arith; deep = h.1; token_count = h.2; began = (omega arith, e) };
       }
 
   -- into a container
-  goes_open : (m : Mode) (l : ℕ) (ks : List ℕ) → length ks ≤ i → 2 * length ts ≤ i + length ks
+  goes_open : (m : Mode) (l : ℕ) (ks : List ℕ) → Fits i ks
       → 2 * suc (length ts) ≤ reach_in m (suc i) + suc (length ks)
       → Goes i p (length ks) (idle m (length ts ∷ ks) (ts ++ token_at i 0 l ∷ []) (suc i) (max p (suc (length ks))))
-  goes_open m l ks o c g =
-      let e : length (ts ++ token_at i 0 l ∷ []) ≡ length ts + 1 = length-append ts (token_at i 0 l ∷ []) in
-      record {
-        place = refl;
-        deepest = refl;
-        climbs = omega arith;
-        lawful = record { open_count = omega arith; deep = omega arith; token_count = omega arith; began = tt };
-      }
+  goes_open m l ks h g = omega (arith, length-append ts (token_at i 0 l ∷ []))
 
-  goes_lex : (ks : List ℕ) (o : Option Lex) → length ks ≤ i → length ks ≤ p → 2 * length ts ≤ i + length ks
+  goes_lex : (ks : List ℕ) (o : Option Lex) → Fits i ks
       → GoesIf i p (length ks) (option_map (λ x. state (in_atom After i x) ks ts (suc i) p) o)
-  goes_lex ks None o d c = tt
-  goes_lex ks (Some x) o d c = goes_atom After x ks tt o d c
+  goes_lex ks None h = tt
+  goes_lex ks (Some x) h = goes_atom After x ks tt h
 
-  goes_begin : (c : ℕ) (m : Mode) (ks : List ℕ) → length ks ≤ i → length ks ≤ p → 2 * length ts ≤ i + length ks
+  goes_begin : (c : ℕ) (m : Mode) (ks : List ℕ) → Fits i ks
       → GoesIf i p (length ks) (begin_value c (idle m ks ts i p))
-  goes_begin c m ks o d n =
-      goes_cond i p _ (nat_eq c 91) _ _ (goes_open FirstItem 0 ks o n (omega arith))
-      (goes_cond i p _ (nat_eq c 123) _ _ (goes_open FirstName 1 ks o n (omega arith))
-      (goes_lex ks (lex_start c) o d n))
+  goes_begin c m ks h =
+      goes_cond i p _ (nat_eq c 91) _ _ (goes_open FirstItem 0 ks h (omega arith))
+      (goes_cond i p _ (nat_eq c 123) _ _ (goes_open FirstName 1 ks h (omega arith)) (goes_lex ks (lex_start c) h))
 
-  goes_name : (c : ℕ) (m : Mode) (ks : List ℕ) → length ks ≤ i → length ks ≤ p → 2 * length ts ≤ i + length ks
-      → GoesIf i p (length ks) (begin_name c (idle m ks ts i p))
-  goes_name c m ks o d n = goes_cond i p _ (nat_eq c 34) _ None (goes_atom AfterName _ ks tt o d n) tt
+  goes_name : (c : ℕ) (m : Mode) (ks : List ℕ) → Fits i ks → GoesIf i p (length ks) (begin_name c (idle m ks ts i p))
+  goes_name c m ks h = goes_cond i p _ (nat_eq c 34) _ None (goes_atom AfterName _ ks tt h) tt
 
   -- out of a container
-  goes_closed : (m : Mode) (k : ℕ) (ks : List ℕ) (t : Token) → suc (length ks) ≤ i → suc (length ks) ≤ p
-      → 2 * length ts ≤ suc i + suc (length ks)
+  goes_closed : (m : Mode) (k : ℕ) (ks : List ℕ) (t : Token) → Fits (suc i) (k ∷ ks)
       → Goes i p (suc (length ks)) (idle After ks (slice_set ts k t) (suc i) p)
-  goes_closed m k ks t o d n =
-      let e : length (slice_set ts k t) ≡ length ts = length-set ts k t in
-      record {
-        place = refl;
-        deepest = omega arith;
-        climbs = omega arith;
-        lawful = record { open_count = omega arith; deep = omega arith; token_count = omega arith; began = tt };
-      }
+  goes_closed m k ks t h = omega (arith, length-set ts k t)
 
-  goes_in : (kd : Kind) (c k : ℕ) (t : Token) (m : Mode) (ks : List ℕ) → suc (length ks) ≤ i → suc (length ks) ≤ p
-      → 2 * length ts ≤ suc i + suc (length ks)
+  goes_in : (kd : Kind) (c k : ℕ) (t : Token) (m : Mode) (ks : List ℕ) → Fits (suc i) (k ∷ ks)
       → GoesIf i p (suc (length ks)) (after_in kd c k t (idle m (k ∷ ks) ts i p))
-  goes_in Array c k t m ks o d n =
-      goes_cond i p _ (nat_eq c 44) _ _ (goes_to Ready (k ∷ ks) o d n)
-      (goes_cond i p _ (nat_eq c 93) _ None (goes_closed m k ks _ o d n) tt)
-  goes_in Object c k t m ks o d n =
-      goes_cond i p _ (nat_eq c 44) _ _ (goes_to NextName (k ∷ ks) o d n)
-      (goes_cond i p _ (nat_eq c 125) _ None (goes_closed m k ks _ o d n) tt)
-  goes_in _ c k t m ks o d n = tt
+  goes_in Array c k t m ks h =
+      goes_cond i p _ (nat_eq c 44) _ _ (goes_to Ready (k ∷ ks) h)
+      (goes_cond i p _ (nat_eq c 93) _ None (goes_closed m k ks _ h) tt)
+  goes_in Object c k t m ks h =
+      goes_cond i p _ (nat_eq c 44) _ _ (goes_to NextName (k ∷ ks) h)
+      (goes_cond i p _ (nat_eq c 125) _ None (goes_closed m k ks _ h) tt)
+  goes_in _ c k t m ks h = tt
 
-  goes_token : (c k : ℕ) (z : Option Token) (m : Mode) (ks : List ℕ) → suc (length ks) ≤ i → suc (length ks) ≤ p
-      → 2 * length ts ≤ suc i + suc (length ks)
+  goes_token : (c k : ℕ) (z : Option Token) (m : Mode) (ks : List ℕ) → Fits (suc i) (k ∷ ks)
       → GoesIf i p (suc (length ks)) (after_token c k z (idle m (k ∷ ks) ts i p))
-  goes_token c k None m ks o d n = tt
-  goes_token c k (Some t) m ks o d n = goes_in (open_kind t) c k t m ks o d n
+  goes_token c k None m ks h = tt
+  goes_token c k (Some t) m ks h = goes_in (open_kind t) c k t m ks h
 
-  goes_after : (c : ℕ) (m : Mode) (ks : List ℕ) → length ks ≤ i → length ks ≤ p → 2 * length ts ≤ suc i + length ks
+  goes_after : (c : ℕ) (m : Mode) (ks : List ℕ) → Fits (suc i) ks
       → GoesIf i p (length ks) (after_value c (idle m ks ts i p))
-  goes_after c m [] o d n = tt
-  goes_after c m (k ∷ ks) o d n = goes_token c k (slice_get ts k) m ks o d n
+  goes_after c m [] h = tt
+  goes_after c m (k ∷ ks) h = goes_token c k (slice_get ts k) m ks h
 
-  goes_close_token : (k : ℕ) (z : Option Token) (m : Mode) (ks : List ℕ) → suc (length ks) ≤ i → suc (length ks) ≤ p
-      → 2 * length ts ≤ suc i + suc (length ks)
+  goes_close_token : (k : ℕ) (z : Option Token) (m : Mode) (ks : List ℕ) → Fits (suc i) (k ∷ ks)
       → GoesIf i p (suc (length ks)) (close_token k z (idle m (k ∷ ks) ts i p))
-  goes_close_token k None m ks o d n = tt
-  goes_close_token k (Some t) m ks o d n = goes_closed m k ks _ o d n
+  goes_close_token k None m ks h = tt
+  goes_close_token k (Some t) m ks h = goes_closed m k ks _ h
 
-  goes_close : (m : Mode) (ks : List ℕ) → length ks ≤ i → length ks ≤ p → 2 * length ts ≤ i + length ks
-      → GoesIf i p (length ks) (close_empty (idle m ks ts i p))
-  goes_close m [] o d n = tt
-  goes_close m (k ∷ ks) o d n = goes_close_token k (slice_get ts k) m ks o d (omega arith)
+  goes_close : (m : Mode) (ks : List ℕ) → Fits i ks → GoesIf i p (length ks) (close_empty (idle m ks ts i p))
+  goes_close m [] h = tt
+  goes_close m (k ∷ ks) h = goes_close_token k (slice_get ts k) m ks (omega arith)
 
-  goes_read_in : (m : Mode) (c : ℕ) (ks : List ℕ) → length ks ≤ i → length ks ≤ p
-      → 2 * length ts ≤ reach_in m i + length ks → GoesIf i p (length ks) (read_in m c (idle m ks ts i p))
-  goes_read_in Ready c ks o d n = goes_begin c Ready ks o d n
-  goes_read_in FirstItem c ks o d n =
-      goes_cond i p _ (nat_eq c 93) _ _ (goes_close FirstItem ks o d n) (goes_begin c FirstItem ks o d n)
-  goes_read_in After c ks o d n = goes_after c After ks o d n
-  goes_read_in FirstName c ks o d n =
-      goes_cond i p _ (nat_eq c 125) _ _ (goes_close FirstName ks o d n) (goes_name c FirstName ks o d n)
-  goes_read_in NextName c ks o d n = goes_name c NextName ks o d n
-  goes_read_in AfterName c ks o d n = goes_cond i p _ (nat_eq c 58) _ None (goes_to Ready ks o d n) tt
+  goes_read_in : (m : Mode) (c : ℕ) (ks : List ℕ) → Fits (reach_in m i) ks
+      → GoesIf i p (length ks) (read_in m c (idle m ks ts i p))
+  goes_read_in Ready c ks h = goes_begin c Ready ks h
+  goes_read_in FirstItem c ks h =
+      goes_cond i p _ (nat_eq c 93) _ _ (goes_close FirstItem ks h) (goes_begin c FirstItem ks h)
+  goes_read_in After c ks h = goes_after c After ks h
+  goes_read_in FirstName c ks h =
+      goes_cond i p _ (nat_eq c 125) _ _ (goes_close FirstName ks h) (goes_name c FirstName ks h)
+  goes_read_in NextName c ks h = goes_name c NextName ks h
+  goes_read_in AfterName c ks h = goes_cond i p _ (nat_eq c 58) _ None (goes_to Ready ks h) tt
 
-  goes_read : (m : Mode) (c : ℕ) (ks : List ℕ) → length ks ≤ i → length ks ≤ p
-      → 2 * length ts ≤ reach_in m i + length ks → GoesIf i p (length ks) (read m c (idle m ks ts i p))
-  goes_read m c ks o d n = let r = reach_more m i in
-      goes_cond i p _ (is_white_space c) _ _ (goes_to m ks o d (omega arith)) (goes_read_in m c ks o d n)
+  goes_read : (m : Mode) (c : ℕ) (ks : List ℕ) → Fits (reach_in m i) ks
+      → GoesIf i p (length ks) (read m c (idle m ks ts i p))
+  goes_read m c ks h =
+      goes_cond i p _ (is_white_space c) _ _ (goes_to m ks (omega (arith, reach_more m i))) (goes_read_in m c ks h)
 
 -- one token more, where a scalar or a name ends
 ends_count : (m : Mode) (a i d : ℕ) (ks : List ℕ) (ts : List Token) → EndsAtom m → a < i → 2 * length ts ≤ a + length ks
     → 2 * length (ts ++ token_at a i d ∷ []) ≤ reach_in m i + length ks
-ends_count After a i d ks ts e l n = let f : length (ts ++ token_at a i d ∷ []) ≡ length ts + 1 =
-    length-append ts (token_at a i d ∷ []) in omega arith
-ends_count AfterName a i d ks ts e l n = let f : length (ts ++ token_at a i d ∷ []) ≡ length ts + 1 =
-    length-append ts (token_at a i d ∷ []) in omega arith
+ends_count After a i d ks ts e l n = omega (arith, length-append ts (token_at a i d ∷ []))
+ends_count AfterName a i d ks ts e l n = omega (arith, length-append ts (token_at a i d ∷ []))
 ends_count _ a i d ks ts e l n = absurd e
 
-goes_ended : (m : Mode) (a : ℕ) (f : Phase) (r : Option Kind) (c : ℕ) (ks : List ℕ) (ts : List Token) (i p : ℕ)
-    → EndsAtom m → a < i → length ks ≤ i → length ks ≤ p → 2 * length ts ≤ a + length ks
-    → GoesIf i p (length ks) (option_and_then (read m c) (end_atom m a r (state f ks ts i p)))
-goes_ended m a f None c ks ts i p e l o d n = tt
-goes_ended m a f (Some k) c ks ts i p e l o d n =
-    goes_read i p (ts ++ token_at a i (suc (length ts)) ∷ []) m c ks o d
-    (ends_count m a i (suc (length ts)) ks ts e l n)
+-- a byte in a scalar or a name, or behind it
+module _ (m : Mode) (a : ℕ) (x : Lex) (c : ℕ) (ks : List ℕ) (ts : List Token) (i p : ℕ)
+    (h : IsLawful (state (in_atom m a x) ks ts i p)) where
+  goes_ended : (r : Option Kind)
+      → GoesIf i p (length ks) (option_and_then (read m c) (end_atom m a r (state (in_atom m a x) ks ts i p)))
+  goes_ended None = tt
+  goes_ended (Some k) =
+      goes_read i p (ts ++ token_at a i (suc (length ts)) ∷ []) m c ks
+      (h.open_count, h.deep, ends_count m a i (suc (length ts)) ks ts h.began.1 h.began.0 h.token_count)
 
-goes_on : (m : Mode) (a : ℕ) (x : Lex) (z : Option Lex) (c : ℕ) (ks : List ℕ) (ts : List Token) (i p : ℕ) → EndsAtom m
-    → a < i → length ks ≤ i → length ks ≤ p → 2 * length ts ≤ a + length ks
-    → GoesIf i p (length ks) (go_on (λ y. in_atom m a y) z (state (in_atom m a x) ks ts i p)
-    (option_and_then (read m c) (end_atom m a (lex_kind x) (state (in_atom m a x) ks ts i p))))
-goes_on m a x None c ks ts i p e l o d n = goes_ended m a (in_atom m a x) (lex_kind x) c ks ts i p e l o d n
-goes_on m a x (Some y) c ks ts i p e l o d n =
-    record {
-      place = refl;
-      deepest = omega arith;
-      climbs = omega arith;
-      lawful = record { open_count = omega arith; deep = d; token_count = n; began = (omega arith, e) };
-    }
+  goes_on : (z : Option Lex)
+      → GoesIf i p (length ks) (go_on (λ y. in_atom m a y) z (state (in_atom m a x) ks ts i p)
+      (option_and_then (read m c) (end_atom m a (lex_kind x) (state (in_atom m a x) ks ts i p))))
+  goes_on None = goes_ended (lex_kind x)
+  goes_on (Some y) =
+      record {
+        place = refl;
+        deepest = omega arith;
+        climbs = omega arith;
+        lawful = record
+            { open_count = omega arith; deep = h.deep; token_count = h.token_count; began = (omega arith, h.began.1) };
+      }
 
 goes_phase : (f : Phase) (c : ℕ) (ks : List ℕ) (ts : List Token) (i p : ℕ) → IsLawful (state f ks ts i p)
     → GoesIf i p (length ks) (step c (state f ks ts i p))
-goes_phase (between m) c ks ts i p h = goes_read i p ts m c ks h.open_count h.deep h.token_count
-goes_phase (in_atom m a x) c ks ts i p h =
-    goes_on m a x (lex_step x c) c ks ts i p h.began.1 h.began.0 h.open_count h.deep h.token_count
+goes_phase (between m) c ks ts i p h = goes_read i p ts m c ks (h.open_count, h.deep, h.token_count)
+goes_phase (in_atom m a x) c ks ts i p h = goes_on m a x c ks ts i p h (lex_step x c)
 
 pub goes : {s : State} (u : State) (c : ℕ) → IsLawful s → step c s ≡ Some u → Goes s.place s.deepest (length s.stack) u
 goes {s} u c l h =
     subst (GoesIf s.place s.deepest (length s.stack)) h (goes_phase s.phase c s.stack s.tokens s.place s.deepest l)
 
 pub lawful_reaches : {b : List ℕ} {s : State} → Reaches b start s → IsLawful s
-lawful_reaches here = record { open_count = omega arith; deep = omega arith; token_count = omega arith; began = tt }
+lawful_reaches here = omega arith
 lawful_reaches {b} (on t u r h) = (goes u (byte b t.place) (lawful_reaches r) h).lawful
 
 -- where a scalar or a name ends, the law still holds
@@ -242,8 +217,8 @@ next_place {b} {t} v r h = (goes v (byte b t.place) (lawful_reaches r) h).place
 
 pub same_state : {b : List ℕ} {s u : State} → Reaches b start s → Reaches b start u → s.place ≡ u.place → s ≡ u
 same_state here here e = refl
-same_state here (on t v r h) e = let p = next_place v r h in absurd (omega arith)
-same_state (on t v r h) here e = let p = next_place v r h in absurd (omega arith)
+same_state here (on t v r h) e = absurd (omega (arith, next_place v r h))
+same_state (on t v r h) here e = absurd (omega (arith, next_place v r h))
 same_state {b} (on t v r h) (on t2 v2 r2 h2) e =
     let p = next_place v r h in
     let p2 = next_place v2 r2 h2 in

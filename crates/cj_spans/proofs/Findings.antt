@@ -36,16 +36,16 @@ reason_of-code_of NoHeader = refl
 reason_of-code_of _ = refl
 
 same_reason : (r s : Reason) → code_of r ≡ code_of s → r ≡ s
-same_reason r s h = sym (reason_of-code_of r) ∙ ap reason_of h ∙ reason_of-code_of s
+same_reason r s h = cc (reason_of-code_of r, reason_of-code_of s)
 
 -- ---- the order
 
 same_code : (f g : Finding) → IsNoLater f g → IsNoLater g f → (f.place ≡ g.place)
     × (code_of f.reason ≡ code_of g.reason)
 same_code f g (inl a) (inl b) = absurd (omega arith)
-same_code f g (inl a) (inr b) = let e = b.0 in absurd (omega arith)
-same_code f g (inr a) (inl b) = let e = a.0 in absurd (omega arith)
-same_code f g (inr a) (inr b) = let x = a.1 in let y = b.1 in (a.0, omega arith)
+same_code f g (inl a) (inr b) = absurd (omega arith)
+same_code f g (inr a) (inl b) = absurd (omega arith)
+same_code f g (inr a) (inr b) = (a.0, omega arith)
 
 no_later_same : (f g : Finding) → IsNoLater f g → IsNoLater g f → f ≡ g
 no_later_same f g a b =
@@ -59,9 +59,9 @@ no_later_self f = inr (refl, omega arith)
 
 no_later_more : (f g h : Finding) → IsNoLater f g → IsNoLater g h → IsNoLater f h
 no_later_more f g h (inl a) (inl b) = inl (omega arith)
-no_later_more f g h (inl a) (inr b) = let e = b.0 in inl (omega arith)
-no_later_more f g h (inr a) (inl b) = let e = a.0 in inl (omega arith)
-no_later_more f g h (inr a) (inr b) = let x = a.1 in let y = b.1 in inr (a.0 ∙ b.0, omega arith)
+no_later_more f g h (inl a) (inr b) = inl (omega arith)
+no_later_more f g h (inr a) (inl b) = inl (omega arith)
+no_later_more f g h (inr a) (inr b) = inr (a.0 ∙ b.0, omega arith)
 
 -- the test, on numbers
 lower_first : (a b c d : ℕ) → nat_lt a b || (nat_eq a b && nat_lt c d) ≡ true → (a < b) ⊎ ((a ≡ b) × (c ≤ d))
@@ -103,7 +103,7 @@ contains_here : (f : Finding) (fs : List Finding) → Contains (f ∷ fs) f
 contains_here f fs = (0, omega arith, refl)
 
 contains_there : (f g : Finding) (fs : List Finding) → Contains fs f → Contains (g ∷ fs) f
-contains_there f g fs c = let l = c.1 in (suc c.0, omega arith, c.2)
+contains_there f g fs c = (suc c.0, omega arith, c.2)
 
 -- ---- one finding more
 
@@ -129,8 +129,8 @@ added_kept fs o p f e a = subst (IsLeast (f ∷ fs)) (sym e) (added_least fs o f
 
 same_least : (fs gs : List Finding) (o : Option Finding) → HaveSame fs gs → IsLeast fs o → IsLeast gs o
 same_least fs [] None h a = refl
-same_least fs (g ∷ gs) None h a = let c = subst (λ xs. Contains xs g) a ((h g).1 (contains_here g gs)) in let l = c.1 in
-    absurd (omega arith)
+same_least fs (g ∷ gs) None h a =
+    let c = rw a at ((h g).1 (contains_here g gs)) in absurd (omega arith)
 same_least fs gs (Some f) h a = (
   (h f).0 a.0,
   λ k d l. All-contains (IsNoLater f) fs (get_or gs k d) a.1
@@ -139,8 +139,10 @@ same_least fs gs (Some f) h a = (
 
 one_least : (fs : List Finding) (o p : Option Finding) → IsLeast fs o → IsLeast fs p → o ≡ p
 one_least fs None None a b = refl
-one_least fs None (Some g) a b = let c = subst (λ xs. Contains xs g) a b.0 in let l = c.1 in absurd (omega arith)
-one_least fs (Some f) None a b = let c = subst (λ xs. Contains xs f) b a.0 in let l = c.1 in absurd (omega arith)
+one_least fs None (Some g) a b =
+    let c = rw a at b.0 in absurd (omega arith)
+one_least fs (Some f) None a b =
+    let c = rw b at a.0 in absurd (omega arith)
 one_least fs (Some f) (Some g) a b =
     ap Some (no_later_same f g (All-contains (IsNoLater f) fs g a.1 b.0) (All-contains (IsNoLater g) fs f b.1 a.0))
 
@@ -165,11 +167,10 @@ head_last f fs g = (
 
 least_after : (gs : List Finding) (o : Option Finding) (fs : List Finding) → IsLeast gs o
     → IsLeast (gs ++ fs) (least o fs)
-least_after gs o [] a = subst (λ xs. IsLeast xs o) (sym (append-nil gs)) a
+least_after gs o [] a = rw (append-nil gs) a
 least_after gs o (f ∷ fs) a =
     let b = same_least (f ∷ gs) (gs ++ f ∷ []) (lesser o f) (head_last f gs) (added_least gs o f a) in
-    subst (λ xs. IsLeast xs (least (lesser o f) fs)) (append_assoc gs (f ∷ []) fs)
-    (least_after (gs ++ f ∷ []) (lesser o f) fs b)
+    rw (append_assoc gs (f ∷ []) fs) at (least_after (gs ++ f ∷ []) (lesser o f) fs b)
 
 least_of_found : (o : Option Finding) → IsLeast (list_found o) o
 least_of_found None = refl
@@ -186,13 +187,12 @@ least-append o (f ∷ fs) gs = least-append (lesser o f) fs gs
 -- one part of a list more: its findings are added, and those of the rest are left
 pub least_on : {A : Type 0} (f : A → List Finding) (all rest : List A) (t : A) (o p total : Option Finding)
     → least o (flat_map f all) ≡ total → all ≡ t ∷ rest → p ≡ least o (f t) → least p (flat_map f rest) ≡ total
-least_on f all rest t o p total h e q = ap (λ x. least x (flat_map f rest)) q
-    ∙ sym (least-append o (f t) (flat_map f rest)) ∙ sym (ap (λ xs. least o (flat_map f xs)) e) ∙ h
+least_on f all rest t o p total h e q = cc (least-append o (f t) (flat_map f rest))
 
 -- two lists in turn, and three
 pub least-two : (o p q : Option Finding) (fs gs : List Finding) → p ≡ least o fs → q ≡ least p gs
     → q ≡ least o (fs ++ gs)
-least-two o p q fs gs h k = k ∙ ap (λ x. least x gs) h ∙ sym (least-append o fs gs)
+least-two o p q fs gs h k = cc (least-append o fs gs)
 
 pub least-three : (o p q r : Option Finding) (fs gs hs : List Finding) → p ≡ least o fs → q ≡ least p gs
     → r ≡ least q hs → r ≡ least o (fs ++ gs ++ hs)

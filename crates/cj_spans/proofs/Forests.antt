@@ -1,6 +1,7 @@
 -- The spans of a tree show that tree.
-use Rattle.cj_spans.proofs.Common.{◌≡◌, ℕ, suc, ◌<◌, ◌≤◌, List, [], ◌∷◌, ◌++◌, get_or, slice_range, refl, sym, ap, subst, arith, ◌∙◌, inl, inr, append_assoc, append-nil, nat_tests, Kind, Null, Truth, Number, Text, Array, Object, Atom, Tree, scalar, array, object, Items, no_items, item, Members, no_members, member, add_item, add_member, start_of, IsScalar, IsInt, byte, atom_at, IsAtom, Value, atom, empty_array, full_array, empty_object, full_object, Padded, padded, LedItems, no_led, led, LedMembers, no_led_members, led_member, Named, named, Json, Span, span_at, preorder, items_preorder, members_preorder, kind_by, held, past, items_from, members_from, node, forest}
-use Rattle.cj_spans.proofs.Lists.{items_preorder-add, members_preorder-add}
+use Rattle.cj_spans.proofs.Common.{◌≡◌, ℕ, suc, ◌<◌, ◌≤◌, List, [], ◌∷◌, ◌++◌, get_or, refl, sym, ap, subst, arith, ◌∙◌, inl, inr, append_assoc, append-nil, nat_tests, Kind, Null, Truth, Number, Text, Array, Object, Atom, Tree, scalar, array, object, Items, no_items, item, Members, no_members, member, add_item, add_member, start_of, IsScalar, IsInt, byte, atom_at, IsAtom, Value, atom, empty_array, full_array, empty_object, full_object, Padded, padded, LedItems, no_led, led, LedMembers, no_led_members, led_member, Named, named, Json, Span, span_at, preorder, items_preorder, members_preorder, kind_by, held, past, items_from, members_from, node, forest}
+use Rattle.std.specs.List.{AllByRecursion as Each}
+use Rattle.cj_spans.proofs.Lists.{each_more, each_append, items_preorder-add, members_preorder-add}
 use Rattle.cj_spans.proofs.Places.{first_byte}
 
 -- ---- the kind that the first byte tells
@@ -10,10 +11,10 @@ digit_kind c a b = grind (arith, nat_tests)
 
 int_kind : (int r : List ℕ) → IsInt int → kind_by (get_or (int ++ r) 0 0) ≡ Number
 int_kind [] r h = absurd h
-int_kind (c ∷ int) r h = elim h [ inl z ↦ ap kind_by z.0 | inr d ↦ let l = d.0 in digit_kind c (omega arith) d.1 ]
+int_kind (c ∷ int) r h = elim h [ inl z ↦ ap kind_by z.0 | inr d ↦ digit_kind c (omega arith) d.1 ]
 
 kind_first : (k : Kind) (s : List ℕ) → IsScalar k s → kind_by (get_or s 0 0) ≡ k
-kind_first Null s h = ap (λ z. kind_by (get_or z 0 0)) h
+kind_first Null s h = cc
 kind_first Truth s h =
     elim h [ inl e ↦ ap (λ z. kind_by (get_or z 0 0)) e | inr e ↦ ap (λ z. kind_by (get_or z 0 0)) e ]
 kind_first Number s h =
@@ -23,12 +24,11 @@ kind_first Number s h =
       | inl e ↦ ap (λ z. kind_by (get_or (z ++ (h.int ++ r)) 0 0)) e ∙ int_kind h.int r h.int_is
       | inr e ↦ ap (λ z. kind_by (get_or (z ++ (h.int ++ r)) 0 0)) e
     ]
-kind_first Text s h = ap (λ z. kind_by (get_or z 0 0)) h.joined
+kind_first Text s h = cc h.joined
 kind_first _ s h = absurd h
 
 pub atom_kind : {b : List ℕ} {k : Kind} {i j : ℕ} → IsAtom b k i j → kind_by (byte b i) ≡ k
-atom_kind {b} {k} {i} {j} w = ap kind_by (first_byte b i j w.order w.within)
-    ∙ kind_first k (slice_range b i j) w.spelled
+atom_kind {b} {k} {i} {j} w = cc (first_byte b i j w.order w.within, kind_first k _ w.spelled)
 
 -- ---- trees up to a place, and past it
 
@@ -36,21 +36,12 @@ abbrev pub Beyond : ℕ → List Tree → Type 0
 Beyond j [] = Unit {0}
 Beyond j (t ∷ ts) = j ≤ start_of t
 
-abbrev pub AllIn : ℕ → List Tree → Type 0
-AllIn j [] = Unit {0}
-AllIn j (t ∷ ts) = (start_of t < j) × AllIn j ts
+abbrev In : ℕ → Tree → Type 0
+In j t = start_of t < j
 
 beyond_less : (i j : ℕ) (ts : List Tree) → i ≤ j → Beyond j ts → Beyond i ts
 beyond_less i j [] h b = tt
 beyond_less i j (t ∷ ts) h b = omega arith
-
-all_more : (i j : ℕ) (ts : List Tree) → i ≤ j → AllIn i ts → AllIn j ts
-all_more i j [] h a = tt
-all_more i j (t ∷ ts) h a = (omega (arith, a.0), all_more i j ts h a.1)
-
-all_append : (j : ℕ) (xs ys : List Tree) → AllIn j xs → AllIn j ys → AllIn j (xs ++ ys)
-all_append j [] ys a b = b
-all_append j (x ∷ xs) ys a b = (a.0, all_append j xs ys a.1 b)
 
 pub held_on : (t : Tree) (ts : List Tree) (j : ℕ) → start_of t < j → held j (t ∷ ts) ≡ t ∷ held j ts
 held_on t ts j h = grind (arith)
@@ -66,13 +57,13 @@ past_beyond : (j : ℕ) (ts : List Tree) → Beyond j ts → past j ts ≡ ts
 past_beyond j [] h = refl
 past_beyond j (t ∷ ts) h = grind (arith)
 
-pub held_all : (j : ℕ) (xs ys : List Tree) → AllIn j xs → Beyond j ys → held j (xs ++ ys) ≡ xs
+pub held_all : (j : ℕ) (xs ys : List Tree) → Each (In j) xs → Beyond j ys → held j (xs ++ ys) ≡ xs
 held_all j [] ys a b = held_beyond j ys b
-held_all j (x ∷ xs) ys a b = held_on x (xs ++ ys) j a.0 ∙ ap (λ z. x ∷ z) (held_all j xs ys a.1 b)
+held_all j (x ∷ xs) ys a b = cc (held_on x _ j a.0, held_all j xs ys a.1 b)
 
-past_all : (j : ℕ) (xs ys : List Tree) → AllIn j xs → Beyond j ys → past j (xs ++ ys) ≡ ys
+past_all : (j : ℕ) (xs ys : List Tree) → Each (In j) xs → Beyond j ys → past j (xs ++ ys) ≡ ys
 past_all j [] ys a b = past_beyond j ys b
-past_all j (x ∷ xs) ys a b = past_on x (xs ++ ys) j a.0 ∙ past_all j xs ys a.1 b
+past_all j (x ∷ xs) ys a b = past_on x _ j a.0 ∙ past_all j xs ys a.1 b
 
 -- the trees of items, and those of members, each name before its value
 abbrev list_of_items : Items → List Tree
@@ -89,16 +80,16 @@ items_from-list (item t us) = ap (item t) (items_from-list us)
 
 members_from-list : (us : Members) → members_from (names_and_values us) ≡ us
 members_from-list no_members = refl
-members_from-list (member n t us) = ap (member n t) (members_from-list us)
+members_from-list (member n t us) = cc (members_from-list us)
 
 list-add : (us : Items) (t : Tree) → list_of_items (add_item us t) ≡ list_of_items us ++ t ∷ []
 list-add no_items t = refl
-list-add (item u us) t = ap (λ z. u ∷ z) (list-add us t)
+list-add (item u us) t = cc (list-add us t)
 
 names-add : (us : Members) (n : Atom) (t : Tree) → names_and_values (add_member us n t) ≡ names_and_values us
     ++ (scalar Text n ∷ t ∷ [])
 names-add no_members n t = refl
-names-add (member m u us) n t = ap (λ z. scalar Text m ∷ u ∷ z) (names-add us n t)
+names-add (member m u us) n t = cc (names-add us n t)
 
 -- ---- places in the grammar
 
@@ -109,36 +100,36 @@ pub record Within (i j : ℕ) (t : Tree) : Type 0 where
 mutual
   pub within : {b : List ℕ} {i j : ℕ} {t : Tree} → Value b i j t → Within i j t
   within (atom k i j w) = record { start = refl; order = w.order }
-  within (empty_array i j o w c) = let h = w.order in record { start = refl; order = omega arith }
+  within (empty_array i j o w c) = record { start = refl; order = omega arith }
   within (full_array i j k us u o l p c) = let a = led_order l in let q = padded_order p in
       record { start = refl; order = omega arith }
-  within (empty_object i j o w c) = let h = w.order in record { start = refl; order = omega arith }
+  within (empty_object i j o w c) = record { start = refl; order = omega arith }
   within (full_object i j k l us n u o ld nm p c) = let a = led_members_order ld in let q = padded_order p in
       let r = named_order nm in record { start = refl; order = omega arith }
 
   pub padded_order : {b : List ℕ} {i j : ℕ} {t : Tree} → Padded b i j t → (i ≤ start_of t) × (start_of t < j)
-  padded_order (padded i j k l t w v x) = let a = within v in let e = a.start in let f = a.order in let g = w.order in
-      let h = x.order in (omega arith, omega arith)
+  padded_order (padded i j k l t w v x) = let a = within v in (omega arith, omega arith)
 
   pub led_order : {b : List ℕ} {i j : ℕ} {us : Items} → LedItems b i j us → i ≤ j
   led_order (no_led i) = omega arith
-  led_order (led i j k us u l p c) = let a = led_order l in let q = padded_order p in omega arith
+  led_order (led i j k us u l p c) = omega (arith, led_order l, padded_order p)
 
   pub led_members_order : {b : List ℕ} {i j : ℕ} {us : Members} → LedMembers b i j us → i ≤ j
   led_members_order (no_led_members i) = omega arith
-  led_members_order (led_member i j k l us n u ld nm p c) = let a = led_members_order ld in let q = padded_order p in
-      let r = named_order nm in omega arith
+  led_members_order (led_member i j k l us n u ld nm p c) =
+      omega (arith, led_members_order ld, padded_order p, named_order nm)
 
   pub named_order : {b : List ℕ} {i j : ℕ} {n : Atom} → Named b i j n → (i ≤ n.start) × (n.start < n.stop)
       × (n.stop < j)
-  named_order (named i j k l w x y c) = let a = w.order in let d = y.order in let e = x.order in
-      (omega arith, omega arith, omega arith)
+  named_order (named i j k l w x y c) = (omega arith, omega arith, omega arith)
 
 pub padded_ends : {b : List ℕ} {i j : ℕ} {t : Tree} → Padded b i j t → i ≤ j
-padded_ends p = let q = padded_order p in let f = q.0 in let g = q.1 in omega arith
+padded_ends p =
+    let q = padded_order p in omega arith
 
 pub named_ends : {b : List ℕ} {i j : ℕ} {n : Atom} → Named b i j n → i ≤ j
-named_ends p = let q = named_order p in let f = q.0 in let g = q.1 in let h = q.2 in omega arith
+named_ends p =
+    let q = named_order p in omega arith
 
 -- ---- spans that show trees
 
@@ -148,12 +139,9 @@ start-node b _ i j ts = refl
 
 -- a span that holds these trees and no more
 shown : (b : List ℕ) (i j : ℕ) {k : Kind} (ss : List Span) (xs ys : List Tree) → kind_by (byte b i) ≡ k
-    → forest b ss ≡ xs ++ ys → AllIn j xs → Beyond j ys → forest b (span_at i j ∷ ss) ≡ node b k i j xs ∷ ys
+    → forest b ss ≡ xs ++ ys → Each (In j) xs → Beyond j ys → forest b (span_at i j ∷ ss) ≡ node b k i j xs ∷ ys
 unfolding forest
-shown b i j ss xs ys kd e a o =
-    ap (λ z. node b (kind_by (byte b i)) i j (held j z) ∷ past j z) e
-    ∙ ap (λ z. node b (kind_by (byte b i)) i j z ∷ past j (xs ++ ys)) (held_all j xs ys a o)
-    ∙ ap (λ z. node b (kind_by (byte b i)) i j xs ∷ z) (past_all j xs ys a o) ∙ ap (λ z. node b z i j xs ∷ ys) kd
+shown b i j ss xs ys kd e a o = cc (held_all j xs ys a o, past_all j xs ys a o)
 
 scalar_node : {b : List ℕ} (k : Kind) {i j : ℕ} → IsAtom b k i j → node b k i j [] ≡ scalar k (atom_at b i j)
 scalar_node Array w = absurd w.spelled
@@ -162,7 +150,7 @@ scalar_node _ w = refl
 
 -- the trees all start before the place j, and are shown before what follows
 pub record Shows (b : List ℕ) (j : ℕ) (ss : List Span) (xs : List Tree) : Type 0 where
-  pub all : AllIn j xs
+  pub all : Each (In j) xs
   pub shows : (rest : List Span) → Beyond j (forest b rest) → forest b (ss ++ rest) ≡ xs ++ forest b rest
 
 shows_none : (b : List ℕ) (j : ℕ) → Shows b j [] []
@@ -172,24 +160,24 @@ shows_none b j = record { all = tt; shows = λ rest h. refl }
 shows_both : {b : List ℕ} {i j : ℕ} {ts us : List Span} {xs : List Tree} (y : Tree) (ys : List Tree) → i ≤ j
     → i ≤ start_of y → Shows b i ts xs → Shows b j us (y ∷ ys) → Shows b j (ts ++ us) (xs ++ y ∷ ys)
 shows_both {b} {i} {j} {ts} {us} {xs} y ys o l a c = record {
-  all = all_append j xs (y ∷ ys) (all_more i j xs o a.all) c.all;
+  all = each_append (In j) xs _ (each_more (In i) (In j) (λ t l. omega arith) xs a.all) c.all;
   shows = λ rest h.
       let e = c.shows rest h in
       ap (forest b) (append_assoc ts us rest) ∙ a.shows (us ++ rest) (subst (Beyond i) (sym e) l) ∙ ap (λ z. xs ++ z) e
-      ∙ sym (append_assoc xs (y ∷ ys) (forest b rest));
+      ∙ sym (append_assoc xs _ _);
 }
 
 shows_atom : {b : List ℕ} {k : Kind} {i j : ℕ} → IsAtom b k i j
     → Shows b j (span_at i j ∷ []) (scalar k (atom_at b i j) ∷ [])
 shows_atom {b} {k} {i} {j} w = record {
   all = (w.order, tt);
-  shows = λ rest h. shown b i j rest [] (forest b rest) (atom_kind w) refl tt h
+  shows = λ rest h. shown b i j rest [] _ (atom_kind w) refl tt h
       ∙ ap (λ z. z ∷ forest b rest) (scalar_node k w);
 }
 
 pub shows_named : {b : List ℕ} {i j : ℕ} {n : Atom} → Named b i j n
     → Shows b n.stop (span_at n.start n.stop ∷ []) (scalar Text n ∷ [])
-shows_named {b} (named i j k l w x y c) = shows_atom x
+shows_named (named i j k l w x y c) = shows_atom x
 
 -- a container that holds these
 shows_container : {b : List ℕ} (i : ℕ) {j : ℕ} (k : Kind) (ss : List Span) (xs : List Tree) {t : Tree} → i < j
@@ -197,77 +185,78 @@ shows_container : {b : List ℕ} (i : ℕ) {j : ℕ} (k : Kind) (ss : List Span)
     → Shows b j (span_at i j ∷ ss) (t ∷ [])
 shows_container {b} i {j} k ss xs o kd a e s = record {
   all = (omega arith, tt);
-  shows = λ rest h. shown b i j (ss ++ rest) xs (forest b rest) kd (a.shows rest h) a.all h
+  shows = λ rest h. shown b i j _ xs (forest b rest) kd (a.shows rest h) a.all h
       ∙ ap (λ z. z ∷ forest b rest) e;
 }
 
 pub shows_more : {b : List ℕ} {i : ℕ} (j : ℕ) {ss : List Span} {xs : List Tree} → i ≤ j → Shows b i ss xs
     → Shows b j ss xs
 shows_more {b} {i} j {xs} o a =
-    record { all = all_more i j xs o a.all; shows = λ rest h. a.shows rest (beyond_less i j (forest b rest) o h) }
+    record {
+      all = each_more (In i) (In j) (λ t l. omega arith) xs a.all;
+      shows = λ rest h. a.shows rest (beyond_less i j _ o h);
+    }
 
 pub shows_add : {b : List ℕ} {i j k : ℕ} {us : Items} {u : Tree} → LedItems b i j us → Padded b j k u
     → Shows b j (items_preorder us) (list_of_items us) → Shows b k (preorder u) (u ∷ [])
     → Shows b k (items_preorder (add_item us u)) (list_of_items (add_item us u))
-shows_add {b} {i} {j} {k} {us} {u} l p f g =
+shows_add {b} {k} {us} {u} l p f g =
     let q = padded_order p in
     let h = shows_both u [] (omega arith) q.0 f g in
-    subst (λ ss. Shows b k ss (list_of_items (add_item us u))) (sym (items_preorder-add us u))
-    (subst (Shows b k (items_preorder us ++ preorder u)) (sym (list-add us u)) h)
+    rw (items_preorder-add us u) (subst (Shows b k (items_preorder us ++ preorder u)) (sym (list-add us u)) h)
 
 pub shows_add_member : {b : List ℕ} {i j k l : ℕ} {us : Members} {n : Atom} {u : Tree} → LedMembers b i j us
     → Named b j k n → Padded b k l u → Shows b j (members_preorder us) (names_and_values us)
     → Shows b l (preorder u) (u ∷ [])
     → Shows b l (members_preorder (add_member us n u)) (names_and_values (add_member us n u))
-shows_add_member {b} {i} {j} {k} {l} {us} {n} {u} ld nm p f g =
+shows_add_member {b} {l} {us} {n} {u} ld nm p f g =
     let q = padded_order p in let r = named_order nm in
     let w = scalar Text n in
     let pair = shows_both u [] (omega arith) (omega (arith, q.0)) (shows_named nm) g in
-    let h = shows_both w (u ∷ []) (omega arith) r.0 f pair in
-    subst (λ ss. Shows b l ss (names_and_values (add_member us n u))) (sym (members_preorder-add us n u))
+    let h = shows_both w _ (omega arith) r.0 f pair in
+    rw (members_preorder-add us n u)
     (subst (Shows b l (members_preorder us ++ span_at n.start n.stop ∷ preorder u)) (sym (names-add us n u)) h)
 
 mutual
   shows_value : {b : List ℕ} {i j : ℕ} {t : Tree} → Value b i j t → Shows b j (preorder t) (t ∷ [])
-  shows_value {b} (atom k i j w) = shows_atom w
-  shows_value {b} (empty_array i j o w c) = let h = w.order in
+  shows_value (atom k i j w) = shows_atom w
+  shows_value {b} (empty_array i j o w c) =
       shows_container i Array [] [] {t = array i (suc j) no_items} (omega arith) (ap kind_by o)
-      (shows_none b (suc j)) refl refl
-  shows_value {b} (full_array i j k us u o l p c) =
+      (shows_none b _) refl refl
+  shows_value (full_array i j k us u o l p c) =
       let v = add_item us u in let a = led_order l in let q = padded_order p in
       let e = ap (array i (suc k)) (items_from-list v) in
-      shows_container i Array (items_preorder v) (list_of_items v) (omega arith)
-      (ap kind_by o) (shows_more (suc k) (omega arith) (shows_add l p (shows_led l) (shows_padded p))) e
+      shows_container i Array _ _ (omega arith)
+      (ap kind_by o) (shows_more _ (omega arith) (shows_add l p (shows_led l) (shows_padded p))) e
       refl
-  shows_value {b} (empty_object i j o w c) = let h = w.order in
+  shows_value {b} (empty_object i j o w c) =
       shows_container i Object [] [] {t = object i (suc j) no_members} (omega arith) (ap kind_by o)
-      (shows_none b (suc j)) refl refl
-  shows_value {b} (full_object i j k l us n u o ld nm p c) =
+      (shows_none b _) refl refl
+  shows_value (full_object i j k l us n u o ld nm p c) =
       let v = add_member us n u in let a = led_members_order ld in let q = padded_order p in let r = named_order nm in
       let e = ap (object i (suc l)) (members_from-list v) in
-      shows_container i Object (members_preorder v) (names_and_values v) (omega arith)
-      (ap kind_by o) (shows_more (suc l) (omega arith)
+      shows_container i Object _ _ (omega arith)
+      (ap kind_by o) (shows_more _ (omega arith)
       (shows_add_member ld nm p (shows_led_members ld) (shows_padded p))) e refl
 
   pub shows_padded : {b : List ℕ} {i j : ℕ} {t : Tree} → Padded b i j t → Shows b j (preorder t) (t ∷ [])
-  shows_padded {b} (padded i j k l t w v x) = shows_more l x.order (shows_value v)
+  shows_padded (padded i j k l t w v x) = shows_more l x.order (shows_value v)
 
   pub shows_led : {b : List ℕ} {i j : ℕ} {us : Items} → LedItems b i j us
       → Shows b j (items_preorder us) (list_of_items us)
   shows_led {b} (no_led i) = shows_none b i
-  shows_led {b} (led i j k us u l p c) =
-      shows_more (suc k) (omega arith) (shows_add l p (shows_led l) (shows_padded p))
+  shows_led (led i j k us u l p c) = shows_more (suc k) (omega arith) (shows_add l p (shows_led l) (shows_padded p))
 
   pub shows_led_members : {b : List ℕ} {i j : ℕ} {us : Members} → LedMembers b i j us
       → Shows b j (members_preorder us) (names_and_values us)
   shows_led_members {b} (no_led_members i) = shows_none b i
-  shows_led_members {b} (led_member i j k l us n u ld nm p c) =
+  shows_led_members (led_member i j k l us n u ld nm p c) =
       shows_more (suc l) (omega arith) (shows_add_member ld nm p (shows_led_members ld) (shows_padded p))
 
 -- the spans of a JSON text show its tree and no other
 pub json_shown : (b : List ℕ) (t : Tree) → Json b t → forest b (preorder t) ≡ t ∷ []
 unfolding forest
-json_shown b t p = ap (forest b) (sym (append-nil (preorder t))) ∙ (shows_padded p).shows [] tt
+json_shown b t p = cc (append-nil _, (shows_padded p).shows [] tt)
 
 pub tree_by_preorder : (b : List ℕ) (t u : Tree) → Json b t → Json b u → preorder t ≡ preorder u → t ≡ u
 tree_by_preorder b t u p q e = let h = sym (json_shown b t p) ∙ ap (forest b) e ∙ json_shown b u q in cc

@@ -1,5 +1,5 @@
 -- The machine is at a state after the first i bytes exactly where they are a prefix.
-use Rattle.cj_spans.proofs.Common.{◌≡◌, ℕ, suc, ◌+◌, List, [], ◌∷◌, ◌++◌, length, max, refl, ap, subst, arith, inl, inr, cases_lt, Token, Mode, Ready, FirstItem, FirstName, AfterName, Members, no_items, no_members, byte, White, padded, no_led, LedMembers, no_led_members, JsonPrefix, white, begun, whole, in_object, in_array as front_array, MemberPrefix, before_name, in_name as front_name, after_name as front_after_name, in_value, token_at, State, Reaches, on, BeginsValue}
+use Rattle.cj_spans.proofs.Common.{◌≡◌, ℕ, suc, ◌+◌, List, [], ◌∷◌, ◌++◌, length, max, refl, ap, arith, inl, inr, cases_lt, Token, Mode, Ready, FirstItem, FirstName, AfterName, Members, no_items, no_members, byte, White, padded, no_led, LedMembers, no_led_members, JsonPrefix, white, begun, whole, in_object, in_array as front_array, MemberPrefix, before_name, in_name as front_name, after_name as front_after_name, in_value, token_at, State, Reaches, on, BeginsValue}
 use Rattle.cj_spans.proofs.Lists.{length-snoc, slice_get-seam}
 use Rattle.cj_spans.proofs.Runs.{Arrives, settled, skip, BeginsName, idle}
 use Rattle.cj_spans.proofs.Runs.{skip_after}
@@ -25,7 +25,7 @@ lives : {b : List ℕ} {s t : State} → Reaches b s t → Live b s t.place (len
 lives {t} r = record { at = t; reached = r; place = refl; open_count = refl }
 
 live_n : {b : List ℕ} {s : State} {j : ℕ} {m n : ℕ} → m ≡ n → Live b s j m → Live b s j n
-live_n {b} {s} {j} e h = subst (λ k. Live b s j k) e h
+live_n e h = rw e at h
 
 -- inside an object, past its first members
 record InObject (b : List ℕ) (s : State) (ks : List ℕ) (k : ℕ) : Type 0 where
@@ -38,11 +38,11 @@ record InObject (b : List ℕ) (s : State) (ks : List ℕ) (k : ℕ) : Type 0 wh
 object_at : {b : List ℕ} {i j : ℕ} (k : ℕ) (us : Members) → White b i j → byte b j ≡ 123 → LedMembers b (suc j) k us
     → {s : State} (m : Mode) (ks : List ℕ) (ts : List Token) (p : ℕ) → BeginsValue m → Reaches b s (idle m ks ts i p)
     → InObject b s (length ts ∷ ks) k
-object_at {b} {j} k us w o ld {s} m ks ts p h r =
+object_at {j} k us w o ld {s} m ks ts p h r =
     let t = token_at j 0 1 in let q = max p (suc (length ks)) in
-    let r1 = on (idle m ks ts j p) (idle FirstName (length ts ∷ ks) (ts ++ t ∷ []) (suc j) q) (skip w m ks ts p r)
+    let r1 = on _ _ (skip w m ks ts p r)
     (open_object m ks ts j p h o) in
-    let r2 = run_led_members ld s FirstName (length ts) ks (ts ++ t ∷ []) q j (suc (length ts)) (length-snoc ts t)
+    let r2 = run_led_members ld s FirstName _ ks _ q j _ (length-snoc ts t)
     (slice_get-seam ts [] t) tt r1 in
     record { mode = r2.mode; tokens = _; deepest = _; begins = r2.begins; reached = r2.reached }
 
@@ -50,31 +50,27 @@ mutual
   pub front_runs : {b : List ℕ} {i j n : ℕ} → JsonPrefix b i j n
       → (s : State) (m : Mode) (ks : List ℕ) (ts : List Token) (p : ℕ) → BeginsValue m
       → Reaches b s (idle m ks ts i p) → Live b s j (n + length ks)
-  front_runs {b} (white i j w) s m ks ts p h r =
-      live_n (omega arith) (lives (skip w m ks ts p r))
-  front_runs {b} (begun i j l k w g) s m ks ts p h r =
+  front_runs (white i j w) s m ks ts p h r = live_n (omega arith) (lives (skip w m ks ts p r))
+  front_runs (begun i j l k w g) s m ks ts p h r =
       let q = begun_reading g in
       live_n (omega arith)
       (lives (run_begun q.inside m ks ts p h (skip w m ks ts p r)))
-  front_runs {b} (whole i j t w) s m ks ts p h r =
-      live_n (omega arith)
-      (live b s (run_padded w s m ks ts p h r))
-  front_runs {b} (front_array i j k l n us w o ld q) s m ks ts p h r =
+  front_runs {b} (whole i j t w) s m ks ts p h r = live_n (omega arith) (live b s (run_padded w s m ks ts p h r))
+  front_runs (front_array i j k l n us w o ld q) s m ks ts p h r =
       let t = token_at j 0 0 in let y = max p (suc (length ks)) in
-      let r1 = on (idle m ks ts j p) (idle FirstItem (length ts ∷ ks) (ts ++ t ∷ []) (suc j) y) (skip w m ks ts p r)
+      let r1 = on _ _ (skip w m ks ts p r)
       (open_array m ks ts j p h o) in
-      let r2 = run_led ld s FirstItem (length ts) ks (ts ++ t ∷ []) y j (suc (length ts)) (length-snoc ts t)
+      let r2 = run_led ld s FirstItem _ ks _ y j _ (length-snoc ts t)
       (slice_get-seam ts [] t) tt r1 in
-      live_n {m = _} (omega arith) (front_runs q s r2.mode (length ts ∷ ks) _ _ r2.begins r2.reached)
+      live_n {m = _} (omega arith) (front_runs q s r2.mode _ _ _ r2.begins r2.reached)
   front_runs {b} (in_object i j k l n us w o ld f) s m ks ts p h r =
       let q = object_at {b = b} k us w o ld m ks ts p h r in
-      live_n (omega arith) (member_runs f s q.mode (length ts ∷ ks) q.tokens q.deepest q.begins q.reached)
+      live_n (omega arith) (member_runs f s q.mode _ q.tokens q.deepest q.begins q.reached)
 
   member_runs : {b : List ℕ} {i j n : ℕ} → MemberPrefix b i j n
       → (s : State) (m : Mode) (ks : List ℕ) (ts : List Token) (p : ℕ) → BeginsName m
       → Reaches b s (idle m ks ts i p) → Live b s j (n + length ks)
-  member_runs {b} (before_name i j w) s m ks ts p h r =
-      live_n (omega arith) (lives (skip w m ks ts p r))
+  member_runs (before_name i j w) s m ks ts p h r = live_n (omega arith) (lives (skip w m ks ts p r))
   member_runs {b} (front_name i j l w g) s m ks ts p h r =
       let z = begun_reading g in
       live_n (omega arith) (lives
@@ -83,14 +79,13 @@ mutual
   member_runs {b} (front_after_name i j k l w g v) s m ks ts p h r =
       let z = run_name g m ks ts p h (skip w m ks ts p r) in
       live_n {m = _} (omega arith) (live b s {t = idle AfterName ks _ l p} (skip_after v AfterName ks _ p z))
-  member_runs {b} (in_value i j k n a named_at f) s m ks ts p h r =
+  member_runs (in_value i j k n a named_at f) s m ks ts p h r =
       front_runs f s Ready ks _ p tt (run_named named_at m ks ts p h r)
 
 -- ---- from states to fronts
 
 white_join : {b : List ℕ} {i j k : ℕ} → White b i j → White b j k → White b i k
-white_join {b} {i} {j} {k} v w =
-    let o = v.order in let p = w.order in
+white_join {j} v w =
     record { order = omega arith; each = λ n l u. elim (cases_lt n j) [ inl s ↦ v.each n l s | inr g ↦ w.each n g u ] }
 
 front_white : {b : List ℕ} {i j k n : ℕ} → White b i j → JsonPrefix b j k n → JsonPrefix b i k n
@@ -101,17 +96,17 @@ front_white {i = i} v (front_array j k l m n us w o ld q) = front_array i k l m 
 front_white {i = i} v (in_object j k l m n us w o ld f) = in_object i k l m n us (white_join v w) o ld f
 
 front_n : {b : List ℕ} {i j : ℕ} (m n : ℕ) → m ≡ n → JsonPrefix b i j m → JsonPrefix b i j n
-front_n {b} {i} {j} m n e f = subst (λ k. JsonPrefix b i j k) e f
+front_n m n e f = rw e at f
 
 context_front : {b : List ℕ} {e : ℕ} {ks : List ℕ} {ts : List Token} → Context b e ks ts → (j n : ℕ)
     → JsonPrefix b e j n → JsonPrefix b 0 j (n + length ks)
-context_front {b} (root e w) j n f = front_n _ _ (omega arith) (front_white w f)
+context_front (root e w) j n f = front_n _ _ (omega arith) (front_white w f)
 context_front {b} (in_array e0 j0 e ks ts us c o l w) j n f =
     front_n _ _ (omega arith)
-    (context_front c j (suc n) (front_array e0 e0 j0 j n us (no_white b e0) o l (front_white w f)))
+    (context_front c j _ (front_array e0 e0 j0 j n us (no_white b e0) o l (front_white w f)))
 context_front {b} (in_member e0 j0 k e ks ts us nm c o l d w) j n f =
     front_n _ _ (omega arith)
-    (context_front c j (suc n)
+    (context_front c j _
     (in_object e0 e0 j0 j n us (no_white b e0) o l (in_value j0 k j n nm d (front_white w f))))
 
 -- what was read is a prefix, with as many containers open as the stack has

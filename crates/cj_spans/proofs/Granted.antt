@@ -1,19 +1,11 @@
 -- What a scan answers to which room was granted, from what the scan in reserved room answers.
-use Rattle.cj_spans.proofs.Common.{◌≡◌, ℕ, List, inl, sym, ap, ◌∙◌, Ok, Err, LineFault, NotUtf8, Syntax, TooDeep, Judgement, spelled, broken, sunk, IsAnswerOf, IsReservedAnswerOf, widened_fault}
+use Rattle.cj_spans.proofs.Common.{◌≡◌, ℕ, List, inl, sym, ap, arith, ◌∙◌, Ok, Err, LineFault, Syntax, TooDeep, Judgement, spelled, broken, sunk, IsAnswerOf, IsReservedAnswerOf, widened_fault}
 use Rattle.std.specs.Prelude.{Result, IsErrAnd, IsOk}
 use Rattle.std.proofs.lemmas.Result.{err_from_is_err_and}
 use Rattle.cj_spans.specs.declared.fault.ScanFault.{ScanFault}
 
 one_fault : (f g : LineFault) → widened_fault f ≡ widened_fault g → f ≡ g
-one_fault (NotUtf8 i) (NotUtf8 j) h = cc
-one_fault (NotUtf8 i) (Syntax j) h = cc
-one_fault (NotUtf8 i) (TooDeep j) h = cc
-one_fault (Syntax i) (NotUtf8 j) h = cc
-one_fault (Syntax i) (Syntax j) h = cc
-one_fault (Syntax i) (TooDeep j) h = cc
-one_fault (TooDeep i) (NotUtf8 j) h = cc
-one_fault (TooDeep i) (Syntax j) h = cc
-one_fault (TooDeep i) (TooDeep j) h = cc
+one_fault f g h = grind arith
 
 err_same : (f g : ScanFault) → ◌≡◌ {A = Result (Unit {0}) ScanFault} (Err f) (Err g) → f ≡ g
 err_same f g h = cc
@@ -36,7 +28,7 @@ module _ (r : Result (Unit {0}) ScanFault) (f : LineFault) (a : IsErrAnd r (λ g
   fault_back g h = ap Err (one_fault f g (err_same _ _ (sym fault_is ∙ h)))
 
   pub fault_on : (g : LineFault) → ◌≡◌ {A = Result (Unit {0}) LineFault} (Err f) (Err g) → r ≡ Err (widened_fault g)
-  fault_on g h = fault_is ∙ ap (λ k. Err (widened_fault k)) (line_err_same f g h)
+  fault_on g h = cc (fault_is, line_err_same f g h)
 
   pub fault_judged : {b : List ℕ} {d : ℕ} (j : Judgement b d) → IsReservedAnswerOf j (Err f) → IsAnswerOf j r
   fault_judged (spelled t j n) h = absurd (no_ok f h)

@@ -1,6 +1,6 @@
 -- Each line is a JSON text within the depth limit, or has the place of a fault: the machine finds out which.
-use Rattle.cj_spans.proofs.Common.{◌≡◌, ℕ, zero, suc, ◌+◌, ◌<◌, ◌≤◌, List, [], ◌∷◌, length, Bool, true, false, Option, Some, None, refl, sym, ap, subst, arith, ◌∙◌, inl, inr, ltb, ltb-true, nat_tests, Token, Ready, FirstItem, After, FirstName, NextName, AfterName, byte, Json, Tree, nest, SyntaxAt, DeepAt, NowhereDeep, Judgement, spelled, broken, sunk, SaySame, IsReservedAnswerOf, LineFault, Syntax, TooDeep, Phase, State, state, between, in_atom, start, step, settle, Reaches, here, on, Sticks}
-use Rattle.std.specs.Prelude.{IsSomeAnd, IsOk, IsErrOf, Result}
+use Rattle.cj_spans.proofs.Common.{◌≡◌, ℕ, zero, suc, ◌+◌, ◌<◌, ◌≤◌, List, [], ◌∷◌, length, Bool, true, false, Option, Some, None, refl, sym, ap, arith, ◌∙◌, inl, inr, ltb, ltb-true, nat_tests, Token, After, byte, Json, Tree, nest, SyntaxAt, DeepAt, NowhereDeep, Judgement, spelled, broken, sunk, SaySame, IsReservedAnswerOf, LineFault, Syntax, TooDeep, Phase, State, state, between, start, step, settle, Reaches, here, on, Sticks}
+use Rattle.std.specs.Prelude.{IsOk, IsErrOf, Result}
 use Rattle.cj_spans.proofs.Spellings.{none_some, some_same}
 use Rattle.cj_spans.proofs.Facts.{next_place, lawful_reaches, goes}
 use Rattle.cj_spans.proofs.Runs.{settled}
@@ -19,7 +19,7 @@ module _ (b : List ℕ) (d : ℕ) where
     unfoldable pub no_end : (o : Option State) → settle s ≡ o → s.place ≡ length b
         → ((ts : List Token) (p : ℕ) → o ≡ Some (state (between After) [] ts (length b) p) → ⊥) → Judgement b d
     no_end o k e no_text =
-        ends_at (length b) (record {
+        ends_at _ (record {
           last = s;
           reached = r;
           at = e;
@@ -41,7 +41,7 @@ module _ (b : List ℕ) (d : ℕ) where
     unfoldable pub text_of : (ts : List Token) (i p : ℕ) → settle s ≡ Some (state (between After) [] ts i p)
         → s.place ≡ length b → Judgement b d
     text_of ts i p k e =
-        let same = settled s (state (between After) [] ts i p) k in
+        let same = settled s _ k in
         let at : i ≡ length b = sym same.place ∙ e in
         let whole : settle s ≡ Some (state (between After) [] ts (length b) p) =
         k ∙ ap (λ n. Some (state (between After) [] ts n p)) at in
@@ -53,25 +53,9 @@ module _ (b : List ℕ) (d : ℕ) where
     unfoldable pub by_end : (f : Phase) (ks : List ℕ) (ts : List Token) (i p : ℕ) → settle s ≡ Some (state f ks ts i p)
         → s.place ≡ length b → Judgement b d
     by_end (between After) [] ts i p k e = text_of ts i p k e
-    by_end (between After) (x ∷ ks) ts i p k e = no_end _ k e (λ us q g. some_open x ks ts us i (length b) p q g)
-    by_end (between Ready) ks ts i p k e =
-        no_end _ k e (λ us q g. other_phase (between Ready) ks ts us i (length b) p q
-        (λ (n : between Ready ≡ between After). cc) g)
-    by_end (between FirstItem) ks ts i p k e =
-        no_end _ k e (λ us q g. other_phase (between FirstItem) ks ts us i (length b) p q
-        (λ (n : between FirstItem ≡ between After). cc) g)
-    by_end (between FirstName) ks ts i p k e =
-        no_end _ k e (λ us q g. other_phase (between FirstName) ks ts us i (length b) p q
-        (λ (n : between FirstName ≡ between After). cc) g)
-    by_end (between NextName) ks ts i p k e =
-        no_end _ k e (λ us q g. other_phase (between NextName) ks ts us i (length b) p q
-        (λ (n : between NextName ≡ between After). cc) g)
-    by_end (between AfterName) ks ts i p k e =
-        no_end _ k e (λ us q g. other_phase (between AfterName) ks ts us i (length b) p q
-        (λ (n : between AfterName ≡ between After). cc) g)
-    by_end (in_atom m a x) ks ts i p k e =
-        no_end _ k e (λ us q g. other_phase (in_atom m a x) ks ts us i (length b) p q
-        (λ (n : in_atom m a x ≡ between After). cc) g)
+    by_end (between After) (x ∷ ks) ts i p k e = no_end _ k e (λ us q g. some_open x ks ts us i _ p q g)
+    by_end f ks ts i p k e =
+        no_end _ k e (λ us q g. other_phase f ks ts us i _ p q (λ (n : f ≡ between After). cc) g)
 
     unfoldable pub at_end : (o : Option State) → settle s ≡ o → s.place ≡ length b → Judgement b d
     at_end None k e = no_end None k e (λ ts p g. none_some _ g)
@@ -82,8 +66,7 @@ module _ (b : List ℕ) (d : ℕ) where
         → Judgement b d
     sinks u k lt deep =
         let lawful = lawful_reaches r in
-        let g = goes u (byte b s.place) lawful k in
-        let e = g.deepest in let c = g.climbs in
+        let g = goes u _ lawful k in
         let o = lawful.deep in
         let count : length u.stack ≡ suc d = omega arith in
         sunk s.place (sinks_deep {b = b} {d = d} {i = s.place} (record {
@@ -92,7 +75,7 @@ module _ (b : List ℕ) (d : ℕ) where
           at = refl;
           within = lt;
           shallow = h;
-          deep = subst (λ o. IsSomeAnd o (λ u. length u.stack ≡ suc d)) (sym k) count;
+          deep = rw k count;
         }))
 
     unfoldable pub by_depth : (n : ℕ)
@@ -132,11 +115,11 @@ say_same {b} (spelled t j n) (spelled u k m) = json_only b u t k j
 say_same (spelled t j n) (broken i s h) = json_no_syntax t j s
 say_same {b} {d} (spelled t j n) (sunk i s) = json_nowhere b d t j n i s
 say_same (broken i s h) (spelled t j n) = json_no_syntax t j s
-say_same {b} (broken i s h) (broken k r g) = one_syntax s r
+say_same (broken i s h) (broken k r g) = one_syntax s r
 say_same (broken i s h) (sunk k r) = h k r
 say_same {b} {d} (sunk i s) (spelled t j n) = json_nowhere b d t j n i s
 say_same (sunk i s) (broken k r g) = g i s
-say_same {b} {d} (sunk i s) (sunk k r) = one_deep s r
+say_same (sunk i s) (sunk k r) = one_deep s r
 
 -- what is answered, from what is found
 pub answer_of : {b : List ℕ} {d : ℕ} (j : Judgement b d) (r : Result (Unit {0}) LineFault)

@@ -1,5 +1,5 @@
 -- Calls that leave the stack: where the pass stands behind them, in whatever container is innermost.
-use Rattle.cj_spans.proofs.Common.{◌≡◌, ℕ, ◌+◌, ◌<◌, List, [], ◌∷◌, ◌++◌, length, max, suc, ◌≤◌, refl, subst, sym, ap, ◌∙◌, inl, inr, true, false, arith, Some, Ok, Err, slice_get, slice_set, BoundedList, Becomes, IsWithin, TooDeep, Kind, Array, Token, Mode, Ready, FirstItem, After, Open, Next, byte, token_at, state, between, start, with_opened, read, after_in, after_token, ComesTo, ReadsByte, Grown, BeginsValue, InArray, IsInnermost, IsNumberUpTo, EndsItem, FitsToken, Standing, Stands, StandsIn, LeadsIn, GoesOn, KeepsTokens, ReadsNumbers, slice_get_within}
+use Rattle.cj_spans.proofs.Common.{◌≡◌, ℕ, ◌+◌, ◌<◌, List, [], ◌∷◌, ◌++◌, length, max, suc, ◌≤◌, refl, subst, sym, ap, ◌∙◌, inl, inr, true, false, arith, Some, Ok, Err, slice_get, slice_set, BoundedList, Becomes, IsWithin, TooDeep, Kind, Array, Token, Mode, Ready, FirstItem, After, Open, Next, byte, token_at, state, between, start, with_opened, read, ReadsByte, Grown, BeginsValue, InArray, IsInnermost, IsNumberUpTo, EndsItem, FitsToken, Standing, Stands, StandsIn, LeadsIn, GoesOn, KeepsTokens, ReadsNumbers, slice_get_within}
 use Rattle.cj_spans.proofs.Lists.{slice_get-append, get_before}
 use Rattle.std.specs.Prelude.{IsTrue}
 use Rattle.cj_spans.specs.declared.arrays.Numbers.{Numbers}
@@ -40,7 +40,7 @@ module _ {d : Kind} {b : List ℕ} {ts : BoundedList Token} where
   pub leads_from : {us : BoundedList Token} (ks : BoundedList ℕ) {m n o : Mode} {i j : ℕ}
       → IsInnermost d ks.elements ts.elements → LeadsIn d b ts m i us n j → n ≡ o → (t0 : BoundedList Token)
       → (s0 : BoundedList ℕ) → Standing b t0 s0 ts ks m i → Standing b t0 s0 us ks o j
-  leads_from {us} ks {j} a f e t0 s0 s = subst (λ x. Standing b t0 s0 us ks x j) e (f t0 s0 ks a s).1
+  leads_from ks a f e t0 s0 s = rw e at (f t0 s0 ks a s).1
 
   pub stands_from : {us : BoundedList Token} {ks : BoundedList ℕ} {m n o : Mode} {i j : ℕ} → Stands b ts ks m i
       → IsInnermost d ks.elements ts.elements → LeadsIn d b ts m i us n j → n ≡ o → Stands b us ks o j
@@ -53,7 +53,7 @@ module _ {d : Kind} {b : List ℕ} {ts : BoundedList Token} where
 -- ---- numbers of an array
 
 pub kept_more : (ts : List Token) {us : List Token} (vs : List Token) → us ≡ ts ++ vs → KeepsTokens ts us
-kept_more ts vs e = λ j t h. subst (λ z. slice_get z j ≡ Some t) (sym e) (slice_get-append ts vs j t h)
+kept_more ts vs e = λ j t h. rw e (slice_get-append ts vs j t h)
 
 module _ {b : List ℕ} (ts us : BoundedList Token) (m : Mode) {i k : ℕ} (v : BeginsValue m) (n : IsNumberUpTo b i k)
     (e : Becomes ts (ts.elements ++ token_at i k (length ts.elements + 1) ∷ []) us) where
@@ -81,8 +81,7 @@ before_more n = record { next = n; ended = false }
 -- one call after another
 pub reads_on : {b : List ℕ} {ts us vs : BoundedList Token} {f n : Next} {r : Numbers}
     → ReadsNumbers b ts f us (before_more n) → ReadsNumbers b us n vs r → ReadsNumbers b ts f vs r
-reads_on {b} {ts} {us} {vs} x y =
-    let first = x.order in let more = y.order in
+reads_on {ts} {us} {vs} x y =
     record {
       leads = leads_on x.leads y.leads;
       kept = kept_all ts.elements us.elements vs.elements x.kept y.kept;
@@ -96,7 +95,6 @@ pub reads_item : {b : List ℕ} (ts us : BoundedList Token) (f : Next) {k : ℕ}
     → IsNumberUpTo b f.place k → Becomes ts (ts.elements ++ token_at f.place k (length ts.elements + 1) ∷ []) us
     → byte b k ≡ 44 → ReadsNumbers b ts f us (before_more (record { mode = Ready; place = k + 1 }))
 reads_item ts us f v n e c =
-    let further = n.order in
     record {
       leads = leads_item ts us f.mode v n e c;
       kept = kept_more ts.elements _ e.elements;
@@ -110,7 +108,6 @@ pub reads_last : {b : List ℕ} (ts us : BoundedList Token) (f : Next) {k : ℕ}
     → IsNumberUpTo b f.place k → Becomes ts (ts.elements ++ token_at f.place k (length ts.elements + 1) ∷ []) us
     → byte b k ≡ 93 → ReadsNumbers b ts f us (record { next = record { mode = After; place = k }; ended = true })
 reads_last ts us f v n e c =
-    let further = n.order in
     record {
       leads = leads_number ts us f.mode v n e (inr c);
       kept = kept_more ts.elements _ e.elements;
@@ -141,8 +138,7 @@ module _ {ts us : BoundedList Token} {ks : BoundedList ℕ} (i : ℕ)
   array_opens : ReadsByte (λ s. Some (with_opened Array FirstItem s)) i (Ok (Open FirstItem)) ts us ks
       (with_top ks (length ts.elements))
   array_opens =
-      let p = x.below_peak in let q = x.below_limit in
-      record {
+      let p = x.below_peak in record {
         answer = λ n p. ap (λ z. Some (state (between FirstItem) (length ts.elements ∷ ks.elements) z (suc i)
             (max p (suc (length ks.elements))))) (sym e.elements);
         tokens = grown_more ts us _ w e;
@@ -164,7 +160,7 @@ module _ {ts us : BoundedList Token} {ks : BoundedList ℕ} (i : ℕ)
   flat_in = opened_in opens_array array_opens
 
 pub top_there : (ks : List ℕ) (k : ℕ) (ts : List Token) (a : InArray (k ∷ ks) ts) → slice_get ts k ≡ Some a.token
-top_there ks k ts a = subst (λ z. slice_get ts z ≡ Some a.token) (sym (some_same k a.top a.innermost)) a.there
+top_there ks k ts a = rw (some_same k a.top a.innermost) a.there
 
 -- the machine closes the innermost array, whose token is then whole
 array_closes : (ks : List ℕ) (k : ℕ) (ts : List Token) {us : List Token} (i : ℕ) → InArray (k ∷ ks) ts
@@ -173,8 +169,7 @@ array_closes : (ks : List ℕ) (k : ℕ) (ts : List Token) {us : List Token} (i 
 array_closes ks k ts i a h p =
     let u = idle After (k ∷ ks) ts i p in
     let there = top_there ks k ts a in
-    ap (λ o. after_token 93 k o u) there ∙ ap (λ g. after_in g 93 k a.token u) a.kind
-    ∙ ap (λ z. Some (idle After ks z (suc i) p)) (sym (h a.token there))
+    cc (a.kind, h a.token there)
 
 -- behind the bracket of an array that was never put on the stack, which notes an item more
 pub flat_closed : (b : List ℕ) {ts us : BoundedList Token} (ks : BoundedList ℕ) {ks1 : BoundedList ℕ} (k i : ℕ)
@@ -185,27 +180,25 @@ pub flat_closed : (b : List ℕ) {ts us : BoundedList Token} (ks : BoundedList �
     → us.elements ≡ slice_set ts.elements k (token_at t.start (suc i) (length ts.elements))) → Grown ts us
     → (t0 : BoundedList Token) (s0 : BoundedList ℕ) → Standing b t0 s0 ts (with_top ks k) After i
     → Standing b t0 s0 us ks1 After (i + 1)
-flat_closed b {ts} {us} ks {ks1} k i l e a x y f h g t0 s0 s =
+flat_closed b {ts} ks {ks1} k i l e a x y f h g t0 s0 s =
     let limit = ap (λ z. z.limit) f in
     let peak = ap (λ z. z.peak) f in
     let elements = ap (λ z. z.elements) f in
     let n : length ks1.elements ≡ length ks.elements = ap length elements in
-    let p = x.below_peak in
     standing_closed s l e g (record {
       limit = limit;
       peak = omega arith;
       room = λ r. subst IsTrue (sym (ap (λ z. z.reserved) f)) r;
       within = y;
-    }) (λ q. subst (λ z. read After 93 (idle After (k ∷ ks.elements) ts.elements i q)
-    ≡ Some (idle After z us.elements (suc i) q)) (sym elements) (array_closes ks.elements k ts.elements i a h q))
+    }) (λ q. rw elements (array_closes ks.elements k ts.elements i a h q))
 
 -- the same stack, however it came to be
 pub standing_stack : {b : List ℕ} {ts : BoundedList Token} (ks ks1 : BoundedList ℕ) (k : ℕ) {m : Mode} {i : ℕ}
     → Becomes ks (k ∷ ks.elements) ks1 → {t0 : BoundedList Token} {s0 : BoundedList ℕ}
     → Standing b t0 s0 ts (with_top ks k) m i → Standing b t0 s0 ts ks1 m i
-standing_stack {b} {ts} ks ks1 k {m} {i} e s = record {
+standing_stack ks ks1 k e s = record {
   deepest = s.deepest;
-  settles = subst (λ z. ComesTo b start (state (between m) z ts.elements i s.deepest)) (sym e.elements) s.settles;
+  settles = rw e.elements s.settles;
   place = s.place;
   kept = s.kept;
   stack_limit = e.limit ∙ s.stack_limit;
@@ -224,8 +217,7 @@ outer_stays ks ts us k t a l f e = record {
   innermost = a.innermost;
   there =
       let h = slice_get_within ts a.top a.token a.there in
-      subst (λ z. slice_get z a.top ≡ Some a.token) (sym e)
-      (get_before us k a.top t (omega arith) ∙ f a.top a.token a.there);
+      rw e (get_before us k a.top t (omega arith) ∙ f a.top a.token a.there);
   kind = a.kind;
 }
 
@@ -261,6 +253,29 @@ module _ {b : List ℕ} {ts us : BoundedList Token} {ks : BoundedList ℕ} {m : 
     pub flat_inside : StandsIn Array b vs n j
     flat_inside = stands_leads flat_stands g
 
+    -- its token, at k, is closed with the bracket at j, and the stack notes that it had an item more
+    module _ {k : ℕ} (vs1 : BoundedList Token) {ks1 : BoundedList ℕ} (value : k ≡ length ts.elements)
+        (closed : (t : Token) → slice_get vs.elements k ≡ Some t
+        → vs1.elements ≡ slice_set vs.elements k (token_at t.start (suc j) (length vs.elements)))
+        (p : ks1 ≡ record ks { peak = max ks.peak (length ks.elements + 1) }) where
+      closed_at : (t : Token) → slice_get vs.elements (length ts.elements) ≡ Some t
+          → vs1.elements ≡ slice_set vs.elements (length ts.elements) (token_at t.start (suc j) (length vs.elements))
+      closed_at = subst (λ k. (t : Token) → slice_get vs.elements k ≡ Some t
+          → vs1.elements ≡ slice_set vs.elements k (token_at t.start (suc j) (length vs.elements))) value closed
+
+      pub flat_left : n ≡ After → j < length b → byte b j ≡ 93 → IsWithin ks1 → Grown vs vs1 → (t0 : BoundedList Token)
+          (s0 : BoundedList ℕ) → Standing b t0 s0 ts ks m i → Standing b t0 s0 vs1 ks1 After (j + 1)
+      flat_left after within bracket w grown t0 s0 z =
+          flat_closed b ks (length ts.elements) j within bracket flat_innermost (stands_within s).1 w p closed_at grown
+          t0 s0 (subst (λ x. Standing b t0 s0 vs top x j) after (flat_read t0 s0 z))
+
+      pub flat_outer : InArray ks.elements ts.elements → KeepsTokens ts.elements vs.elements
+          → InArray ks1.elements vs1.elements
+      flat_outer a keeps =
+          subst (λ z. InArray z vs1.elements) (sym (ap (λ z. z.elements) p))
+          (outer_stays ks.elements ts.elements vs.elements (length ts.elements) _ a (omega arith) keeps
+          (closed_at flat_innermost.token (top_there ks.elements (length ts.elements) vs.elements flat_innermost)))
+
 pub index_within : (ks : List ℕ) (k : ℕ) (ts : List Token) → InArray (k ∷ ks) ts → k < length ts
 index_within ks k ts a = slice_get_within ts k a.token (top_there ks k ts a)
 
@@ -278,6 +293,6 @@ array_refused ts ks i w x e = record {
 pub too_deep : {b : List ℕ} {ts : BoundedList Token} {ks : BoundedList ℕ} {m : Mode} {i : ℕ} → Stands b ts ks m i
     → BeginsValue m → i < length b → byte b i ≡ 91 → length ks.elements ≡ ks.limit → {t0 : BoundedList Token}
     → {s0 : BoundedList ℕ} → Standing b t0 s0 ts ks m i → GoesOn b t0 s0 (Err (TooDeep i)) ts ks
-too_deep {b} {ts} {ks} {m} {i} s v l h e z =
+too_deep {ts} {ks} {i} s v l h e z =
     let w = stands_within s in
     standing_refused opens_array (array_refused ts ks i w.0 w.1 e) v l h z

@@ -1,14 +1,14 @@
 -- The links of the tokens of a tree, and the trees that come after them.
 use Rattle.cj_spans.proofs.Common.{◌≡◌, ℕ, zero, suc, ◌+◌, ◌%◌, ◌^◌, ◌<◌, ◌≤◌, List, [], ◌∷◌, ◌++◌, length, drop, slice_get, false, inl, inr, Some, refl, sym, ap, subst, arith, ◌∙◌, append_assoc, length-append, cases_lt, nat_tests, append-nil, length-drop, slice_get_within, Token, Atom, Tree, Items, Members, add_item, add_member, size, items_size, members_size, Value, atom, empty_array, full_array, empty_object, full_object, Padded, padded, LedItems, no_led, led, LedMembers, no_led_members, led_member, Named, named, Json, flatten, flatten_items, flatten_members, token_at, before, AreLinked, is_marked_at, AreUnmarked}
 use Rattle.std.specs.Prelude.{nat_le}
-use Rattle.cj_spans.proofs.Lists.{flatten_items-add, flatten_members-add, named_tokens, length-flatten, length-flatten_items, length-flatten_members}
+use Rattle.std.specs.List.{AllByRecursion as Each}
+use Rattle.cj_spans.proofs.Lists.{each_more, each_append, flatten_items-add, flatten_members-add, named_tokens, length-flatten, length-flatten_items, length-flatten_members}
 use Rattle.cj_spans.proofs.Forests.{led_order, led_members_order, padded_ends, named_ends}
 
 -- ---- tokens that start before a place, and others
 
-abbrev AllBefore : ℕ → List Token → Type 0
-AllBefore j [] = Unit {0}
-AllBefore j (t ∷ ts) = (t.start < j) × AllBefore j ts
+abbrev Before : ℕ → Token → Type 0
+Before j t = t.start < j
 
 -- the first starts at the place or after it
 abbrev NotBefore : ℕ → List Token → Type 0
@@ -35,17 +35,9 @@ before_length j (t ∷ ts) =
       | inr h ↦ let e = before_zero j t ts h in omega arith
     ]
 
-before_all : (j : ℕ) (ts us : List Token) → AllBefore j ts → NotBefore j us → before j (ts ++ us) ≡ length ts
+before_all : (j : ℕ) (ts us : List Token) → Each (Before j) ts → NotBefore j us → before j (ts ++ us) ≡ length ts
 before_all j [] us h n = before_none j us n
-before_all j (t ∷ ts) us h n = before_one j t (ts ++ us) h.0 ∙ ap suc (before_all j ts us h.1 n)
-
-all_before_more : (i j : ℕ) (ts : List Token) → i ≤ j → AllBefore i ts → AllBefore j ts
-all_before_more i j [] l h = tt
-all_before_more i j (t ∷ ts) l h = let a = h.0 in (omega arith, all_before_more i j ts l h.1)
-
-all_before_append : (j : ℕ) (ts us : List Token) → AllBefore j ts → AllBefore j us → AllBefore j (ts ++ us)
-all_before_append j [] us h g = g
-all_before_append j (t ∷ ts) us h g = (h.0, all_before_append j ts us h.1 g)
+before_all j (t ∷ ts) us h n = before_one j t _ h.0 ∙ ap suc (before_all j ts us h.1 n)
 
 not_before_less : (i j : ℕ) (ts : List Token) → i ≤ j → NotBefore j ts → NotBefore i ts
 not_before_less i j [] l h = tt
@@ -64,7 +56,7 @@ AllLinked k (t ∷ ts) = (t.link ≡ suc k + before t.stop ts) × AllLinked (suc
 
 -- tokens between two places, at the indices from k on, linked before any that are linked and start later
 record Linked (i j k : ℕ) (ts : List Token) : Type 0 where
-  all : AllBefore j ts
+  all : Each (Before j) ts
   first : NotBefore i ts
   linked : (rest : List Token) (n : ℕ) → n ≡ k + length ts → NotBefore j rest → AllLinked n rest
       → AllLinked k (ts ++ rest)
@@ -75,12 +67,12 @@ linked_none i k =
       all = tt;
       first = tt;
       linked = λ rest n e f g. let q : n ≡ k = omega arith in
-          subst (λ m. AllLinked m rest) q g;
+          rw q at g;
     }
 
 linked_more : {i j : ℕ} (k l : ℕ) {n : ℕ} {ts : List Token} → k ≤ i → j ≤ l → Linked i j n ts → Linked k l n ts
 linked_more {i} {j} k l {ts} f g h = record {
-  all = all_before_more j l ts g h.all;
+  all = each_more _ _ (λ t o. omega arith) ts h.all;
   first = not_before_less k i ts f h.first;
   linked = λ rest m e o p. h.linked rest m e (not_before_less j l rest g o) p;
 }
@@ -88,7 +80,7 @@ linked_more {i} {j} k l {ts} f g h = record {
 linked_both : {i j k n m : ℕ} {ts us : List Token} → i ≤ j → j ≤ k → m ≡ n + length ts → Linked i j n ts
     → Linked j k m us → Linked i k n (ts ++ us)
 linked_both {i} {j} {k} {n} {m} {ts} {us} f g e h q = record {
-  all = all_before_append k ts us (all_before_more j k ts g h.all) q.all;
+  all = each_append _ ts us (each_more _ _ (λ t o. omega arith) ts h.all) q.all;
   first = not_before_append i j ts us f h.first q.first;
   linked = λ rest l d o p.
       let c = length-append ts us in
@@ -106,15 +98,14 @@ linked_over i {j} n m {ts} o e h = record {
 }
 
 linked_atom : (i j n : ℕ) → i < j → Linked i j n (token_at i j (suc n) ∷ [])
-linked_atom i j n o =
-    linked_over i n (suc n) o (omega arith) (linked_more (suc i) j o (omega arith) (linked_none j (suc n)))
+linked_atom i j n o = linked_over i n _ o (omega arith) (linked_more _ j o (omega arith) (linked_none j _))
 
 -- ---- the grammar
 
 linked_named : {b : List ℕ} {i j : ℕ} {n : Atom} → Named b i j n → (k : ℕ)
     → Linked i j k (token_at n.start n.stop (suc k) ∷ [])
-linked_named {b} (named i j k l w x y c) m = let e = w.order in let f = y.order in
-    linked_more i (suc l) e (omega arith) (linked_atom j k m x.order)
+linked_named (named i j k l w x y c) m =
+    let e = w.order in linked_more i _ e (omega arith) (linked_atom j k m x.order)
 
 linked_add : {i j k n : ℕ} (us : Items) (u : Tree) → i ≤ j → j ≤ k → Linked i j n (flatten_items n us)
     → Linked j k (n + items_size us) (flatten (n + items_size us) u) → Linked i k n (flatten_items n (add_item us u))
@@ -129,29 +120,26 @@ linked_add_member : {i j k l n : ℕ} (us : Members) (a : Atom) (u : Tree) → i
 linked_add_member {i} {j} {l} {n} us a u f g h p q r =
     let m = n + members_size us in
     let e = length-flatten_members n us in
-    let pair : Linked j l m (named_tokens m a u) =
-    linked_both g h (omega arith) q r in
+    let pair : Linked j l m (named_tokens m a u) = linked_both g h (omega arith) q r in
     subst (Linked i l n) (sym (flatten_members-add n us a u)) (linked_both f (omega arith) (omega arith) p pair)
 
 mutual
   linked_value : {b : List ℕ} {i j : ℕ} {t : Tree} → Value b i j t → (n : ℕ) → Linked i j n (flatten n t)
-  linked_value {b} (atom k i j w) n = linked_atom i j n w.order
-  linked_value {b} (empty_array i j o w c) n =
-      let h = w.order in
+  linked_value (atom k i j w) n = linked_atom i j n w.order
+  linked_value (empty_array i j o w c) n =
       linked_over i n (suc n + 0) (omega arith) (omega arith)
       (linked_more (suc i) (suc j) (omega arith) (omega arith)
       (linked_none (suc i) (suc n)))
-  linked_value {b} (full_array i j k us u o l p c) n =
+  linked_value (full_array i j k us u o l p c) n =
       let a = led_order l in let q = padded_ends p in let v = add_item us u in let e = length-flatten_items (suc n) v in
       linked_over i n (suc n + items_size v) (omega arith) (omega arith)
       (linked_more (suc i) (suc k) (omega arith) (omega arith)
       (linked_add us u a q (linked_led l (suc n)) (linked_padded p (suc n + items_size us))))
-  linked_value {b} (empty_object i j o w c) n =
-      let h = w.order in
+  linked_value (empty_object i j o w c) n =
       linked_over i n (suc n + 0) (omega arith) (omega arith)
       (linked_more (suc i) (suc j) (omega arith) (omega arith)
       (linked_none (suc i) (suc n)))
-  linked_value {b} (full_object i j k l us a u o ld nm p c) n =
+  linked_value (full_object i j k l us a u o ld nm p c) n =
       let f = led_members_order ld in let q = padded_ends p in let r = named_ends nm in let v = add_member us a u in
       let e = length-flatten_members (suc n) v in let m = suc n + members_size us in
       linked_over i n (suc n + members_size v) (omega arith) (omega arith)
@@ -160,19 +148,19 @@ mutual
       (linked_padded p (suc m))))
 
   linked_padded : {b : List ℕ} {i j : ℕ} {t : Tree} → Padded b i j t → (n : ℕ) → Linked i j n (flatten n t)
-  linked_padded {b} (padded i j k l t w v x) n = linked_more i l w.order x.order (linked_value v n)
+  linked_padded (padded i j k l t w v x) n = linked_more i l w.order x.order (linked_value v n)
 
   linked_led : {b : List ℕ} {i j : ℕ} {us : Items} → LedItems b i j us → (n : ℕ) → Linked i j n (flatten_items n us)
-  linked_led {b} (no_led i) n = linked_none i n
-  linked_led {b} (led i j k us u l p c) n =
+  linked_led (no_led i) n = linked_none i n
+  linked_led (led i j k us u l p c) n =
       let a = led_order l in let q = padded_ends p in
       linked_more i (suc k) (omega arith) (omega arith)
       (linked_add us u a q (linked_led l n) (linked_padded p (n + items_size us)))
 
   linked_led_members : {b : List ℕ} {i j : ℕ} {us : Members} → LedMembers b i j us → (n : ℕ)
       → Linked i j n (flatten_members n us)
-  linked_led_members {b} (no_led_members i) n = linked_none i n
-  linked_led_members {b} (led_member i j k l us a u ld nm p c) n =
+  linked_led_members (no_led_members i) n = linked_none i n
+  linked_led_members (led_member i j k l us a u ld nm p c) n =
       let f = led_members_order ld in let q = padded_ends p in let r = named_ends nm in let m = n + members_size us in
       linked_more i (suc l) (omega arith) (omega arith)
       (linked_add_member us a u f r q (linked_led_members ld n) (linked_named nm m)
@@ -181,9 +169,9 @@ mutual
 link_at : (n k : ℕ) (ts : List Token) (t : Token) → AllLinked n ts → slice_get ts k ≡ Some t
     → t.link ≡ suc (n + k) + before t.stop (drop (suc k) ts)
 link_at n k [] t h g = cc
-link_at n zero (u ∷ ts) t h g = let e : u ≡ t = cc in let l = h.0 in let q : u.link ≡ suc (n + 0) + before u.stop ts =
-    omega arith in subst (λ v. v.link ≡ suc (n + 0) + before v.stop ts) e q
-link_at n (suc k) (u ∷ ts) t h g = let l = link_at (suc n) k ts t h.1 g in omega arith
+link_at n zero (u ∷ ts) t h g = let e : u ≡ t = cc in let q : u.link ≡ suc (n + 0) + before u.stop ts =
+    omega arith in rw e at q
+link_at n (suc k) (u ∷ ts) t h g = omega (arith, link_at _ k ts t h.1 g)
 
 -- the tokens of a line's tree link so, where they are few enough
 json_links : (b : List ℕ) (t : Tree) → Json b t → size t < 2 ^ 31 → (k : ℕ) (u : Token)
@@ -218,4 +206,4 @@ marks_none (u ∷ ts) h (suc k) = marks_none ts (λ n v g. h (suc n) v g) k
 
 -- and have no marks
 pub json_unmarked : (b : List ℕ) (t : Tree) → Json b t → size t < 2 ^ 31 → AreUnmarked (flatten 0 t)
-json_unmarked b t p few = marks_none (flatten 0 t) (λ k u h. (json_links b t p few k u h).0)
+json_unmarked b t p few = marks_none _ (λ k u h. (json_links b t p few k u h).0)

@@ -1,16 +1,26 @@
 -- Lists of tokens, and the nest of a tree as the most containers that are open.
-use Rattle.cj_spans.proofs.Common.{◌≡◌, ℕ, zero, suc, ◌+◌, ◌<◌, ◌≤◌, List, [], ◌∷◌, ◌++◌, length, max, Some, refl, sym, ap, arith, ◌∙◌, append_assoc, slice_get, slice_set, length-append, append-nil, set-append_seam, Token, Atom, Tree, scalar, array, object, Items, no_items, item, Members, no_members, member, add_item, add_member, size, items_size, members_size, nest, items_nest, members_nest, span_at, preorder, items_preorder, members_preorder, flatten, flatten_items, flatten_members, token_at, spans_of}
+use Rattle.cj_spans.proofs.Common.{◌≡◌, ℕ, zero, suc, ◌+◌, ◌<◌, ◌≤◌, List, [], ◌∷◌, ◌++◌, length, max, Some, refl, ap, arith, append_assoc, slice_get, slice_set, length-append, append-nil, set-append_seam, Token, Atom, Tree, scalar, array, object, Items, no_items, item, Members, no_members, member, add_item, add_member, size, items_size, members_size, nest, items_nest, members_nest, span_at, preorder, items_preorder, members_preorder, flatten, flatten_items, flatten_members, token_at, spans_of}
+use Rattle.std.specs.List.{AllByRecursion as Each}
+
+-- ---- what holds of each element
+
+pub each_more : {A : Type 0} (P Q : A → Type 0) → ((x : A) → P x → Q x) → (xs : List A) → Each P xs → Each Q xs
+each_more P Q f [] h = tt
+each_more P Q f (x ∷ xs) h = (f x h.0, each_more P Q f xs h.1)
+
+pub each_append : {A : Type 0} (P : A → Type 0) (xs ys : List A) → Each P xs → Each P ys → Each P (xs ++ ys)
+each_append P [] ys h g = g
+each_append P (x ∷ xs) ys h g = (h.0, each_append P xs ys h.1 g)
 
 -- ---- one more part at the end
 
 pub flatten_items-add : (k : ℕ) (ts : Items) (t : Tree) → flatten_items k (add_item ts t) ≡ flatten_items k ts
     ++ flatten (k + items_size ts) t
-flatten_items-add k no_items t = let e : k ≡ k + 0 = omega arith in append-nil (flatten k t) ∙ ap (λ j. flatten j t) e
+flatten_items-add k no_items t = let e : k ≡ k + 0 = omega arith in cc (append-nil _)
 flatten_items-add k (item u ts) t =
     let j = k + size u in
     let e : j + items_size ts ≡ k + (size u + items_size ts) = omega arith in
-    ap (λ xs. flatten k u ++ xs) (flatten_items-add j ts t ∙ ap (λ i. flatten_items j ts ++ flatten i t) e)
-    ∙ sym (append_assoc (flatten k u) (flatten_items j ts) (flatten (k + (size u + items_size ts)) t))
+    cc (flatten_items-add j ts t, append_assoc _ _ _)
 
 -- a name and its value, at the indices from k on
 abbrev pub named_tokens : ℕ → Atom → Tree → List Token
@@ -19,35 +29,29 @@ named_tokens k n t = token_at n.start n.stop (suc k) ∷ flatten (suc k) t
 pub flatten_members-add : (k : ℕ) (ms : Members) (n : Atom) (t : Tree)
     → flatten_members k (add_member ms n t) ≡ flatten_members k ms ++ named_tokens (k + members_size ms) n t
 flatten_members-add k no_members n t =
-    let e : k ≡ k + 0 = omega arith in ap (λ xs. token_at n.start n.stop (suc k) ∷ xs) (append-nil (flatten (suc k) t))
-    ∙ ap (λ j. named_tokens j n t) e
+    let e : k ≡ k + 0 = omega arith in cc (append-nil _)
 flatten_members-add k (member m u ms) n t =
     let j = suc k + size u in
     let e : j + members_size ms ≡ k + suc (size u + members_size ms) = omega arith in
-    ap (λ xs. token_at m.start m.stop (suc k) ∷ (flatten (suc k) u ++ xs))
-    (flatten_members-add j ms n t ∙ ap (λ i. flatten_members j ms ++ named_tokens i n t) e)
-    ∙ ap (λ xs. token_at m.start m.stop (suc k) ∷ xs)
-    (sym (append_assoc (flatten (suc k) u) (flatten_members j ms)
-    (named_tokens (k + suc (size u + members_size ms)) n t)))
+    cc (flatten_members-add j ms n t, append_assoc _ _ _)
 
 pub items_preorder-add : (ts : Items) (t : Tree) → items_preorder (add_item ts t) ≡ items_preorder ts ++ preorder t
-items_preorder-add no_items t = append-nil (preorder t)
-items_preorder-add (item u ts) t = ap (λ xs. preorder u ++ xs) (items_preorder-add ts t)
-    ∙ sym (append_assoc (preorder u) (items_preorder ts) (preorder t))
+items_preorder-add no_items t = append-nil _
+items_preorder-add (item u ts) t = cc (items_preorder-add ts t, append_assoc _ _ _)
 
 pub members_preorder-add : (ms : Members) (n : Atom) (t : Tree)
     → members_preorder (add_member ms n t) ≡ members_preorder ms ++ span_at n.start n.stop ∷ preorder t
-members_preorder-add no_members n t = ap (λ xs. span_at n.start n.stop ∷ xs) (append-nil (preorder t))
-members_preorder-add (member m u ms) n t =
-    ap (λ xs. span_at m.start m.stop ∷ (preorder u ++ xs)) (members_preorder-add ms n t)
-    ∙ ap (λ xs. span_at m.start m.stop ∷ xs)
-    (sym (append_assoc (preorder u) (members_preorder ms) (span_at n.start n.stop ∷ preorder t)))
+members_preorder-add no_members n t = cc (append-nil _)
+members_preorder-add (member m u ms) n t = cc (
+  members_preorder-add ms n t,
+  append_assoc _ _ _,
+)
 
 -- ---- as many tokens as the size says, and where they are
 
 spans_of-append : (xs ys : List Token) → spans_of (xs ++ ys) ≡ spans_of xs ++ spans_of ys
 spans_of-append [] ys = refl
-spans_of-append (x ∷ xs) ys = ap (λ z. span_at x.start x.stop ∷ z) (spans_of-append xs ys)
+spans_of-append (x ∷ xs) ys = cc (spans_of-append xs ys)
 
 mutual
   pub length-flatten : (k : ℕ) (t : Tree) → length (flatten k t) ≡ size t
@@ -57,37 +61,40 @@ mutual
 
   pub length-flatten_items : (k : ℕ) (ts : Items) → length (flatten_items k ts) ≡ items_size ts
   length-flatten_items k no_items = refl
-  length-flatten_items k (item t ts) =
-      let e = length-append (flatten k t) (flatten_items (k + size t) ts) in let f = length-flatten k t in
-      let g = length-flatten_items (k + size t) ts in omega arith
+  length-flatten_items k (item t ts) = omega (
+    arith,
+    length-append (flatten k t) (flatten_items (k + size t) ts),
+    length-flatten k t,
+    length-flatten_items (k + size t) ts,
+  )
 
   pub length-flatten_members : (k : ℕ) (ms : Members) → length (flatten_members k ms) ≡ members_size ms
   length-flatten_members k no_members = refl
   length-flatten_members k (member n t ms) =
-      let j = suc k + size t in
-      let e = length-append (flatten (suc k) t) (flatten_members j ms) in let f = length-flatten (suc k) t in
-      let g = length-flatten_members j ms in omega arith
+      let j = suc k + size t in omega (
+        arith,
+        length-append (flatten (suc k) t) (flatten_members j ms),
+        length-flatten (suc k) t,
+        length-flatten_members j ms,
+      )
 
 mutual
   pub spans_of-flatten : (k : ℕ) (t : Tree) → spans_of (flatten k t) ≡ preorder t
   spans_of-flatten k (scalar kd a) = refl
-  spans_of-flatten k (array i j ts) = ap (λ z. span_at i j ∷ z) (spans_of-flatten_items (suc k) ts)
-  spans_of-flatten k (object i j ms) = ap (λ z. span_at i j ∷ z) (spans_of-flatten_members (suc k) ms)
+  spans_of-flatten k (array i j ts) = cc (spans_of-flatten_items _ ts)
+  spans_of-flatten k (object i j ms) = cc (spans_of-flatten_members _ ms)
 
   spans_of-flatten_items : (k : ℕ) (ts : Items) → spans_of (flatten_items k ts) ≡ items_preorder ts
   spans_of-flatten_items k no_items = refl
   spans_of-flatten_items k (item t ts) =
       let us = flatten_items (k + size t) ts in
-      spans_of-append (flatten k t) us ∙ ap (λ z. z ++ spans_of us) (spans_of-flatten k t)
-      ∙ ap (λ z. preorder t ++ z) (spans_of-flatten_items (k + size t) ts)
+      cc (spans_of-append _ us, spans_of-flatten k t, spans_of-flatten_items _ ts)
 
   spans_of-flatten_members : (k : ℕ) (ms : Members) → spans_of (flatten_members k ms) ≡ members_preorder ms
   spans_of-flatten_members k no_members = refl
   spans_of-flatten_members k (member n t ms) =
       let us = flatten_members (suc k + size t) ms in
-      ap (λ z. span_at n.start n.stop ∷ z)
-      (spans_of-append (flatten (suc k) t) us ∙ ap (λ z. z ++ spans_of us) (spans_of-flatten (suc k) t)
-      ∙ ap (λ z. preorder t ++ z) (spans_of-flatten_members (suc k + size t) ms))
+      cc (spans_of-append _ us, spans_of-flatten _ t, spans_of-flatten_members _ ms)
 
 -- ---- elements
 
@@ -111,17 +118,17 @@ get_before (z ∷ ts) (suc k) (suc j) u l = get_before ts k j u (omega arith)
 -- ---- the tokens of an open container, whose first part is at the index k
 
 pub length-snoc : (ts : List Token) (o : Token) → length (ts ++ o ∷ []) ≡ suc (length ts)
-length-snoc ts o = let e = length-append ts (o ∷ []) in omega arith
+length-snoc ts o = omega (arith, length-append ts (o ∷ []))
 
 -- one item more
 pub items_more : (xs : List Token) {k : ℕ} (us : Items) (u : Tree) → length xs ≡ k → let vs =
     xs ++ flatten_items k us in vs ++ flatten (length vs) u ≡ xs ++ flatten_items k (add_item us u)
 items_more xs {k} us u h =
     let fs = flatten_items k us in
-    let n : length (xs ++ fs) ≡ k + items_size us = let e = length-append xs fs in let f = length-flatten_items k us in
+    let n : length (xs ++ fs) ≡ k + items_size us = let e = length-append xs fs in let f = length-flatten_items k us
+    in
     omega arith in
-    ap (λ j. (xs ++ fs) ++ flatten j u) n ∙ append_assoc xs fs (flatten (k + items_size us) u)
-    ∙ ap (λ zs. xs ++ zs) (sym (flatten_items-add k us u))
+    cc (append_assoc xs fs _, flatten_items-add k us u)
 
 -- one member more
 pub members_more : (xs : List Token) {k : ℕ} (us : Members) (n : Atom) (u : Tree) → length xs ≡ k
@@ -133,14 +140,12 @@ members_more xs {k} us n u h =
     let v = token_at n.start n.stop (suc (length vs)) in
     let e : length vs ≡ k + members_size us = let e = length-append xs fs in let f = length-flatten_members k us in
     omega arith in
-    ap (λ j. (vs ++ v ∷ []) ++ flatten j u) (length-snoc vs v) ∙ append_assoc vs (v ∷ []) (flatten (suc (length vs)) u)
-    ∙ append_assoc xs fs (named_tokens (length vs) n u)
-    ∙ ap (λ j. xs ++ (fs ++ named_tokens j n u)) e ∙ ap (λ zs. xs ++ zs) (sym (flatten_members-add k us n u))
+    cc (length-snoc vs v, append_assoc vs _ _, append_assoc xs fs _, flatten_members-add k us n u)
 
 -- the token of a container is written where its place is
 set_closed : (ts : List Token) (o f : Token) (xs : List Token) → slice_set ((ts ++ o ∷ []) ++ xs) (length ts) f ≡ ts
     ++ f ∷ xs
-set_closed ts o f xs = ap (λ us. slice_set us (length ts) f) (append_assoc ts (o ∷ []) xs) ∙ set-append_seam ts o xs f
+set_closed ts o f xs = cc (append_assoc ts _ xs, set-append_seam ts o xs f)
 
 -- the container ends with the tokens of its parts
 pub array_done : (ts : List Token) (o : Token) (i j : ℕ) (us : Items) → let vs =
@@ -148,10 +153,10 @@ pub array_done : (ts : List Token) (o : Token) (i j : ℕ) (us : Items) → let 
     slice_set vs (length ts) (token_at i j (length vs)) ≡ ts ++ flatten (length ts) (array i j us)
 array_done ts o i j us =
     let fs = flatten_items (suc (length ts)) us in
-    let e : length ((ts ++ o ∷ []) ++ fs) ≡ suc (length ts) + items_size us = let e = length-append (ts ++ o ∷ []) fs in
+    let e : length ((ts ++ o ∷ []) ++ fs) ≡ suc (length ts) + items_size us = let e = length-append (ts ++ o ∷ []) fs
+    in
     let f = length-flatten_items (suc (length ts)) us in let g = length-snoc ts o in omega arith in
-    ap (λ n. slice_set ((ts ++ o ∷ []) ++ fs) (length ts) (token_at i j n)) e
-    ∙ set_closed ts o (token_at i j (suc (length ts) + items_size us)) fs
+    cc (set_closed ts o (token_at i j (suc (length ts) + items_size us)) fs)
 
 pub object_done : (ts : List Token) (o : Token) (i j : ℕ) (us : Members) → let vs =
     (ts ++ o ∷ []) ++ flatten_members (suc (length ts)) us in
@@ -161,21 +166,18 @@ object_done ts o i j us =
     let e : length ((ts ++ o ∷ []) ++ fs) ≡ suc (length ts) + members_size us = let e =
     length-append (ts ++ o ∷ []) fs in let f = length-flatten_members (suc (length ts)) us in
     let g = length-snoc ts o in omega arith in
-    ap (λ n. slice_set ((ts ++ o ∷ []) ++ fs) (length ts) (token_at i j n)) e
-    ∙ set_closed ts o (token_at i j (suc (length ts) + members_size us)) fs
+    cc (set_closed ts o (token_at i j (suc (length ts) + members_size us)) fs)
 
 -- the same of one that is empty
 pub array_empty : (ts : List Token) (o : Token) (i j : ℕ)
     → slice_set (ts ++ o ∷ []) (length ts) (token_at i j (length (ts ++ o ∷ []))) ≡ ts
     ++ flatten (length ts) (array i j no_items)
-array_empty ts o i j = ap (λ us. slice_set us (length ts) (token_at i j (length us))) (sym (append-nil (ts ++ o ∷ [])))
-    ∙ array_done ts o i j no_items
+array_empty ts o i j = cc (append-nil _, array_done ts o i j no_items)
 
 pub object_empty : (ts : List Token) (o : Token) (i j : ℕ)
     → slice_set (ts ++ o ∷ []) (length ts) (token_at i j (length (ts ++ o ∷ []))) ≡ ts
     ++ flatten (length ts) (object i j no_members)
-object_empty ts o i j = ap (λ us. slice_set us (length ts) (token_at i j (length us))) (sym (append-nil (ts ++ o ∷ [])))
-    ∙ object_done ts o i j no_members
+object_empty ts o i j = cc (append-nil _, object_done ts o i j no_members)
 
 -- ---- the most containers that are open
 
@@ -206,8 +208,8 @@ rise_members-add d p (member m u ms) n t = rise_members-add d (rise d p u) ms n 
 mutual
   pub rise-nest : (d p : ℕ) (t : Tree) → d ≤ p → rise d p t ≡ max p (d + nest t)
   rise-nest d p (scalar k a) h = omega arith
-  rise-nest d p (array i j ts) h = let e = rise_items-nest (suc d) (max p (suc d)) ts (omega arith) in omega arith
-  rise-nest d p (object i j ms) h = let e = rise_members-nest (suc d) (max p (suc d)) ms (omega arith) in omega arith
+  rise-nest d p (array i j ts) h = omega (arith, rise_items-nest (suc d) (max p (suc d)) ts (omega arith))
+  rise-nest d p (object i j ms) h = omega (arith, rise_members-nest (suc d) (max p (suc d)) ms (omega arith))
 
   rise_items-nest : (d p : ℕ) (ts : Items) → d ≤ p → rise_items d p ts ≡ max p (d + items_nest ts)
   rise_items-nest d p no_items h = omega arith

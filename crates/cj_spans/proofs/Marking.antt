@@ -1,8 +1,7 @@
 -- Marks: what they leave, and that a node is found by its tree.
-use Rattle.cj_spans.proofs.Common.{◌≡◌, ◌≢◌, ℕ, zero, suc, ◌+◌, ◌-◌, ◌%◌, ◌^◌, ◌<◌, List, [], ◌∷◌, length, drop, slice_get, true, inl, inr, Some, refl, sym, ap, subst, arith, ◌∙◌, cases_lt, nat_tests, BoundedList, IsWithin, Token, Tree, start_of, spans_of, token_at, forest, AreOf, AreRising, AreLinked, before, link_of, Json, tree_at, tree_in, source_of, tokens_in, line_of, document, document_line, document_source}
+use Rattle.cj_spans.proofs.Common.{◌≡◌, ◌≢◌, ℕ, zero, suc, ◌+◌, ◌-◌, ◌%◌, ◌^◌, ◌<◌, List, [], ◌∷◌, length, drop, slice_get, true, inl, inr, Some, refl, sym, ap, arith, ◌∙◌, cases_lt, nat_tests, BoundedList, IsWithin, Token, Tree, start_of, spans_of, token_at, forest, AreOf, AreRising, AreLinked, before, link_of, Json, tree_at, tree_in, source_of, tokens_in, line_of, document, document_line, document_source}
 use Rattle.std.specs.Prelude.{nat_le, slice_set, min}
 use Rattle.cj_spans.specs.Marks.{has_mark, is_marked_at, bare, KeepsTokens}
-use Rattle.cj_spans.specs.declared.node.Source.{Source}
 use Rattle.cj_spans.specs.declared.node.Doc.{Doc}
 use Rattle.cj_spans.specs.declared.node.Node.{Node}
 use Rattle.cj_spans.proofs.Scanned.{one_tree, its_tree}
@@ -36,15 +35,14 @@ pub bare_kept : (ts : List Token) (n : ℕ) (t : Token) → slice_get ts n ≡ S
 bare_kept [] n t h = refl
 bare_kept (u ∷ ts) zero t h =
     let e : u ≡ t = cc in
-    ap (λ l. token_at t.start t.stop l ∷ bare ts) (mod_more t.link)
-    ∙ ap (λ (v : Token). token_at v.start v.stop (link_of v) ∷ bare ts) (sym e)
-bare_kept (u ∷ ts) (suc n) t h = ap (λ us. token_at u.start u.stop (link_of u) ∷ us) (bare_kept ts n t h)
+    cc (mod_more t.link)
+bare_kept (u ∷ ts) (suc n) t h = cc (bare_kept ts n t h)
 
 -- ---- what tokens show without their marks
 
 spans_bare : (ts : List Token) → spans_of (bare ts) ≡ spans_of ts
 spans_bare [] = refl
-spans_bare (t ∷ ts) = ap (λ ss. record { start = t.start; stop = t.stop } ∷ ss) (spans_bare ts)
+spans_bare (t ∷ ts) = cc (spans_bare ts)
 
 length_bare : (ts : List Token) → length (bare ts) ≡ length ts
 length_bare [] = refl
@@ -61,14 +59,14 @@ drop_bare _ _ = refl
 get_bare : (ts : List Token) (k : ℕ) (t : Token) → slice_get ts k ≡ Some t
     → slice_get (bare ts) k ≡ Some (token_at t.start t.stop (link_of t))
 get_bare [] k t h = cc
-get_bare (u ∷ ts) zero t h = let e : u ≡ t = cc in ap (λ (v : Token). Some (token_at v.start v.stop (link_of v))) e
+get_bare (u ∷ ts) zero t h = let e : u ≡ t = cc in cc
 get_bare (u ∷ ts) (suc k) t h = get_bare ts k t h
 
 -- the law of links, at a token, of tokens that differ by marks alone
 linked_bare : (ts us : List Token) → bare us ≡ bare ts → AreLinked ts → AreLinked us
 linked_bare ts us e linked = λ k t h.
     let g = get_bare us k t h in
-    let f = subst (λ vs. slice_get vs k ≡ Some (token_at t.start t.stop (link_of t))) e g in
+    let f = rw e at g in
     let o = back ts k (token_at t.start t.stop (link_of t)) f in
     let l = linked k o.0 o.1 in
     let stop : o.0.stop ≡ t.stop = ap (λ (v : Token). v.stop) o.2 in
@@ -85,10 +83,10 @@ linked_bare ts us e linked = λ k t h.
     back (v ∷ vs) (suc k) b h = back vs k b h
 
 pub spans_kept : (ts us : List Token) → bare us ≡ bare ts → spans_of us ≡ spans_of ts
-spans_kept ts us e = sym (spans_bare us) ∙ ap spans_of e ∙ spans_bare ts
+spans_kept ts us e = cc (spans_bare us, spans_bare ts)
 
 pub length_kept : (ts us : List Token) → bare us ≡ bare ts → length us ≡ length ts
-length_kept ts us e = sym (length_bare us) ∙ ap (λ (vs : List Token). length vs) e ∙ length_bare ts
+length_kept ts us e = cc (length_bare us, length_bare ts)
 
 -- they show the same line
 pub of_kept : (line : List ℕ) (ts us : List Token) → bare us ≡ bare ts → AreOf line ts → AreOf line us
@@ -125,11 +123,11 @@ one_number b ts i k rising l m e =
 pub marked_within : (ts : List Token) (k : ℕ) → is_marked_at ts k ≡ true → k < length ts
 marked_within [] k h = cc
 marked_within (t ∷ ts) zero h = omega arith
-marked_within (t ∷ ts) (suc k) h = let l = marked_within ts k h in omega arith
+marked_within (t ∷ ts) (suc k) h = omega (arith, marked_within ts k h)
 
 pub mark_of : (ts : List Token) (k : ℕ) (t : Token) → slice_get ts k ≡ Some t → has_mark t ≡ is_marked_at ts k
 mark_of [] k t h = cc
-mark_of (u ∷ ts) zero t h = let e : u ≡ t = cc in ap has_mark (sym e)
+mark_of (u ∷ ts) zero t h = let e : u ≡ t = cc in cc
 mark_of (u ∷ ts) (suc k) t h = mark_of ts k t h
 
 pub keeps : (old : BoundedList Token) {new : BoundedList Token} (n : ℕ) (t : Token) → slice_get old.elements n ≡ Some t
@@ -150,11 +148,11 @@ pub found_at-number : (n : Node) (k : ℕ) → k < length (tokens_in (source_of 
     → tree_in (source_of n) k ≡ tree_at (line_of n) (spans_of (tokens_in (source_of n))) k
 unfolding tree_in source_of tokens_in line_of
 found_at-number n k l = let e : min k (length n.source.tokens.now - 1) ≡ k = omega arith in
-    ap (tree_at n.source.line.now (spans_of n.source.tokens.now)) e
+    cc
 
 pub line-of-document : (n : Node) (d : Doc) → source_of n ≡ document_source d → line_of n ≡ document_line d
 unfolding source_of line_of document_source document_line
-line-of-document n d e = ap (λ (s : Source). s.line.now) e
+line-of-document n d e = cc
 
 -- the tree of a document is the one that its line spells
 module _ (d : Doc) (a : AreOf (document_line d) (tokens_in (document_source d))) where

@@ -69,7 +69,6 @@ module _ {b : List ℕ} {t0 : BoundedList Token} {s0 : BoundedList ℕ} where
       → Standing b t0 s0 ts ks m i → BeginsValue m → IsNumberUpTo b i k → EndsItem (byte b k)
       → Becomes ts (ts.elements ++ token_at i k (length ts.elements + 1) ∷ []) ts1 → Standing b t0 s0 ts1 ks After k
   standing_number {ts} ts1 {ks} {m} {k} s v n w e =
-      let inside = n.within in
       standing_with s After k (grown_more ts ts1 _ s.kept.within e) (omega arith)
       (λ p. number_read start m ks.elements ts.elements p n w v e.elements)
 
@@ -100,7 +99,7 @@ opens d n s = Some (with_opened d n s)
 
 bracket_at : {d : Kind} {n : Mode} {c : ℕ} → Opens d n c → (b : List ℕ) (m : Mode) (i : ℕ) (s : State) → BeginsValue m
     → byte b i ≡ c → read m (byte b i) s ≡ Some (with_opened d n s)
-bracket_at h b m i s v e = ap (λ x. read m x s) e ∙ h.at m s v
+bracket_at h b m i s v e = cc (h.at m s v)
 
 module _ {d : Kind} {n : Mode} {c : ℕ} (h : Opens d n c) where
   -- behind the bracket that opens a container

@@ -1,6 +1,6 @@
 -- One walk that notes the place of the first member of each slot.
 use Rattle.cj_spans.proofs.Common.{◌≡◌, ◌≢◌, ◌∙◌, ◌<◌, ℕ, List, [], ◌∷◌, Bool, true, false, not, ◌⊎◌, Option, Some, None, cond, length, get_or, map, nat_eq, ap, refl, sym, subst, inl, inr, arith, cases_eq, false≢true, nat_tests, get_or-set_same, get_or-set_other, length-set, map-set, get_or-map, are_apart, then_apart, first_code_of, head, are_same_texts, first_named, has_text, text_of, spans_of, before, Tree, members_left, tree_at}
-use Rattle.std.specs.Prelude.{◌+◌, ◌%◌, drop, option_and_then, replicate, slice_set, suc}
+use Rattle.std.specs.Prelude.{◌+◌, ◌%◌, drop, replicate, slice_set, suc}
 use Rattle.std.specs.Cmp.Lexicographic.{same_text}
 use Rattle.cj_spans.specs.declared.node.Members.{Members}
 use Rattle.cj_spans.specs.inner.Noted.{AreNoted, IsPlace, members_from, noted_from, note, is_noted, is_free}
@@ -18,7 +18,7 @@ same_texts (Some s) (Some t) h = ap Some (same_text s t (sym h))
 same_texts _ _ h = cc
 
 first_of : (s : List ℕ) (t : Tree) → has_text s t ≡ true → first_code_of t ≡ head s
-first_of s t h = ap (λ o. option_and_then head o) (same_texts (text_of t) (Some s) h)
+first_of s t h = cc (same_texts (text_of t) (Some s) h)
 
 other_first : (s : List ℕ) (t : Tree) → first_code_of t ≢ head s → has_text s t ≡ false
 other_first s t n = by_test (has_text s t) refl
@@ -30,7 +30,7 @@ other_first s t n = by_test (has_text s t) refl
 -- such a member is passed over
 pub passed : (s : List ℕ) (m : Tree × Tree) (rest : List (Tree × Tree)) → first_code_of m.0 ≢ head s
     → first_named s (m ∷ rest) ≡ first_named s rest
-passed s m rest n = ap (λ b. cond b (Some m.1) (first_named s rest)) (other_first s m.0 n)
+passed s m rest n = cc (other_first s m.0 n)
 
 -- ---- one member more
 
@@ -80,42 +80,35 @@ noted_new {w} m rest {ps} d {p} a code free some place from = record {
 }
   where
     below : d % 32 < length ps
-    below = let e = a.count in omega arith
+    below = omega arith
 
     here : get_or (slice_set ps (d % 32) p) (d % 32) 0 ≡ p
     here = get_or-set_same ps (d % 32) p 0 below
 
     by_place : (i : ℕ) → (i ≡ d % 32) ⊎ (i ≢ d % 32) → 0 < get_or (slice_set ps (d % 32) p) i 0
         → IsPlace w (get_or (slice_set ps (d % 32) p) i 0)
-    by_place i (inl e) h =
-        subst (IsPlace w) (sym (ap (λ k. get_or (slice_set ps (d % 32) p) k 0) e ∙ here)) place
+    by_place i (inl e) h = subst (IsPlace w) (sym (ap (λ k. get_or (slice_set ps (d % 32) p) k 0) e ∙ here)) place
     by_place i (inr n) h = let e = get_or-set_other ps (d % 32) i p 0 n in
-        subst (IsPlace w) (sym e) (a.places i (subst (λ k. 0 < k) e h))
+        subst (IsPlace w) (sym e) (a.places i (rw e at h))
 
     by_slot : (s : List ℕ) (c : ℕ) → head s ≡ Some c → (c % 32 ≡ d % 32) ⊎ (c % 32 ≢ d % 32)
         → first_named s (noted_from w rest (get_or (slice_set ps (d % 32) p) (c % 32) 0))
         ≡ first_named s (members_left w)
     by_slot s c e (inl f) =
-        let now : get_or (slice_set ps (d % 32) p) (c % 32) 0 ≡ p =
-        ap (λ k. get_or (slice_set ps (d % 32) p) k 0) f ∙ here in
-        let before : is_noted (get_or ps (c % 32) 0) ≡ false =
-        ap (λ k. is_noted (get_or ps k 0)) f ∙ free in
-        ap (λ k. first_named s (noted_from w rest k)) now
-        ∙ ap (λ b. first_named s (cond b (members_from w p) rest)) (noted-yes p some)
-        ∙ ap (first_named s) from
-        ∙ sym (ap (λ b. first_named s (cond b (members_from w (get_or ps (c % 32) 0)) (m ∷ rest))) before)
-        ∙ a.first s c e
-    by_slot s c e (inr n) =
-        ap (λ k. first_named s (noted_from w rest k)) (get_or-set_other ps (d % 32) (c % 32) p 0 n)
-        ∙ on_from w m rest s (get_or ps (c % 32) 0)
-        (λ f. passed s m rest (some-other s c d m.0 e code (λ g. n (sym g))))
-        ∙ a.first s c e
+        let now : get_or (slice_set ps (d % 32) p) (c % 32) 0 ≡ p = cc (f, here) in
+        let before : is_noted (get_or ps (c % 32) 0) ≡ false = cc (f, free) in
+        cc (noted-yes p some, from, a.first s c e)
+    by_slot s c e (inr n) = cc (
+      get_or-set_other ps (d % 32) (c % 32) p 0 n,
+      on_from w m rest s (get_or ps (c % 32)
+          0) (λ f. passed s m rest (some-other s c d m.0 e code (λ g. n (sym g)))),
+      a.first s c e,
+    )
 
 pub noted_on : {w : Members} (m : Tree × Tree) (rest : List (Tree × Tree)) {ps : List ℕ} (o : Option ℕ) {p : ℕ}
     → AreNoted w (m ∷ rest) ps → first_code_of m.0 ≡ o → 0 < p → IsPlace w p → members_from w p ≡ m ∷ rest
     → AreNoted w rest (note o p ps)
-noted_on m rest None a code some place from =
-    noted_past m rest a (λ s c e f. none-other s c m.0 e code)
+noted_on m rest None a code some place from = noted_past m rest a (λ s c e f. none-other s c m.0 e code)
 noted_on {w} m rest {ps} (Some d) {p} a code some place from = by_test (is_noted (get_or ps (d % 32) 0)) refl
   where
     other : (c : ℕ) → is_noted (get_or ps (d % 32) 0) ≡ true → is_noted (get_or ps (c % 32) 0) ≡ false
@@ -172,12 +165,12 @@ member_at {w} {p} h =
     let line = s.line.now in
     let tokens = s.tokens.now in
     let whole = h.whole.0 in
-    let a = at_name line tokens p w.stop s.nested s.linked s.lone h.whole h.named h.within in
+    let a = at_name s p w.stop h.whole h.named h.within in
     let t = below line tokens (p + 1) (omega arith) in
     let r = p + 1 + 1 + before t.0.stop (drop (p + 1 + 1) tokens) in
     let links : LinksTo tokens (p + 1) r =
     λ u e. ap (λ v. p + 1 + 1 + before v.stop (drop (p + 1 + 1) tokens)) (some_same t.0 u (sym t.1 ∙ e)) in
-    (r, (member_on line tokens p w.stop r s.nested s.linked s.lone h.whole h.named h.within links).shown)
+    (r, (member_on s p w.stop r h.whole h.named h.within links).shown_on)
 
 pub found_here : {w : Members} {p : ℕ} (s : List ℕ) → IsPlace w p
     → has_text s (tree_at w.source.line.now (spans_of w.source.tokens.now) p) ≡ true
@@ -185,7 +178,7 @@ pub found_here : {w : Members} {p : ℕ} (s : List ℕ) → IsPlace w p
 found_here {w} {p} s h is =
     let m = member_at h in
     let value = tree_at w.source.line.now (spans_of w.source.tokens.now) (p + 1) in
-    ap (first_named s) m.1 ∙ ap (λ b. cond b (Some value) (first_named s (members_from w m.0))) is
+    cc m.1
 
 -- a text whose first character has this slot
 abbrev pub HasSlot : List ℕ → ℕ → Type 0
@@ -194,13 +187,9 @@ HasSlot s slot = (c : ℕ) × (head s ≡ Some c) × (c % 32 ≡ slot)
 -- it is found from the place of the slot on
 pub found_from : {w : Members} {ps : List ℕ} (s : List ℕ) (slot : ℕ) → AreNoted w [] ps → HasSlot s slot
     → 0 < get_or ps slot 0 → first_named s (members_from w (get_or ps slot 0)) ≡ first_named s (members_left w)
-found_from {w} {ps} s slot a h some =
-    ap (λ b. first_named s (cond b (members_from w (get_or ps slot 0)) [])) (sym (noted-yes (get_or ps slot 0) some))
-    ∙ ap (λ k. first_named s (noted_from w [] (get_or ps k 0))) (sym h.2) ∙ a.first s h.0 h.1
+found_from {ps} s slot a h some = cc (noted-yes (get_or ps slot 0) some, h.2, a.first s h.0 h.1)
 
 -- and if none is noted, there is none
 pub found_none : {w : Members} {ps : List ℕ} (s : List ℕ) (slot : ℕ) → AreNoted w [] ps → HasSlot s slot
     → get_or ps slot 0 ≡ 0 → None ≡ first_named s (members_left w)
-found_none {w} {ps} s slot a h none =
-    ap (λ p. first_named s (noted_from w [] p)) (sym none)
-    ∙ ap (λ k. first_named s (noted_from w [] (get_or ps k 0))) (sym h.2) ∙ a.first s h.0 h.1
+found_none s slot a h none = cc (h.2, a.first s h.0 h.1)

@@ -1,5 +1,5 @@
 -- The most containers that are open in what a pass over a line has read.
-use Rattle.cj_spans.proofs.Common.{◌≡◌, ◌⊎◌, inl, inr, ℕ, ◌≤◌, List, length, Result, Err, subst, arith, cases_lt, BoundedList, LineFault, Syntax, TooDeep, Token, byte, JsonPrefix, white, IsDeepest, HasPeakAt, State, Reaches, here, on, start}
+use Rattle.cj_spans.proofs.Common.{◌≡◌, ◌⊎◌, inl, inr, ℕ, ◌≤◌, List, length, Result, Err, arith, cases_lt, BoundedList, LineFault, Syntax, TooDeep, Token, byte, JsonPrefix, white, IsDeepest, HasPeakAt, State, Reaches, here, on, start}
 use Rattle.cj_spans.proofs.Sound.{inv_reaches, no_white}
 use Rattle.cj_spans.proofs.Facts.{goes, lawful_reaches}
 use Rattle.cj_spans.proofs.Fronts.{inv_front}
@@ -21,16 +21,15 @@ deepest_front {b} (on t v r h) =
           record {
             place = v.place;
             within = omega arith;
-            front = subst (λ n. JsonPrefix b 0 v.place n) e (inv_front (inv_reaches (on t v r h)));
+            front = rw (← e) (inv_front (inv_reaches (on t v r h)));
           }
       | inr l ↦
           let f = deepest_front r in
-          let w = f.within in
           let e : t.deepest ≡ v.deepest = omega arith in
           record {
             place = f.place;
             within = omega arith;
-            front = subst (λ n. JsonPrefix b 0 f.place n) e f.front;
+            front = rw (← e) f.front;
           }
     ]
 
@@ -44,7 +43,6 @@ not_more {s} k n r l f =
 deepest_at : {b : List ℕ} {s : State} {i : ℕ} → Reaches b start s → s.place ≡ i → IsDeepest b i s.deepest
 deepest_at r e =
     let d = deepest_front r in
-    let w = d.within in
     record {
       place = d.place;
       within = omega arith;
@@ -57,20 +55,18 @@ pub ran_peak : {b : List ℕ} {old new : BoundedList Token} {old_stack new_stack
     {r : Result (Unit {0}) LineFault} (h : Ran b old new old_stack new_stack r) (i : ℕ)
     → (r ≡ Err (Syntax i)) ⊎ (r ≡ Err (TooDeep i)) → HasPeakAt b i old_stack new_stack
 ran_peak h i (inl e) =
-    let s = ran_sticks h i e in let p = s.1 in let q = h.cleared_stack.peak in
-    record {
+    let s = ran_sticks h i e in record {
       deepest = s.0.sticks.last.deepest;
       counted = deepest_at s.0.sticks.reached s.0.sticks.at;
       peak = omega arith;
     }
 ran_peak h i (inr e) =
-    let s = ran_sinks h i e in let p = s.1 in let q = h.cleared_stack.peak in
-    record { deepest = s.0.last.deepest; counted = deepest_at s.0.reached s.0.at; peak = omega arith }
+    let s = ran_sinks h i e in record
+    { deepest = s.0.last.deepest; counted = deepest_at s.0.reached s.0.at; peak = omega arith }
 
 -- the same from a peak that is no other
 pub peak_from : {b : List ℕ} {i : ℕ} (old empty : BoundedList ℕ) {new : BoundedList ℕ} → empty.peak ≡ old.peak
     → HasPeakAt b i empty new
     → HasPeakAt b i old new
 peak_from old empty e h =
-    let p = h.peak in
     record { deepest = h.deepest; counted = h.counted; peak = omega arith }

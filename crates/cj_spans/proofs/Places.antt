@@ -1,5 +1,5 @@
 -- Scalars and names by their places.
-use Rattle.cj_spans.proofs.Common.{◌≡◌, ℕ, suc, ◌+◌, ◌-◌, ◌<◌, ◌≤◌, List, [], ◌∷◌, ◌++◌, length, take, drop, get_or, slice_range, Bool, true, false, cond, nat_eq, Option, Some, None, refl, sym, ap, subst, arith, ◌∙◌, inl, inr, option_and_then, option_map, common_steps, take-suc, get_or-drop, length-drop, length-take, get_or-take, append-nil, Kind, Text, Token, Lex, AfterN, InString, Mode, Ready, FirstItem, After, FirstName, NextName, AfterName, is_white_space, IsScalar, byte, IsAtom, Begun, token_at, State, state, in_atom, step, begin_value, lex_start, lex_step, lex_kind, Continues, still, further, Reaches, on, end_atom, BeginsValue}
+use Rattle.cj_spans.proofs.Common.{◌≡◌, ℕ, suc, ◌+◌, ◌-◌, ◌<◌, ◌≤◌, List, [], ◌∷◌, ◌++◌, length, drop, get_or, slice_range, Bool, true, false, cond, nat_eq, Option, Some, None, refl, sym, ap, subst, arith, ◌∙◌, inl, inr, option_and_then, common_steps, take-suc, get_or-drop, length-drop, length-take, get_or-take, append-nil, Kind, Text, Token, Lex, AfterN, InString, Mode, Ready, FirstItem, After, FirstName, NextName, AfterName, is_white_space, IsScalar, byte, IsAtom, Begun, token_at, State, state, in_atom, step, begin_value, lex_start, lex_step, lex_kind, Continues, still, further, Reaches, on, end_atom, BeginsValue}
 use Rattle.std.proofs.lemmas.Bool.{eqb-true, cases_lt}
 use Rattle.cj_spans.proofs.Spellings.{none_some, some_same, lex_run, reading, reading_sound, reading_whole, reading-more, reading-append, reading-prefix, stepped, kind_of_lex, kind_done, run_kind, can_end}
 use Rattle.cj_spans.proofs.Atoms.{continues_reaches}
@@ -19,13 +19,12 @@ slice-more b i k h l =
     let e : suc k - i ≡ suc (k - i) = omega arith in
     let g : i + (k - i) ≡ k = omega arith in
     let r : k - i < length (drop i b) = omega (arith, length-drop i b) in
-    ap (λ n. take n (drop i b)) e ∙ take-suc (drop i b) (k - i) 0 r
-    ∙ ap (λ z. take (k - i) (drop i b) ++ z ∷ []) (get_or-drop i b (k - i) 0 ∙ ap (λ n. get_or b n 0) g)
+    cc (take-suc (drop i b) (k - i) 0 r, get_or-drop i b (k - i) 0)
 
 slice-one : (b : List ℕ) (i : ℕ) → i < length b → slice_range b i (suc i) ≡ get_or b i 0 ∷ []
 slice-one b i h =
     let z : i - i ≡ 0 = omega arith in
-    slice-more b i i (omega arith) h ∙ ap (λ n. take n (drop i b) ++ get_or b i 0 ∷ []) z
+    cc (slice-more b i i (omega arith) h)
 
 pub slice-length : (b : List ℕ) (i j : ℕ) → i ≤ j → j ≤ length b → i + length (slice_range b i j) ≡ j
 slice-length b i j h l = grind (arith, common_steps)
@@ -62,7 +61,7 @@ atom_first b i x h =
       order = omega arith;
       within = omega arith;
       run = ap reading (slice-one b i l)
-          ∙ start_one (lex_start (get_or b i 0)) ∙ h;
+          ∙ start_one _ ∙ h;
     }
 
 pub atom_more : {b : List ℕ} {i k : ℕ} {x : Lex} (y : Lex) → InAtom b i k x → lex_step x (byte b k) ≡ Some y
@@ -74,13 +73,13 @@ atom_more {b} {i} {k} {x} y r h =
       order = omega (arith, r.order);
       within = omega arith;
       run = ap reading (slice-more b i k o l)
-          ∙ reading-more (slice_range b i k) (get_or b k 0) x r.run ∙ h;
+          ∙ reading-more (slice_range b i k) _ x r.run ∙ h;
     }
 
 pub atom_sound : {b : List ℕ} {i k : ℕ} {x : Lex} → InAtom b i k x → (kd : Kind) → lex_kind x ≡ Some kd
     → IsAtom b kd i k
 atom_sound {b} {i} {k} {x} r kd h =
-    record { order = r.order; within = r.within; spelled = reading_sound (slice_range b i k) x kd r.run h }
+    record { order = r.order; within = r.within; spelled = reading_sound _ x kd r.run h }
 
 -- a scalar of the reading's kind begins so
 pub atom_begun : {b : List ℕ} {i k : ℕ} {x : Lex} → InAtom b i k x → Begun b (kind_of_lex x) i k
@@ -107,7 +106,7 @@ plus_zero k = omega arith
 
 pub first_byte : (b : List ℕ) (i k : ℕ) → i < k → k ≤ length b → byte b i ≡ get_or (slice_range b i k) 0 0
 first_byte b i k o l = let e = slice-length b i k (omega arith) l in
-    ap (byte b) (plus_zero i) ∙ slice_has b i k 0 (omega arith)
+    cc (plus_zero i, slice_has b i k 0 (omega arith))
 
 -- a reading that began with a quote is one of a string
 pub in_text : {b : List ℕ} {i k : ℕ} {x : Lex} → InAtom b i k x → byte b i ≡ 34 → kind_of_lex x ≡ Text
@@ -115,7 +114,7 @@ in_text {b} {i} {k} {x} r q = by_first (slice_range b i k) (sym (first_byte b i 
   where
     by_first : (s : List ℕ) → get_or s 0 0 ≡ 34 → reading s ≡ Some x → kind_of_lex x ≡ Text
     by_first [] e h = none_some x h
-    by_first (c ∷ s) e h = let w = stepped (lex_run s) (lex_start c) x h in
+    by_first (c ∷ s) e h = let w = stepped _ _ x h in
         run_kind s w.0 x w.2 ∙ ap kind_of_lex (sym (some_same InString w.0 (sym (ap lex_start e) ∙ w.1)))
 
 pub name_kind : {b : List ℕ} {i k : ℕ} {x : Lex} → InAtom b i k x → byte b i ≡ 34 → (kd : Kind) → lex_kind x ≡ Some kd
@@ -123,7 +122,7 @@ pub name_kind : {b : List ℕ} {i k : ℕ} {x : Lex} → InAtom b i k x → byte
 name_kind {x = x} r q kd h = sym (kind_done x kd h) ∙ in_text r q
 
 pub name_begun : {b : List ℕ} {i k : ℕ} {x : Lex} → InAtom b i k x → byte b i ≡ 34 → Begun b Text i k
-name_begun {b} {i} {k} r q = subst (λ j. Begun b j i k) (in_text r q) (atom_begun r)
+name_begun r q = rw (in_text r q) at (atom_begun r)
 
 -- ---- the machine over a scalar
 
@@ -144,21 +143,19 @@ starts_not_white c x h e = none_some x (sym (start_end (white_end c e)) ∙ h)
 begin_atom : (c : ℕ) (x : Lex) (m : Mode) (ks : List ℕ) (ts : List Token) (i p : ℕ) → lex_start c ≡ Some x
     → begin_value c (idle m ks ts i p) ≡ Some (state (in_atom After i x) ks ts (suc i) p)
 begin_atom c x m ks ts i p h =
-    cond_not (nat_eq c 91) _ _ (starts_not c 91 x h refl) ∙ cond_not (nat_eq c 123) _ _ (starts_not c 123 x h refl)
-    ∙ ap (option_map (λ y. state (in_atom After i y) ks ts (suc i) p)) h
+    cc (cond_not _ _ _ (starts_not c 91 x h refl), cond_not _ _ _ (starts_not c 123 x h refl))
 
 pub step_atom : (c : ℕ) (x : Lex) (m : Mode) (ks : List ℕ) (ts : List Token) (i p : ℕ) → BeginsValue m
     → lex_start c ≡ Some x → step c (idle m ks ts i p) ≡ Some (state (in_atom After i x) ks ts (suc i) p)
-step_atom c x Ready ks ts i p b h = cond_not (is_white_space c) _ _ (starts_not_white c x h)
-    ∙ begin_atom c x Ready ks ts i p h
-step_atom c x FirstItem ks ts i p b h = cond_not (is_white_space c) _ _ (starts_not_white c x h)
-    ∙ cond_not (nat_eq c 93) _ _ (starts_not c 93 x h refl) ∙ begin_atom c x FirstItem ks ts i p h
+step_atom c x Ready ks ts i p b h = cond_not _ _ _ (starts_not_white c x h) ∙ begin_atom c x Ready ks ts i p h
+step_atom c x FirstItem ks ts i p b h = cond_not _ _ _ (starts_not_white c x h)
+    ∙ cond_not _ _ _ (starts_not c 93 x h refl) ∙ begin_atom c x FirstItem ks ts i p h
 step_atom c x _ ks ts i p b h = absurd b
 
 pub step_name : {c : ℕ} (m : Mode) (ks : List ℕ) (ts : List Token) (i p : ℕ) → BeginsName m → c ≡ 34
     → step c (idle m ks ts i p) ≡ Some (state (in_atom AfterName i InString) ks ts (suc i) p)
-step_name FirstName ks ts i p g q = ap (λ d. step d (idle FirstName ks ts i p)) q
-step_name NextName ks ts i p g q = ap (λ d. step d (idle NextName ks ts i p)) q
+step_name FirstName ks ts i p g q = cc
+step_name NextName ks ts i p g q = cc
 step_name _ ks ts i p g q = absurd g
 
 shift : (k n : ℕ) → suc k + n ≡ k + suc n
@@ -168,15 +165,15 @@ shift k n = omega arith
 pub continues_run : (r : List ℕ) {b : List ℕ} {i k : ℕ} {x y : Lex} (z : Lex) → Continues b i x k y
     → lex_run r y ≡ Some z
     → ((n : ℕ) → n < length r → byte b (k + n) ≡ get_or r n 0) → Continues b i x (k + length r) z
-continues_run [] {b} {i} {k} {x} {y} z c h e =
+continues_run [] {k} {y} z c h e =
     let q : y ≡ z = some_same y z h in
     let f : k ≡ k + 0 = omega arith in
-    subst (λ n. Continues b i x n z) f (subst (λ w. Continues b i x k w) q c)
-continues_run (d ∷ r) {b} {i} {k} {x} {y} z c h e =
-    let w = stepped (lex_run r) (lex_step y d) z h in
-    let f : byte b k ≡ d = ap (byte b) (plus_zero k) ∙ e 0 (omega arith) in
+    rw f at (rw q at c)
+continues_run (d ∷ r) {b} {k} {y} z c h e =
+    let w = stepped _ (lex_step y d) z h in
+    let f : byte b k ≡ d = cc (plus_zero k, e 0 (omega arith)) in
     let a : suc k + length r ≡ k + suc (length r) = omega arith in
-    subst (λ n. Continues b i x n z) a (continues_run r z (further k y w.0 c (ap (lex_step y) f ∙ w.1)) w.2
+    rw a at (continues_run r z (further k y w.0 c (ap (lex_step y) f ∙ w.1)) w.2
     (λ n l. ap (byte b) (shift k n) ∙ e (suc n) (omega arith)))
 
 -- the first reading of a scalar, and how it goes on
@@ -193,21 +190,20 @@ started {b} {i} {k} {y} r =
         → reading s ≡ Some y → Started b i k y
     by_list [] l e h = none_some y h
     by_list (c ∷ s) l e h =
-        let z = stepped (lex_run s) (lex_start c) y h in
-        let f : byte b i ≡ c = ap (byte b) (plus_zero i) ∙ e 0 (omega arith) in
+        let z = stepped _ _ y h in
+        let f : byte b i ≡ c = cc (plus_zero i, e 0 (omega arith)) in
         let a : suc i + length s ≡ k = omega arith in
         record {
           first = z.0;
           starts = ap lex_start f ∙ z.1;
-          goes = subst (λ n. Continues b (suc i) z.0 n y) a
-              (continues_run s y still z.2
+          goes = rw a at (continues_run s y still z.2
               (λ n q. ap (byte b) (shift i n) ∙ e (suc n) (omega arith)));
         }
 
 pub run_begun : {b : List ℕ} {i k : ℕ} {y : Lex} → InAtom b i k y
     → {s : State} (m : Mode) (ks : List ℕ) (ts : List Token) (p : ℕ) → BeginsValue m → Reaches b s (idle m ks ts i p)
     → Reaches b s (state (in_atom After i y) ks ts k p)
-run_begun {b} {i} {k} {y} r m ks ts p g h =
+run_begun {b} {i} r m ks ts p g h =
     let z = started r in
     continues_reaches z.goes After i ks ts p (on (idle m ks ts i p) (state (in_atom After i z.first) ks ts (suc i) p) h
     (step_atom (byte b i) z.first m ks ts i p g z.starts))
@@ -215,12 +211,12 @@ run_begun {b} {i} {k} {y} r m ks ts p g h =
 pub run_begun_name : {b : List ℕ} {i k : ℕ} {y : Lex} → InAtom b i k y → byte b i ≡ 34
     → {s : State} (m : Mode) (ks : List ℕ) (ts : List Token) (p : ℕ) → BeginsName m → Reaches b s (idle m ks ts i p)
     → Reaches b s (state (in_atom AfterName i y) ks ts k p)
-run_begun_name {b} {i} {k} {y} r q m ks ts p g h =
+run_begun_name {i} r q m ks ts p g h =
     let z = started r in
     let e : InString ≡ z.first = some_same InString z.first (sym (ap lex_start q) ∙ z.starts) in
-    let c = subst (λ w. Continues b (suc i) w k y) (sym e) z.goes in
+    let c = rw (← e) at z.goes in
     continues_reaches c AfterName i ks ts p
-    (on (idle m ks ts i p) (state (in_atom AfterName i InString) ks ts (suc i) p) h (step_name m ks ts i p g q))
+    (on _ _ h (step_name m ks ts i p g q))
 
 -- ---- scalars of the grammar
 
@@ -232,7 +228,7 @@ pub record AtomReading (b : List ℕ) (i k : ℕ) : Type 0 where
 pub begun_reading : {b : List ℕ} {kd : Kind} {i j : ℕ} → Begun b kd i j → AtomReading b i j
 begun_reading {b} {kd} {i} {j} w =
     let a = reading_whole kd (slice_range b i j ++ w.rest) w.spelled in
-    let o = w.order in let l = w.within in
+    let l = w.within in
     let e = slice-length b i j (omega arith) l in
     let q = reading-prefix (slice_range b i j) w.rest a.last (omega arith) a.run in
     record { last = q.last; inside = record { order = w.order; within = w.within; run = q.run } }
@@ -245,7 +241,7 @@ pub record WholeReading (b : List ℕ) (kd : Kind) (i k : ℕ) : Type 0 where
 
 pub atom_reading : {b : List ℕ} {kd : Kind} {i j : ℕ} → IsAtom b kd i j → WholeReading b kd i j
 atom_reading {b} {kd} {i} {j} w =
-    let a = reading_whole kd (slice_range b i j) w.spelled in
+    let a = reading_whole kd _ w.spelled in
     record { last = a.last; inside = record { order = w.order; within = w.within; run = a.run }; kind = a.kind }
 
 -- a string begins with its quote
@@ -260,27 +256,24 @@ quote_first b i j r h l w =
     head_of (c ∷ s) r body l h = cc
 
 pub name_quote : {b : List ℕ} {i j : ℕ} → IsAtom b Text i j → byte b i ≡ 34
-name_quote {b} {i} {j} w =
-    quote_first b i j [] w.order w.within (subst (IsScalar Text) (sym (append-nil (slice_range b i j))) w.spelled)
+name_quote {b} {i} {j} w = quote_first b i j [] w.order w.within (subst (IsScalar Text) (sym (append-nil _)) w.spelled)
+
+-- a scalar or a name that may end here has ended
+atom_arrives : {b : List ℕ} {s : State} (n : Mode) {kd : Kind} {x : Lex} {i j p : ℕ} {ks : List ℕ} {ts : List Token}
+    → Reaches b s (state (in_atom n i x) ks ts j p) → lex_kind x ≡ Some kd
+    → Arrives b s (idle n ks (ts ++ token_at i j (suc (length ts)) ∷ []) j p)
+atom_arrives n {x} {i} {j} {p} {ks} {ts} r e =
+    let at = state (in_atom n i x) ks ts j p in
+    record { at = at; reached = r; settles = ap (λ q. end_atom n i q at) e }
 
 pub run_atom : {b : List ℕ} {kd : Kind} {i j : ℕ} → IsAtom b kd i j
     → {s : State} (m : Mode) (ks : List ℕ) (ts : List Token) (p : ℕ) → BeginsValue m → Reaches b s (idle m ks ts i p)
     → Arrives b s (idle After ks (ts ++ token_at i j (suc (length ts)) ∷ []) j p)
-run_atom {b} {kd} {i} {j} w m ks ts p g r =
-    let a = atom_reading w in
-    record {
-      at = state (in_atom After i a.last) ks ts j p;
-      reached = run_begun a.inside m ks ts p g r;
-      settles = ap (λ q. end_atom After i q (state (in_atom After i a.last) ks ts j p)) a.kind;
-    }
+run_atom w m ks ts p g r = let a = atom_reading w in atom_arrives After (run_begun a.inside m ks ts p g r) a.kind
 
 pub run_name : {b : List ℕ} {i j : ℕ} → IsAtom b Text i j
     → {s : State} (m : Mode) (ks : List ℕ) (ts : List Token) (p : ℕ) → BeginsName m → Reaches b s (idle m ks ts i p)
     → Arrives b s (idle AfterName ks (ts ++ token_at i j (suc (length ts)) ∷ []) j p)
-run_name {b} {i} {j} w m ks ts p g r =
+run_name w m ks ts p g r =
     let a = atom_reading w in
-    record {
-      at = state (in_atom AfterName i a.last) ks ts j p;
-      reached = run_begun_name a.inside (name_quote w) m ks ts p g r;
-      settles = ap (λ q. end_atom AfterName i q (state (in_atom AfterName i a.last) ks ts j p)) a.kind;
-    }
+    atom_arrives AfterName (run_begun_name a.inside (name_quote w) m ks ts p g r) a.kind

@@ -62,15 +62,14 @@ settled_atom : (m : Mode) (a : ℕ) (x : Lex) (k : Option Kind) (ks : List ℕ) 
     → go_on (λ y. in_atom m a y) (lex_step x c) (state (in_atom m a x) ks ts i p)
     (option_and_then (read m c) (end_atom m a k (state (in_atom m a x) ks ts i p))) ≡ step c t
 settled_atom m a x None ks ts i p t kind e h = none_some t h
-settled_atom m a x (Some k) ks ts i p t {c} kind e h =
+settled_atom m a x (Some k) ks ts i p t kind e h =
     let s = state (in_atom m a x) ks ts i p in
-    ap (λ o. go_on (λ y. in_atom m a y) o s (option_and_then (read m c) (end_atom m a (Some k) s)))
-    (atom_ends x k kind e) ∙ ap (step c) (some_same _ t h)
+    cc (atom_ends x k kind e, some_same _ t h)
 
 settled_phase : (f : Phase) (ks : List ℕ) (ts : List Token) (i p : ℕ) (t : State) {c : ℕ} → IsEnd c
     → settle (state f ks ts i p) ≡ Some t → step c (state f ks ts i p) ≡ step c t
 settled_phase (between m) ks ts i p t {c} e h = ap (step c) (some_same _ t h)
-settled_phase (in_atom m a x) ks ts i p t e h = settled_atom m a x (lex_kind x) ks ts i p t refl e h
+settled_phase (in_atom m a x) ks ts i p t e h = settled_atom m a x _ ks ts i p t refl e h
 
 pub settled_step : (s t : State) {c : ℕ} → IsEnd c → settle s ≡ Some t → step c s ≡ step c t
 settled_step s t e h = settled_phase s.phase s.stack s.tokens s.place s.deepest t e h
@@ -92,7 +91,7 @@ settled_end m a (Some k) s t h = let e = some_same _ t h in
 settled_same : (f : Phase) (ks : List ℕ) (ts : List Token) (i p : ℕ) (t : State) → settle (state f ks ts i p) ≡ Some t
     → Settled (state f ks ts i p) t
 settled_same (between m) ks ts i p t h = settled_by (some_same _ t h)
-settled_same (in_atom m a x) ks ts i p t h = settled_end m a (lex_kind x) (state (in_atom m a x) ks ts i p) t h
+settled_same (in_atom m a x) ks ts i p t h = settled_end m a _ _ t h
 
 pub settled : (s t : State) → settle s ≡ Some t → Settled s t
 settled s t h = settled_same s.phase s.stack s.tokens s.place s.deepest t h
@@ -120,21 +119,19 @@ arrived m ks ts i p r = record { at = idle m ks ts i p; reached = r; settles = r
 skip_some : (n : ℕ) {b : List ℕ} {s : State} (m : Mode) (ks : List ℕ) (ts : List Token) (i p : ℕ)
     → ((k : ℕ) → i ≤ k → k < i + n → is_white_space (byte b k) ≡ true)
     → Reaches b s (idle m ks ts i p) → Reaches b s (idle m ks ts (i + n) p)
-skip_some zero {b} {s} m ks ts i p each r = let e : i ≡ i + 0 = omega arith in
-    subst (λ k. Reaches b s (idle m ks ts k p)) e r
-skip_some (suc n) {b} {s} m ks ts i p each r =
+skip_some zero m ks ts i p each r = let e : i ≡ i + 0 = omega arith in
+    rw e at r
+skip_some (suc n) {b} m ks ts i p each r =
     let white = each i (omega arith) (omega arith) in
     let e : suc i + n ≡ i + suc n = omega arith in
-    let q = on (idle m ks ts i p) (idle m ks ts (suc i) p) r (cond-true (is_white_space (byte b i)) _ _ white) in
-    subst (λ k. Reaches b s (idle m ks ts k p)) e
-    (skip_some n m ks ts (suc i) p (λ k l u. each k (omega arith) (omega arith)) q)
+    let q = on _ _ r (cond-true (is_white_space (byte b i)) _ _ white) in
+    rw e at (skip_some n m ks ts (suc i) p (λ k l u. each k (omega arith) (omega arith)) q)
 
 pub skip : {b : List ℕ} {i j : ℕ} → White b i j → {s : State} (m : Mode) (ks : List ℕ) (ts : List Token) (p : ℕ)
     → Reaches b s (idle m ks ts i p) → Reaches b s (idle m ks ts j p)
-skip {b} {i} {j} w {s} m ks ts p r =
-    let o = w.order in
+skip {i} {j} w m ks ts p r =
     let e : i + (j - i) ≡ j = omega arith in
-    subst (λ k. Reaches b s (idle m ks ts k p)) e (skip_some (j - i) m ks ts i p (λ k l u. w.each k l (omega arith)) r)
+    rw e at (skip_some (j - i) m ks ts i p (λ k l u. w.each k l (omega arith)) r)
 
 white_rest : {b : List ℕ} {i j : ℕ} → White b i j → i < j → White b (suc i) j
 white_rest w h = record { order = omega arith; each = λ k l u. w.each k (omega arith) u }
@@ -142,9 +139,9 @@ white_rest w h = record { order = omega arith; each = λ k l u. w.each k (omega 
 -- the same where a scalar may just have ended
 pub skip_after : {b : List ℕ} {i j : ℕ} → White b i j → {s : State} (m : Mode) (ks : List ℕ) (ts : List Token) (p : ℕ)
     → Arrives b s (idle m ks ts i p) → Arrives b s (idle m ks ts j p)
-skip_after {b} {i} {j} w {s} m ks ts p a =
+skip_after {b} {i} {j} w m ks ts p a =
     elim (eq-or-lt_of_le w.order) [
-      | inl e ↦ subst (λ k. Arrives b s (idle m ks ts k p)) e a
+      | inl e ↦ rw e at a
       | inr l ↦
           let white = w.each i (omega arith) l in
           let r = arrive_on (idle m ks ts (suc i) p) (white_end (byte b i) white) a

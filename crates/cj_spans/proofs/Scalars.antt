@@ -1,5 +1,5 @@
 -- How far scalars and names are read, piece by piece.
-use Rattle.cj_spans.proofs.Common.{◌≡◌, ℕ, suc, ◌+◌, ◌<◌, ◌≤◌, List, length, true, Some, refl, ap, subst, arith, ◌∙◌, inr, Lex, AfterN, AfterNu, AfterNul, NullDone, AfterT, AfterTr, AfterTru, AfterF, AfterFa, AfterFal, AfterFals, TruthDone, Whole, Zero, Minus, Point, Fraction, InString, Escape, Hex4, Hex3, Hex2, Hex1, StringDone, byte, is_escape, is_hex, lex_step, is_digit, Continues, still, further, GoesTo, ReadsTo}
+use Rattle.cj_spans.proofs.Common.{◌≡◌, ℕ, suc, ◌+◌, ◌<◌, ◌≤◌, List, length, true, Some, refl, ap, arith, ◌∙◌, inr, Lex, AfterN, AfterNu, AfterNul, NullDone, AfterT, AfterTr, AfterTru, AfterF, AfterFa, AfterFal, AfterFals, TruthDone, Whole, Zero, Minus, Point, Fraction, InString, Escape, Hex4, Hex3, Hex2, Hex1, StringDone, byte, is_escape, is_hex, lex_step, is_digit, Continues, still, further, GoesTo, ReadsTo}
 use Rattle.cj_spans.proofs.Spellings.{escape_goes, hex_goes}
 
 through : {b : List ℕ} {i : ℕ} {x : Lex} {j : ℕ} {y : Lex} {k : ℕ} {z : Lex} → Continues b i x j y → Continues b j y k z
@@ -18,7 +18,7 @@ reads_far g h = record { run = goes_far g h.run; halts = h.halts }
 
 -- the same reading under another name
 pub reads_as : {b : List ℕ} {i : ℕ} {x y : Lex} {k : ℕ} {z : Lex} → x ≡ y → ReadsTo b i x k z → ReadsTo b i y k z
-reads_as {b} {i} {x} {y} {k} {z} e h = subst (λ v. ReadsTo b i v k z) e h
+reads_as e h = rw e at h
 
 -- one byte
 pub goes_one : (b : List ℕ) (i j : ℕ) (x y : Lex) → i < length b → j ≡ i + 1 → lex_step x (byte b i) ≡ Some y
@@ -26,7 +26,7 @@ pub goes_one : (b : List ℕ) (i j : ℕ) (x y : Lex) → i < length b → j ≡
 goes_one b i j x y l e h =
     let f : suc i ≡ j = omega arith in
     record {
-      goes = subst (λ k. Continues b i x k y) f (further i x y still h);
+      goes = rw f at (further i x y still h);
       order = omega arith;
       within = omega arith;
     }
@@ -65,7 +65,7 @@ goes_unicode {b} i l p q g =
     let e : i + 2 + 4 ≡ i + 6 = omega arith in
     goes_far (goes_by b i (i + 1) InString Escape (omega arith) refl p refl)
     (goes_far (goes_by b (i + 1) (i + 2) Escape Hex4 (omega arith) (omega arith) q refl)
-    (subst (λ k. GoesTo b (i + 2) Hex4 k InString) e g))
+    (rw e at g))
 
 pub goes_fraction : (b : List ℕ) (i : ℕ) (x : Lex) → i + 2 ≤ length b → byte b i ≡ 46 → is_digit (byte b (i + 1)) ≡ true
     → lex_step x 46 ≡ Some Point → GoesTo b i x (i + 2) Fraction

@@ -1,6 +1,7 @@
 -- Tokens that show the tree of a line: what is known of each.
 use Rattle.cj_spans.proofs.Common.{◌≡◌, ℕ, zero, suc, ◌+◌, ◌-◌, ◌<◌, ◌≤◌, List, [], ◌∷◌, ◌++◌, length, drop, slice_get, slice_range, true, inl, inr, Some, refl, sym, ap, subst, arith, ◌∙◌, append_assoc, cases_lt, append-nil, nat_tests, merely, Token, Kind, Number, Array, Object, Atom, Tree, scalar, array, object, Items, no_items, item, Members, no_members, member, add_item, add_member, start_of, size, items_size, members_size, total_size, kind_by, held, past, atom_of, items_from, members_from, node, forest, IsScalar, IsNumber, byte, IsAtom, Value, atom, empty_array, full_array, empty_object, full_object, Padded, padded, LedItems, no_led, led, LedMembers, no_led_members, led_member, Named, named, Json, Span, span_at, preorder, items_preorder, members_preorder, spans_of, AreOf, AreWithin, AreRising, AreNested, AreNamed, AreSpelled, AreLinked, are_members, tree_at}
-use Rattle.cj_spans.proofs.Lists.{items_preorder-add, members_preorder-add}
+use Rattle.std.specs.List.{AllByRecursion as Each}
+use Rattle.cj_spans.proofs.Lists.{each_more, each_append, items_preorder-add, members_preorder-add}
 use Rattle.cj_spans.proofs.Verdicts.{json_only}
 use Rattle.cj_spans.proofs.Forests.{atom_kind, Beyond, held_all, names_and_values, led_order, led_members_order, Shows, shows_more, shows_add_member, shows_led_members, shows_padded, padded_ends, named_ends, start-node}
 
@@ -16,11 +17,11 @@ size_some _ = omega arith
 
 sizes_none : (ts : List Tree) → total_size ts ≡ 0 → preorders ts ≡ []
 sizes_none [] h = refl
-sizes_none (t ∷ ts) h = let s = size_some t in absurd (omega arith)
+sizes_none (t ∷ ts) h = absurd (omega (arith, size_some t))
 
 items_none : (ts : Items) → items_size ts ≡ 0 → items_preorder ts ≡ []
 items_none no_items h = refl
-items_none (item t ts) h = let s = size_some t in absurd (omega arith)
+items_none (item t ts) h = absurd (omega (arith, size_some t))
 
 members_none : (ms : Members) → members_size ms ≡ 0 → members_preorder ms ≡ []
 members_none no_members h = refl
@@ -28,52 +29,50 @@ members_none (member n t ms) h = absurd (omega arith)
 
 alone : (n : Tree) → size n ≡ 1 → preorder n ≡ span_at (atom_of n).start (atom_of n).stop ∷ []
 alone (scalar k a) h = refl
-alone (array i j ts) h = ap (λ ss. span_at i j ∷ ss) (items_none ts (omega arith))
-alone (object i j ms) h = ap (λ ss. span_at i j ∷ ss) (members_none ms (omega arith))
+alone (array i j ts) h = cc (items_none ts (omega arith))
+alone (object i j ms) h = cc (members_none ms (omega arith))
 
 items_size-from : (ts : List Tree) → items_size (items_from ts) ≡ total_size ts
 items_size-from [] = refl
-items_size-from (t ∷ ts) = ap (λ n. size t + n) (items_size-from ts)
+items_size-from (t ∷ ts) = cc (items_size-from ts)
 
 items_preorder-from : (ts : List Tree) → items_preorder (items_from ts) ≡ preorders ts
 items_preorder-from [] = refl
-items_preorder-from (t ∷ ts) = ap (λ ss. preorder t ++ ss) (items_preorder-from ts)
+items_preorder-from (t ∷ ts) = cc (items_preorder-from ts)
 
 members_small : (ts : List Tree) → members_size (members_from ts) ≤ total_size ts
-members_small (n ∷ t ∷ ts) = let s = size_some n in let l = members_small ts in omega arith
+members_small (n ∷ t ∷ ts) = omega (arith, size_some n, members_small ts)
 members_small _ = omega arith
 
 members_same : (ts : List Tree) → members_size (members_from ts) ≡ total_size ts
     → members_preorder (members_from ts) ≡ preorders ts
 members_same [] h = refl
-members_same (n ∷ []) h = let s = size_some n in absurd (omega arith)
+members_same (n ∷ []) h = absurd (omega (arith, size_some n))
 members_same (n ∷ t ∷ ts) h =
     let s = size_some n in
     let l = members_small ts in
     let e : size n ≡ 1 = omega arith in
     let f : members_size (members_from ts) ≡ total_size ts = omega arith in
-    ap (λ ss. span_at (atom_of n).start (atom_of n).stop ∷ (preorder t ++ ss)) (members_same ts f)
-    ∙ ap (λ ss. ss ++ (preorder t ++ preorders ts)) (sym (alone n e))
+    cc (members_same ts f, alone n e)
 
 pub node_small : (b : List ℕ) (k : Kind) (i j : ℕ) (ts : List Tree) → size (node b k i j ts) ≤ suc (total_size ts)
-node_small b Array i j ts = let e = items_size-from ts in omega arith
-node_small b Object i j ts = let e = members_small ts in omega arith
+node_small b Array i j ts = omega (arith, items_size-from ts)
+node_small b Object i j ts = omega (arith, members_small ts)
 node_small b _ i j ts = omega arith
 
 node_same : (b : List ℕ) (k : Kind) (i j : ℕ) (ts : List Tree) → size (node b k i j ts) ≡ suc (total_size ts)
     → preorder (node b k i j ts) ≡ span_at i j ∷ preorders ts
-node_same b Array i j ts h = ap (λ ss. span_at i j ∷ ss) (items_preorder-from ts)
-node_same b Object i j ts h = ap (λ ss. span_at i j ∷ ss) (members_same ts (omega arith))
-node_same b _ i j ts h = ap (λ ss. span_at i j ∷ ss) (sym (sizes_none ts (omega arith)))
+node_same b Array i j ts h = cc (items_preorder-from ts)
+node_same b Object i j ts h = cc (members_same ts (omega arith))
+node_same b _ i j ts h = cc (sizes_none ts (omega arith))
 
 pub sizes-append : (ts us : List Tree) → total_size (ts ++ us) ≡ total_size ts + total_size us
 sizes-append [] us = omega arith
-sizes-append (t ∷ ts) us = let e = sizes-append ts us in omega arith
+sizes-append (t ∷ ts) us = omega (arith, sizes-append ts us)
 
 preorders-append : (ts us : List Tree) → preorders (ts ++ us) ≡ preorders ts ++ preorders us
 preorders-append [] us = refl
-preorders-append (t ∷ ts) us = ap (λ ss. preorder t ++ ss) (preorders-append ts us)
-    ∙ sym (append_assoc (preorder t) (preorders ts) (preorders us))
+preorders-append (t ∷ ts) us = cc (preorders-append ts us, append_assoc (preorder t) (preorders ts) (preorders us))
 
 held-past_on : (t : Tree) (ts : List Tree) (j : ℕ) → start_of t < j
     → held j (t ∷ ts) ++ past j (t ∷ ts) ≡ t ∷ (held j ts ++ past j ts)
@@ -92,16 +91,18 @@ held-past j (t ∷ ts) =
     ]
 
 pub held_sizes : (j : ℕ) (ts : List Tree) → total_size (held j ts) + total_size (past j ts) ≡ total_size ts
-held_sizes j ts = sym (sizes-append (held j ts) (past j ts)) ∙ ap total_size (held-past j ts)
+held_sizes j ts = cc (sizes-append (held j ts) (past j ts), held-past j ts)
 
 pub forest_small : (b : List ℕ) (ss : List Span) → total_size (forest b ss) ≤ length ss
 unfolding forest
 forest_small b [] = omega arith
-forest_small b (s ∷ ss) =
-    let l = forest_small b ss in
-    let e = held_sizes s.stop (forest b ss) in
-    let n = node_small b (kind_by (byte b s.start)) s.start s.stop (held s.stop (forest b ss)) in
-    omega arith
+forest_small b (s ∷ ss) = omega (
+  arith,
+  forest_small b ss,
+  held_sizes s.stop (forest b ss),
+  node_small b (kind_by
+      (byte b s.start)) s.start s.stop (held s.stop (forest b ss)),
+)
 
 forest_same : (b : List ℕ) (ss : List Span) → total_size (forest b ss) ≡ length ss → preorders (forest b ss) ≡ ss
 unfolding forest
@@ -113,41 +114,39 @@ forest_same b (s ∷ ss) h =
     let f : size (node b (kind_by (byte b s.start)) s.start s.stop (held s.stop (forest b ss)))
     ≡ suc (total_size (held s.stop (forest b ss))) = omega arith in
     let g : total_size (forest b ss) ≡ length ss = omega arith in
-    ap (λ us. us ++ preorders (past s.stop (forest b ss)))
-    (node_same b (kind_by (byte b s.start)) s.start s.stop (held s.stop (forest b ss)) f)
-    ∙ ap (λ us. s ∷ us) (sym (preorders-append (held s.stop (forest b ss)) (past s.stop (forest b ss)))
-    ∙ ap preorders (held-past s.stop (forest b ss)) ∙ forest_same b ss g)
+    cc (
+      node_same b (kind_by (byte b s.start)) s.start s.stop (held s.stop (forest b ss)) f,
+      preorders-append (held
+          s.stop (forest b ss)) (past s.stop (forest b ss)),
+      held-past s.stop (forest b ss),
+      forest_same b ss g,
+    )
 
 pub all_shown : (b : List ℕ) (ss : List Span) (t : Tree) → forest b ss ≡ t ∷ [] → length ss ≡ size t → preorder t ≡ ss
 all_shown b ss t h e = let f : total_size (forest b ss) ≡ length ss = ap total_size h ∙ omega arith in
-    sym (append-nil (preorder t)) ∙ ap preorders (sym h) ∙ forest_same b ss f
+    cc (append-nil (preorder t), forest_same b ss f)
 
 -- ---- what is known of each span
 
 -- what starts before the place stops before it
-abbrev StopsBy : ℕ → List Span → Type 0
-StopsBy j [] = Unit {0}
-StopsBy j (s ∷ ss) = (s.start < j → s.stop ≤ j) × StopsBy j ss
+abbrev StopsBy : ℕ → Span → Type 0
+StopsBy j s = s.start < j → s.stop ≤ j
 
--- all start at the place or after it
-abbrev From : ℕ → List Span → Type 0
-From j [] = Unit {0}
-From j (s ∷ ss) = (j ≤ s.start) × From j ss
+abbrev From : ℕ → Span → Type 0
+From j s = j ≤ s.start
 
--- all lie between the places
-abbrev Between : ℕ → ℕ → List Span → Type 0
-Between i j [] = Unit {0}
-Between i j (s ∷ ss) = (i ≤ s.start) × (s.stop ≤ j) × Between i j ss
+abbrev Between : ℕ → ℕ → Span → Type 0
+Between i j s = (i ≤ s.start) × (s.stop ≤ j)
 
 -- the span s of the line b, with those after it
 record IsGood (b : List ℕ) (s : Span) (ss : List Span) : Type 0 where
   order : s.start < s.stop
   within : s.stop ≤ length b
-  stops : StopsBy s.stop ss
+  stops : Each (StopsBy s.stop) ss
   named : byte b s.start ≡ 123 → are_members (held s.stop (forest b ss)) ≡ true
   numeral : kind_by (byte b s.start) ≡ Number → IsNumber (slice_range b s.start s.stop)
   closed : byte b s.start ≡ 91 → byte b (s.stop - 1) ≡ 93
-  later : From (suc s.start) ss
+  later : Each (From (suc s.start)) ss
 
 abbrev AllGood : List ℕ → List Span → Type 0
 AllGood b [] = Unit {0}
@@ -155,37 +154,8 @@ AllGood b (s ∷ ss) = IsGood b s ss × AllGood b ss
 
 -- spans between two places, good before any that are good and start later
 record Good (b : List ℕ) (i j : ℕ) (ss : List Span) : Type 0 where
-  between : Between i j ss
-  good : (rest : List Span) → From j rest → AllGood b rest → AllGood b (ss ++ rest)
-
-stops_from : (j : ℕ) (ss : List Span) → From j ss → StopsBy j ss
-stops_from j [] h = tt
-stops_from j (s ∷ ss) h = let l = h.0 in ((λ m. absurd (omega arith)), stops_from j ss h.1)
-
-stops_between : (i j : ℕ) (ss us : List Span) → Between i j ss → StopsBy j us → StopsBy j (ss ++ us)
-stops_between i j [] us h g = g
-stops_between i j (s ∷ ss) us h g = ((λ m. h.1), stops_between i j ss us h.2 g)
-
-from_append : (j : ℕ) (ss us : List Span) → From j ss → From j us → From j (ss ++ us)
-from_append j [] us h g = g
-from_append j (s ∷ ss) us h g = (h.0, from_append j ss us h.1 g)
-
-from_more : (i j : ℕ) (ss : List Span) → i ≤ j → From j ss → From i ss
-from_more i j [] l h = tt
-from_more i j (s ∷ ss) l h = let m = h.0 in (omega arith, from_more i j ss l h.1)
-
-between_from : (i j : ℕ) (ss : List Span) → Between i j ss → From i ss
-between_from i j [] h = tt
-between_from i j (s ∷ ss) h = (h.0, between_from i j ss h.2)
-
-between_more : (i j k l : ℕ) (ss : List Span) → k ≤ i → j ≤ l → Between i j ss → Between k l ss
-between_more i j k l [] f g h = tt
-between_more i j k l (s ∷ ss) f g h = let m = h.0 in let n = h.1 in
-    (omega arith, omega arith, between_more i j k l ss f g h.2)
-
-between_append : (i j : ℕ) (ss us : List Span) → Between i j ss → Between i j us → Between i j (ss ++ us)
-between_append i j [] us h g = g
-between_append i j (s ∷ ss) us h g = (h.0, h.1, between_append i j ss us h.2 g)
+  between : Each (Between i j) ss
+  good : (rest : List Span) → Each (From j) rest → AllGood b rest → AllGood b (ss ++ rest)
 
 good_none : (b : List ℕ) (i : ℕ) → Good b i i []
 good_none b i = record { between = tt; good = λ rest f g. g }
@@ -193,41 +163,44 @@ good_none b i = record { between = tt; good = λ rest f g. g }
 good_more : {b : List ℕ} {i j : ℕ} (k l : ℕ) {ss : List Span} → k ≤ i → j ≤ l → Good b i j ss → Good b k l ss
 good_more {i} {j} k l {ss} f g h =
     record {
-      between = between_more i j k l ss f g h.between;
-      good = λ rest m n. h.good rest (from_more j l rest g m) n;
+      between = each_more (Between i j) (Between k l) (λ s b. omega arith) ss h.between;
+      good = λ rest m n. h.good rest (each_more (From l) (From j) (λ s o. omega arith) rest m) n;
     }
 
 good_both : {b : List ℕ} {i j k : ℕ} {ss us : List Span} → i ≤ j → j ≤ k → Good b i j ss → Good b j k us
     → Good b i k (ss ++ us)
 good_both {b} {i} {j} {k} {ss} {us} f g h q = record {
-  between = between_append i k ss us (between_more i j i k ss (omega arith) g h.between)
-      (between_more j k i k us f (omega arith) q.between);
+  between = each_append (Between i k) ss us
+      (each_more (Between i j) (Between i k) (λ s b. omega arith) ss h.between)
+      (each_more (Between j k) (Between i k) (λ s b. omega arith) us q.between);
   good = λ rest m n.
-      subst (AllGood b) (sym (append_assoc ss us rest))
-      (h.good (us ++ rest) (from_append j us rest (between_from j k us q.between) (from_more j k rest g m))
-      (q.good rest m n));
+      subst (AllGood b) (sym (append_assoc ss us rest)) (h.good (us ++ rest) (each_append (From j) us rest
+      (each_more (Between j k) (From j) (λ s b. b.0) us q.between)
+      (each_more (From k) (From j) (λ s o. omega arith) rest m)) (q.good rest m n));
 }
 
 -- a span over others
 good_over : {b : List ℕ} (i : ℕ) {j : ℕ} {ss : List Span} → i < j → j ≤ length b → Good b (suc i) j ss
     → (kind_by (byte b i) ≡ Number → IsNumber (slice_range b i j)) → (byte b i ≡ 91 → byte b (j - 1) ≡ 93)
-    → ((rest : List Span) → From j rest → byte b i ≡ 123 → are_members (held j (forest b (ss ++ rest))) ≡ true)
+    → ((rest : List Span) → Each (From j) rest → byte b i ≡ 123 → are_members (held j (forest b (ss ++ rest))) ≡ true)
     → Good b i j (span_at i j ∷ ss)
 good_over i {j} {ss} o l h numeral closed n = record {
-  between = (omega arith, omega arith, between_more (suc i) j i j ss (omega arith) (omega arith) h.between);
-  good = λ rest f g.
-      let after = from_append (suc i) ss rest (between_from (suc i) j ss h.between) (from_more (suc i) j rest o f) in (
-        record {
-          order = o;
-          within = l;
-          stops = stops_between (suc i) j ss rest h.between (stops_from j rest f);
-          named = n rest f;
-          numeral = numeral;
-          closed = closed;
-          later = after;
-        },
-        h.good rest f g,
-      );
+  between = (omega arith, each_more (Between (suc i) j) (Between i j) (λ s b. omega arith) ss h.between);
+  good = λ rest f g. (
+    record {
+      order = o;
+      within = l;
+      stops = each_append (StopsBy j) ss rest (each_more (Between (suc i) j) (StopsBy j) (λ s b m. b.1) ss h.between)
+          (each_more (From j) (StopsBy j) (λ s l m. absurd (omega arith)) rest f);
+      named = n rest f;
+      numeral = numeral;
+      closed = closed;
+      later = each_append (From (suc i)) ss rest
+          (each_more (Between (suc i) j) (From (suc i)) (λ s b. b.0) ss h.between)
+          (each_more (From j) (From (suc i)) (λ s m. omega arith) rest f);
+    },
+    h.good rest f g,
+  );
 }
 
 -- ---- the grammar
@@ -235,7 +208,7 @@ good_over i {j} {ss} o l h numeral closed n = record {
 byte_within : (b : List ℕ) (i c : ℕ) → byte b i ≡ suc c → i < length b
 byte_within [] i c h = cc
 byte_within (x ∷ b) zero c h = omega arith
-byte_within (x ∷ b) (suc i) c h = let l = byte_within b i c h in omega arith
+byte_within (x ∷ b) (suc i) c h = omega (arith, byte_within b i c h)
 
 not_object : (k : Kind) (s : List ℕ) → IsScalar k s → k ≡ Object → ⊥
 not_object Object s h e = h
@@ -246,7 +219,7 @@ not_array Array s h e = h
 not_array _ s h e = cc
 
 atom_numeral : {k : Kind} (s : List ℕ) → IsScalar k s → k ≡ Number → IsNumber s
-atom_numeral s h e = subst (λ z. IsScalar z s) e h
+atom_numeral s h e = rw e at h
 
 -- what a bracket or a brace begins is no number
 no_numeral : (b : List ℕ) (i : ℕ) {c : ℕ} (j : ℕ) → byte b i ≡ c → (kind_by c ≡ Number → ⊥)
@@ -255,7 +228,7 @@ no_numeral : (b : List ℕ) (i : ℕ) {c : ℕ} (j : ℕ) → byte b i ≡ c →
 no_numeral b i j h n e = absurd (n (sym (ap kind_by h) ∙ e))
 
 closes : (b : List ℕ) (j : ℕ) {c : ℕ} → byte b j ≡ c → byte b (suc j - 1) ≡ c
-closes b j h = let e : suc j - 1 ≡ j = omega arith in ap (byte b) e ∙ h
+closes b j h = let e : suc j - 1 ≡ j = omega arith in cc
 
 good_atom : {b : List ℕ} {k : Kind} {i j : ℕ} → IsAtom b k i j → Good b i j (span_at i j ∷ [])
 good_atom {b} {k} {i} {j} w =
@@ -266,13 +239,11 @@ good_atom {b} {k} {i} {j} w =
     (λ rest f e. absurd (not_object k (slice_range b i j) w.spelled (sym (atom_kind w) ∙ ap kind_by e)))
 
 good_named : {b : List ℕ} {i j : ℕ} {n : Atom} → Named b i j n → Good b i j (span_at n.start n.stop ∷ [])
-good_named {b} (named i j k l w x y c) = let f = w.order in let g = y.order in
-    good_more i (suc l) f (omega arith) (good_atom x)
+good_named (named i j k l w x y c) = let f = w.order in good_more i (suc l) f (omega arith) (good_atom x)
 
 good_add : {b : List ℕ} {i j k : ℕ} (us : Items) (u : Tree) → i ≤ j → j ≤ k → Good b i j (items_preorder us)
     → Good b j k (preorder u) → Good b i k (items_preorder (add_item us u))
-good_add {b} {i} {k} us u f g h q =
-    subst (Good b i k) (sym (items_preorder-add us u)) (good_both f g h q)
+good_add {b} {i} {k} us u f g h q = subst (Good b i k) (sym (items_preorder-add us u)) (good_both f g h q)
 
 good_add_member : {b : List ℕ} {i j k l : ℕ} (us : Members) (n : Atom) (u : Tree) → i ≤ j → j ≤ k → k ≤ l
     → Good b i j (members_preorder us) → Good b j k (span_at n.start n.stop ∷ []) → Good b k l (preorder u)
@@ -284,26 +255,28 @@ alternate : (ms : Members) → are_members (names_and_values ms) ≡ true
 alternate no_members = refl
 alternate (member n t ms) = alternate ms
 
-from_beyond : (b : List ℕ) (j : ℕ) (ss : List Span) → From j ss → Beyond j (forest b ss)
+from_beyond : (b : List ℕ) (j : ℕ) (ss : List Span) → Each (From j) ss → Beyond j (forest b ss)
 unfolding forest
 from_beyond b j [] h = tt
-from_beyond b j (s ∷ ss) h = let e =
-    start-node b (kind_by (byte b s.start)) s.start s.stop (held s.stop (forest b ss)) in let l = h.0 in omega arith
+from_beyond b j (s ∷ ss) h =
+    omega (
+      arith,
+      start-node b (kind_by (byte b s.start)) s.start s.stop (held s.stop (forest b ss)),
+    )
 
 -- the members of an object, before what starts later
 alternate_held : (b : List ℕ) (j : ℕ) (ms : Members) (rest : List Span)
-    → Shows b j (members_preorder ms) (names_and_values ms) → From j rest
+    → Shows b j (members_preorder ms) (names_and_values ms) → Each (From j) rest
     → are_members (held j (forest b (members_preorder ms ++ rest))) ≡ true
 alternate_held b j ms rest s f =
     let o = from_beyond b j rest f in
-    ap (λ ts. are_members (held j ts)) (s.shows rest o)
-    ∙ ap are_members (held_all j (names_and_values ms) (forest b rest) s.all o) ∙ alternate ms
+    cc (s.shows rest o, held_all j (names_and_values ms) (forest b rest) s.all o, alternate ms)
 
 mutual
   good_value : {b : List ℕ} {i j : ℕ} {t : Tree} → Value b i j t → Good b i j (preorder t)
-  good_value {b} (atom k i j w) = good_atom w
+  good_value (atom k i j w) = good_atom w
   good_value {b} (empty_array i j o w c) =
-      let h = w.order in let l = byte_within b j 92 c in
+      let l = byte_within b j 92 c in
       good_over i (omega arith) l
       (good_more (suc i) (suc j) (omega arith) (omega arith) (good_none b (suc i)))
       (no_numeral b i (suc j) o (λ e. cc)) (λ e. closes b j c) (λ rest f e. absurd (omega arith))
@@ -331,18 +304,18 @@ mutual
       f)
 
   good_padded : {b : List ℕ} {i j : ℕ} {t : Tree} → Padded b i j t → Good b i j (preorder t)
-  good_padded {b} (padded i j k l t w v x) = good_more i l w.order x.order (good_value v)
+  good_padded (padded i j k l t w v x) = good_more i l w.order x.order (good_value v)
 
   good_led : {b : List ℕ} {i j : ℕ} {us : Items} → LedItems b i j us → Good b i j (items_preorder us)
   good_led {b} (no_led i) = good_none b i
-  good_led {b} (led i j k us u l p c) =
+  good_led (led i j k us u l p c) =
       let a = led_order l in let q = padded_ends p in
       good_more i (suc k) (omega arith) (omega arith)
       (good_add us u a q (good_led l) (good_padded p))
 
   good_led_members : {b : List ℕ} {i j : ℕ} {us : Members} → LedMembers b i j us → Good b i j (members_preorder us)
   good_led_members {b} (no_led_members i) = good_none b i
-  good_led_members {b} (led_member i j k l us n u ld nm p c) =
+  good_led_members (led_member i j k l us n u ld nm p c) =
       let a = led_members_order ld in let q = padded_ends p in let r = named_ends nm in
       good_more i (suc l) (omega arith) (omega arith)
       (good_add_member us n u a r q (good_led_members ld) (good_named nm) (good_padded p))
@@ -355,14 +328,14 @@ json_good b t p = subst (AllGood b) (append-nil (preorder t)) ((good_padded p).g
 good_at : (b : List ℕ) (ts : List Token) (k : ℕ) (t : Token) → AllGood b (spans_of ts) → slice_get ts k ≡ Some t
     → IsGood b (span_at t.start t.stop) (drop (suc k) (spans_of ts))
 good_at b [] k t g h = cc
-good_at b (u ∷ ts) zero t g h = let e : u ≡ t = cc in subst (λ v. IsGood b (span_at v.start v.stop) (spans_of ts)) e g.0
+good_at b (u ∷ ts) zero t g h = let e : u ≡ t = cc in rw e at g.0
 good_at b (u ∷ ts) (suc k) t g h = good_at b ts k t g.1 h
 
-stops_at : (ts : List Token) (j n i : ℕ) (u : Token) → StopsBy j (drop n (spans_of ts)) → n ≤ i
+stops_at : (ts : List Token) (j n i : ℕ) (u : Token) → Each (StopsBy j) (drop n (spans_of ts)) → n ≤ i
     → slice_get ts i ≡ Some u → u.start < j → u.stop ≤ j
 stops_at [] j n i u s l h m = cc
-stops_at (v ∷ ts) j zero zero u s l h m = let e : v ≡ u = cc in let f = ap (λ (w : Token). w.start) e in
-    let g = ap (λ (w : Token). w.stop) e in let n = s.0 in omega arith
+stops_at (v ∷ ts) j zero zero u s l h m =
+    let e : v ≡ u = cc in let f = ap (λ (w : Token). w.start) e in let g = ap (λ (w : Token). w.stop) e in omega arith
 stops_at (v ∷ ts) j zero (suc i) u s l h m = stops_at ts j zero i u s.1 (omega arith) h m
 stops_at (v ∷ ts) j (suc n) zero u s l h m = absurd (omega arith)
 stops_at (v ∷ ts) j (suc n) (suc i) u s l h m = stops_at ts j n i u s (omega arith) h m
@@ -373,11 +346,11 @@ are_within b ts g = λ k t h. let w = good_at b ts k t g h in (w.order, w.within
 are_nested : (b : List ℕ) (ts : List Token) → AllGood b (spans_of ts) → AreNested ts
 are_nested b ts g = λ k t h i u l m n. stops_at ts t.stop (suc k) i u (good_at b ts k t g h).stops (omega arith) m n
 
-from_at : (ts : List Token) (j n k : ℕ) (u : Token) → From j (drop n (spans_of ts)) → n ≤ k → slice_get ts k ≡ Some u
-    → j ≤ u.start
+from_at : (ts : List Token) (j n k : ℕ) (u : Token) → Each (From j) (drop n (spans_of ts)) → n ≤ k
+    → slice_get ts k ≡ Some u → j ≤ u.start
 from_at [] j n k u s l h = cc
-from_at (v ∷ ts) j zero zero u s l h = let e : v ≡ u = cc in let f = ap (λ (w : Token). w.start) e in let m = s.0 in
-    omega arith
+from_at (v ∷ ts) j zero zero u s l h =
+    let e : v ≡ u = cc in let f = ap (λ (w : Token). w.start) e in omega arith
 from_at (v ∷ ts) j zero (suc k) u s l h = from_at ts j zero k u s.1 (omega arith) h
 from_at (v ∷ ts) j (suc n) zero u s l h = absurd (omega arith)
 from_at (v ∷ ts) j (suc n) (suc k) u s l h = from_at ts j n k u s (omega arith) h
@@ -389,7 +362,7 @@ are_rising b ts g = λ i k t u l h m. let o =
 are_named : (b : List ℕ) (ts : List Token) → AllGood b (spans_of ts) → AreNamed b ts
 are_named b ts g = λ k t h e.
     let f : suc k ≡ k + 1 = omega arith in
-    subst (λ n. are_members (held t.stop (forest b (drop n (spans_of ts)))) ≡ true) f ((good_at b ts k t g h).named e)
+    rw f at ((good_at b ts k t g h).named e)
 
 are_spelled : (b : List ℕ) (ts : List Token) → AllGood b (spans_of ts) → AreSpelled b ts
 are_spelled b ts g = λ k t h. let w = good_at b ts k t g h in (λ e. merely (w.numeral e), w.closed)
@@ -413,7 +386,6 @@ known b ts a =
     let e = all_shown b (spans_of ts) a.tree a.shown (length-spans_of ts ∙ a.count) in
     let g = subst (AllGood b) e (json_good b a.tree a.json) in
     let s = size_some a.tree in
-    let c = a.count in
     record {
       within = are_within b ts g;
       rising = are_rising b ts g;

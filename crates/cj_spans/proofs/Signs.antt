@@ -18,11 +18,10 @@ step_on {b} {t} u h l e =
 sign_read : {b : List ℕ} {s : State} (m n : Mode) {c : ℕ} (ks : List ℕ) (ts : List Token) (k p : ℕ) → k < length b
     → byte b k ≡ c → step c (idle m ks ts k p) ≡ Some (idle n ks ts (suc k) p) → ComesTo b s (idle m ks ts k p)
     → ComesTo b s (idle n ks ts (k + 1) p)
-sign_read {b} {s} m n ks ts k p l e go h =
+sign_read m n ks ts k p l e go h =
     let r = step_on (idle n ks ts (suc k) p) h l (ap (λ x. step x (idle m ks ts k p)) e ∙ go) in
     let f : suc k ≡ k + 1 = omega arith in
-    subst (λ x. ComesTo b s (idle n ks ts x p)) f
-    (record { last = idle n ks ts (suc k) p; reached = r; settles = refl; same = λ _. refl })
+    rw (← f) (record { last = idle n ks ts (suc k) p; reached = r; settles = refl; same = λ _. refl })
 
 -- the colon behind a name
 pub colon_read : (b : List ℕ) (s : State) (ks : List ℕ) (ts : List Token) (k p : ℕ) → k < length b → byte b k ≡ 58
@@ -43,7 +42,7 @@ comma_read b s n {ks} {ts} k p next a l e h =
 
 pub innermost_same : {d : Kind} {ks ls : List ℕ} {ts us : List Token} → ks ≡ ls → ts ≡ us → IsInnermost d ks ts
     → IsInnermost d ls us
-innermost_same {d} {ls} {ts} e f a = subst (λ z. IsInnermost d ls z) f (subst (λ z. IsInnermost d z ts) e a)
+innermost_same e f a = rw f at (rw e at a)
 
 -- it stays when tokens are added
 pub innermost_more : {d : Kind} {ks : List ℕ} {ts us : List Token} (vs : List Token) → IsInnermost d ks ts
@@ -53,7 +52,7 @@ innermost_more {ts} vs a e = record {
   top = a.top;
   token = a.token;
   innermost = a.innermost;
-  there = subst (λ z. slice_get z a.top ≡ Some a.token) (sym e) (slice_get-append ts vs a.top a.token a.there);
+  there = rw e (slice_get-append ts vs a.top a.token a.there);
   kind = a.kind;
 }
 
@@ -76,88 +75,76 @@ kind_in (between FirstName) = Some Object
 kind_in (between NextName) = Some Object
 kind_in _ = None
 
-module _ (d : Kind) (n : Mode) (inside : kind_in (between n) ≡ Some d) (ks ls : List ℕ) (ts us : List Token)
-    (i p j q : ℕ) where
-  -- two states are one, and in the first this container is innermost
-  comes_in : {g : Kind} (m : Mode) {ks1 : List ℕ} {ts1 : List Token} (k r : ℕ) → kind_in (between m) ≡ Some g
-      → IsInnermost g ks1 ts1 → Some (idle m ks1 ts1 k r) ≡ Some (idle n ls us j q) → IsInnermost d ls us
-  comes_in {g} m k r w a h =
-      let e = some_same _ _ h in
-      let same : g ≡ d = some_same _ _ (sym w ∙ ap (λ u. kind_in u.phase) e ∙ inside) in
-      subst (λ z. IsInnermost z ls us) same
-      (innermost_same {ls = ls} {us = us} (ap (λ u. u.stack) e) (ap (λ u. u.tokens) e) a)
+-- such a container is innermost in the state, if there is one
+abbrev IsIn : Option State → Type 0
+IsIn None = Unit {0}
+IsIn (Some u) = (d : Kind) → kind_in u.phase ≡ Some d → IsInnermost d u.stack u.tokens
 
-  -- a byte behind a part: whether it is a comma, and whether it closes the container
-  after_byte : (g : Kind) (m : Mode) (comma closes : Bool) (k : ℕ) (t : Token) → kind_in (between m) ≡ Some g
-      → IsInnermost g ks ts
-      → cond comma (Some (idle m ks ts (suc i) p)) (cond closes (Some (with_closed k t (idle After ks ts i p))) None)
-      ≡ Some (idle n ls us j q) → IsInnermost d ls us
-  after_byte g m true closes k t w a h = comes_in m (suc i) p w a h
-  after_byte g m false true k t w a h = none_some _ (ap (λ u. kind_in u.phase) (some_same _ _ h) ∙ inside)
-  after_byte g m false false k t w a h = none_some _ h
+is_in : (g : Kind) {ks : List ℕ} {ts : List Token} → IsInnermost g ks ts → (d : Kind) → Some g ≡ Some d
+    → IsInnermost d ks ts
+is_in g {ks} {ts} a d w = subst (λ z. IsInnermost z ks ts) (some_same g d w) a
 
+in_cond : (v : Bool) (x y : Option State) → IsIn x → IsIn y → IsIn (cond v x y)
+in_cond true x y a b = a
+in_cond false x y a b = b
+
+module _ (ks : List ℕ) (ts : List Token) (i p : ℕ) where
+  -- behind a part of a container
   after_kind : (c k : ℕ) (t : Token) (g : Kind) → open_kind t ≡ g → slice_get ts k ≡ Some t → slice_get ks 0 ≡ Some k
-      → after_in g c k t (idle After ks ts i p) ≡ Some (idle n ls us j q) → IsInnermost d ls us
-  after_kind c k t Array e f g h =
-      after_byte Array Ready (nat_eq c 44) (nat_eq c 93) k t refl
-      (record { top = k; token = t; innermost = g; there = f; kind = e }) h
-  after_kind c k t Object e f g h =
-      after_byte Object NextName (nat_eq c 44) (nat_eq c 125) k t refl
-      (record { top = k; token = t; innermost = g; there = f; kind = e }) h
-  after_kind c k t _ e f g h = none_some _ h
+      → IsIn (after_in g c k t (idle After ks ts i p))
+  after_kind c k t Array e f g =
+      in_cond (nat_eq c 44) _ _ (is_in Array (record { top = k; token = t; innermost = g; there = f; kind = e }))
+      (in_cond (nat_eq c 93) _ None (λ d w. none_some d w) tt)
+  after_kind c k t Object e f g =
+      in_cond (nat_eq c 44) _ _ (is_in Object (record { top = k; token = t; innermost = g; there = f; kind = e }))
+      (in_cond (nat_eq c 125) _ None (λ d w. none_some d w) tt)
+  after_kind c k t _ e f g = tt
 
   after_found : (c k : ℕ) (o : Option Token) → slice_get ts k ≡ o → slice_get ks 0 ≡ Some k
-      → after_token c k o (idle After ks ts i p) ≡ Some (idle n ls us j q) → IsInnermost d ls us
-  after_found c k None f g h = none_some _ h
-  after_found c k (Some t) f g h = after_kind c k t (open_kind t) refl f g h
+      → IsIn (after_token c k o (idle After ks ts i p))
+  after_found c k None f g = tt
+  after_found c k (Some t) f g = after_kind c k t (open_kind t) refl f g
 
-  after_part : (c : ℕ) (o : Option ℕ) → slice_get ks 0 ≡ o
-      → after_top c o (idle After ks ts i p) ≡ Some (idle n ls us j q) → IsInnermost d ls us
-  after_part c None g h = none_some _ h
-  after_part c (Some k) g h = after_found c k (slice_get ts k) refl g h
+  after_part : (c : ℕ) (o : Option ℕ) → slice_get ks 0 ≡ o → IsIn (after_top c o (idle After ks ts i p))
+  after_part c None g = tt
+  after_part c (Some k) g = after_found c k (slice_get ts k) refl g
 
-  behind_comma : (m : Mode) → read m 44 (idle m ks ts i p) ≡ Some (idle n ls us j q) → IsInnermost d ls us
-  behind_comma After h = after_part 44 (slice_get ks 0) refl h
-  behind_comma _ h = none_some _ h
+  behind_comma : (m : Mode) → IsIn (read m 44 (idle m ks ts i p))
+  behind_comma After = after_part 44 (slice_get ks 0) refl
+  behind_comma _ = tt
 
-  behind_bracket : (m : Mode) → read m 91 (idle m ks ts i p) ≡ Some (idle n ls us j q) → IsInnermost d ls us
-  behind_bracket After h = after_part 91 (slice_get ks 0) refl h
-  behind_bracket Ready h =
-      comes_in FirstItem (suc i) (max p (suc (length ks))) refl (innermost_opened Array ks ts i refl) h
-  behind_bracket FirstItem h =
-      comes_in FirstItem (suc i) (max p (suc (length ks))) refl (innermost_opened Array ks ts i refl) h
-  behind_bracket _ h = none_some _ h
+  behind_bracket : (m : Mode) → IsIn (read m 91 (idle m ks ts i p))
+  behind_bracket After = after_part 91 (slice_get ks 0) refl
+  behind_bracket Ready = is_in Array (innermost_opened Array ks ts i refl)
+  behind_bracket FirstItem = is_in Array (innermost_opened Array ks ts i refl)
+  behind_bracket _ = tt
 
-  behind_brace : (m : Mode) → read m 123 (idle m ks ts i p) ≡ Some (idle n ls us j q) → IsInnermost d ls us
-  behind_brace After h = after_part 123 (slice_get ks 0) refl h
-  behind_brace Ready h =
-      comes_in FirstName (suc i) (max p (suc (length ks))) refl (innermost_opened Object ks ts i refl) h
-  behind_brace FirstItem h =
-      comes_in FirstName (suc i) (max p (suc (length ks))) refl (innermost_opened Object ks ts i refl) h
-  behind_brace _ h = none_some _ h
+  behind_brace : (m : Mode) → IsIn (read m 123 (idle m ks ts i p))
+  behind_brace After = after_part 123 (slice_get ks 0) refl
+  behind_brace Ready = is_in Object (innermost_opened Object ks ts i refl)
+  behind_brace FirstItem = is_in Object (innermost_opened Object ks ts i refl)
+  behind_brace _ = tt
 
 module _ (ks ls : List ℕ) (ts us : List Token) (i p j q : ℕ) (m : Mode) where
-  abbrev reads : ℕ → Mode → Type 0
-  reads c n = read m c (idle m ks ts i p) ≡ Some (idle n ls us j q)
+  -- a state that comes, and in which this container is innermost
+  comes : (d c : ℕ) {f : Phase} → c ≡ d → IsIn (read m d (idle m ks ts i p))
+      → read m c (idle m ks ts i p) ≡ Some (state f ls us j q) → IsIn (Some (state f ls us j q))
+  comes d c e a h = subst IsIn h (subst (λ z. IsIn (read m z (idle m ks ts i p))) (sym e) a)
 
   -- an array is innermost behind `[`, and behind a comma after which a value comes
   pub array_next : (c : ℕ) (v : Move) → StaysInArrayNext c v
       → read m c (idle m ks ts i p) ≡ Some (state (phase_after m i v) ls us j q) → InArray ls us
-  array_next c (To Ready) e h = behind_comma Array Ready refl ks ls ts us i p j q m (subst (λ z. reads z Ready) e h)
-  array_next c (Open Ready) e h = behind_comma Array Ready refl ks ls ts us i p j q m (subst (λ z. reads z Ready) e h)
-  array_next c (To FirstItem) e h =
-      behind_bracket Array FirstItem refl ks ls ts us i p j q m (subst (λ z. reads z FirstItem) e h)
-  array_next c (Open FirstItem) e h =
-      behind_bracket Array FirstItem refl ks ls ts us i p j q m (subst (λ z. reads z FirstItem) e h)
+  array_next c (To Ready) e h = comes 44 c e (behind_comma ks ts i p m) h Array refl
+  array_next c (Open Ready) e h = comes 44 c e (behind_comma ks ts i p m) h Array refl
+  array_next c (To FirstItem) e h = comes 91 c e (behind_bracket ks ts i p m) h Array refl
+  array_next c (Open FirstItem) e h = comes 91 c e (behind_bracket ks ts i p m) h Array refl
   array_next c _ e h = absurd e
 
   -- an object is innermost behind `{`, and behind a comma after which a name comes
   pub object_next : (c : ℕ) (v : Move) → StaysInObjectNext c v
       → read m c (idle m ks ts i p) ≡ Some (state (phase_after m i v) ls us j q) → InObject ls us
-  object_next c (To NextName) e h =
-      behind_comma Object NextName refl ks ls ts us i p j q m (subst (λ z. reads z NextName) e h)
-  object_next c (Open FirstName) e h =
-      behind_brace Object FirstName refl ks ls ts us i p j q m (subst (λ z. reads z FirstName) e h)
+  object_next c (To NextName) e h = comes 44 c e (behind_comma ks ts i p m) h Object refl
+  object_next c (Open FirstName) e h = comes 123 c e (behind_brace ks ts i p m) h Object refl
   object_next c _ e h = absurd e
 
 pub values_next : (c : ℕ) (v : Move) → StaysInArrayNext c v → BeginsValueNext v

@@ -1,5 +1,5 @@
 -- Tokens past the tree of a token: as many as the tree has values and names.
-use Rattle.cj_spans.proofs.Common.{◌≡◌, ℕ, zero, suc, ◌+◌, ◌<◌, ◌≤◌, List, [], ◌∷◌, length, drop, slice_get, Some, Result, Ok, Err, refl, sym, ap, subst, arith, rules, ◌∙◌, OnOk, length-drop, slice_get_within, BoundedList, Token, LineFault, Atom, Tree, Items, no_items, item, Members, no_members, member, add_item, add_member, size, items_size, members_size, total_size, held, past, forest, kind_by, node, byte, Value, atom, empty_array, full_array, empty_object, full_object, Padded, padded, LedItems, no_led, led, LedMembers, no_led_members, led_member, Named, named, Span, spans_of, AreOf, AreFull, AreNested, AreLinked, before, AreSized, IsScanOf, tree_at}
+use Rattle.cj_spans.proofs.Common.{◌≡◌, ℕ, zero, suc, ◌+◌, ◌<◌, ◌≤◌, List, [], ◌∷◌, length, drop, slice_get, Some, Result, Ok, Err, refl, sym, ap, arith, rules, ◌∙◌, OnOk, length-drop, slice_get_within, BoundedList, Token, LineFault, Atom, Tree, Items, no_items, item, Members, no_members, member, add_item, add_member, size, items_size, members_size, total_size, held, past, forest, kind_by, node, byte, Value, atom, empty_array, full_array, empty_object, full_object, Padded, padded, LedItems, no_led, led, LedMembers, no_led_members, led_member, Named, named, Span, spans_of, AreOf, AreFull, AreNested, AreLinked, before, AreSized, IsScanOf, tree_at}
 use Rattle.cj_spans.proofs.Links.{before_length, before_one, before_zero}
 use Rattle.cj_spans.proofs.Scanned.{node_small, forest_small, held_sizes, known, length-spans_of}
 use Rattle.cj_spans.proofs.Verdicts.{Ran, ran_tree}
@@ -10,11 +10,13 @@ use Rattle.cj_spans.proofs.Views.{link_past}
 full_next : (b : List ℕ) (s : Span) (ss : List Span) → total_size (forest b (s ∷ ss)) ≡ length (s ∷ ss)
     → total_size (forest b ss) ≡ length ss
 unfolding forest
-full_next b s ss h =
-    let l = forest_small b ss in
-    let e = held_sizes s.stop (forest b ss) in
-    let n = node_small b (kind_by (byte b s.start)) s.start s.stop (held s.stop (forest b ss)) in
-    omega arith
+full_next b s ss h = omega (
+  arith,
+  forest_small b ss,
+  held_sizes s.stop (forest b ss),
+  node_small b (kind_by (byte b
+      s.start)) s.start s.stop (held s.stop (forest b ss)),
+)
 
 full_from : (b : List ℕ) (ss : List Span) (k : ℕ) → total_size (forest b ss) ≡ length ss
     → total_size (forest b (drop k ss)) ≡ length (drop k ss)
@@ -35,8 +37,7 @@ full_tree b (u ∷ ts) zero t h e =
     let n = node_small b (kind_by (byte b u.start)) u.start u.stop (held u.stop (forest b (spans_of ts))) in
     let own : size (node b (kind_by (byte b u.start)) u.start u.stop (held u.stop (forest b (spans_of ts))))
     ≡ suc (total_size (held u.stop (forest b (spans_of ts)))) = omega arith in
-    subst (λ v. size (node b (kind_by (byte b u.start)) u.start u.stop (held u.stop (forest b (spans_of ts))))
-    ≡ suc (total_size (held v.stop (forest b (spans_of ts))))) q own
+    rw (← q) own
 full_tree b (u ∷ ts) (suc k) t h e = full_tree b ts k t h (full_next b _ (spans_of ts) e)
 
 length_from : (ts : List Token) (k : ℕ) → length (drop k (spans_of ts)) ≡ length (drop k ts)
@@ -48,23 +49,22 @@ length_from (t ∷ ts) (suc k) = length_from ts k
 past_full : (b : List ℕ) (ts : List Token) (k : ℕ) (t : Token) → AreNested ts → AreFull b ts → slice_get ts k ≡ Some t
     → k + 1 + before t.stop (drop (k + 1) ts) ≡ k + size (tree_at b (spans_of ts) k)
 past_full b ts k t nested whole h =
-    let next : suc k ≡ k + 1 = omega arith in
-    let ss = spans_of ts in
-    let r = k + 1 + before t.stop (drop (k + 1) ts) in
-    let full : total_size (forest b ss) ≡ length ss = whole ∙ sym (length-spans_of ts) in
-    let own = subst (λ j. size (tree_at b ss k) ≡ suc (total_size (held t.stop (forest b (drop j ss))))) next
-    (full_tree b ts k t h full) in
-    let after = link_past b ts (k + 1) t.stop r (nested k t h) refl in
-    let parts = held_sizes t.stop (forest b (drop (k + 1) ss)) in
-    let here = full_from b ss (k + 1) full in
-    let there = full_from b ss r full in
-    let split : total_size (past t.stop (forest b (drop (k + 1) ss))) ≡ length (drop r ss) = ap total_size (sym after)
-    ∙ there in
-    let m = length_from ts (k + 1) in let n = length_from ts r in
-    let p = length-drop (k + 1) ts in let q = length-drop r ts in
-    let l = before_length t.stop (drop (k + 1) ts) in
-    let inside = slice_get_within ts k t h in
-    omega arith
+    let next : suc k ≡ k + 1 = omega arith in let ss = spans_of ts in let r = k + 1 + before t.stop (drop (k + 1) ts)
+    in let full : total_size (forest b ss) ≡ length ss = whole ∙ sym (length-spans_of ts) in let after = link_past b
+    ts (k + 1) t.stop r (nested k t h) refl in let there = full_from b ss r full in let split : total_size (past
+    t.stop (forest b (drop (k + 1) ss))) ≡ length (drop r ss) = cc (after, there) in omega (
+      arith,
+      rw next at (full_tree b ts k
+          t h full),
+      held_sizes t.stop (forest b (drop (k + 1) ss)),
+      full_from b ss (k + 1) full,
+      length_from ts (k + 1),
+      length_from ts r,
+      length-drop (k + 1) ts,
+      length-drop r ts,
+      before_length t.stop (drop (k + 1) ts),
+      slice_get_within ts k t h,
+    )
 
 -- all tokens of a line show something
 pub are_full : {b : List ℕ} {ts : List Token} → AreOf b ts → AreFull b ts
@@ -96,45 +96,55 @@ ran_sized (Err e) h = search rules
 
 items_size-add : (ts : Items) (t : Tree) → items_size (add_item ts t) ≡ items_size ts + size t
 items_size-add no_items t = omega arith
-items_size-add (item u ts) t = let e = items_size-add ts t in omega arith
+items_size-add (item u ts) t = omega (arith, items_size-add ts t)
 
 members_size-add : (ms : Members) (n : Atom) (t : Tree)
     → members_size (add_member ms n t) ≡ members_size ms + suc (size t)
 members_size-add no_members n t = omega arith
-members_size-add (member m u ms) n t = let e = members_size-add ms n t in omega arith
+members_size-add (member m u ms) n t = omega (arith, members_size-add ms n t)
 
 named_room : {b : List ℕ} {i j : ℕ} {n : Atom} → Named b i j n → i < j
-named_room {b} (named i j k l w x y c) = let e = w.order in let f = x.order in let g = y.order in omega arith
+named_room (named i j k l w x y c) = omega arith
 
 mutual
   value_room : {b : List ℕ} {i j : ℕ} {t : Tree} → Value b i j t → size t + i ≤ j
-  value_room {b} (atom k i j w) = let o = w.order in omega arith
-  value_room {b} (empty_array i j o w c) = let e = w.order in omega arith
-  value_room {b} (full_array i j k us u o l p c) = let e = led_room l in let f = padded_room p in
-      let g = items_size-add us u in omega arith
-  value_room {b} (empty_object i j o w c) = let e = w.order in omega arith
-  value_room {b} (full_object i j k l us n u o ld nm p c) = let e = led_members_room ld in let f = padded_room p in
-      let g = members_size-add us n u in let h = named_room nm in omega arith
+  value_room (atom k i j w) = omega arith
+  value_room (empty_array i j o w c) = omega arith
+  value_room (full_array i j k us u o l p c) = omega (arith, led_room l, padded_room p, items_size-add us u)
+  value_room (empty_object i j o w c) = omega arith
+  value_room (full_object i j k l us n u o ld nm p c) =
+      omega (
+        arith,
+        led_members_room ld,
+        padded_room p,
+        members_size-add us n u,
+        named_room nm,
+      )
 
   padded_room : {b : List ℕ} {i j : ℕ} {t : Tree} → Padded b i j t → size t + i ≤ j
-  padded_room {b} (padded i j k l t w v x) = let e = w.order in let f = value_room v in let g = x.order in omega arith
+  padded_room (padded i j k l t w v x) = omega (arith, value_room v)
 
   led_room : {b : List ℕ} {i j : ℕ} {us : Items} → LedItems b i j us → items_size us + i ≤ j
-  led_room {b} (no_led i) = omega arith
-  led_room {b} (led i j k us u l p c) = let e = led_room l in let f = padded_room p in let g = items_size-add us u in
-      omega arith
+  led_room (no_led i) = omega arith
+  led_room (led i j k us u l p c) = omega (arith, led_room l, padded_room p, items_size-add us u)
 
   led_members_room : {b : List ℕ} {i j : ℕ} {us : Members} → LedMembers b i j us → members_size us + i ≤ j
-  led_members_room {b} (no_led_members i) = omega arith
-  led_members_room {b} (led_member i j k l us n u ld nm p c) = let e = led_members_room ld in let f = padded_room p in
-      let g = members_size-add us n u in let h = named_room nm in omega arith
+  led_members_room (no_led_members i) = omega arith
+  led_members_room (led_member i j k l us n u ld nm p c) =
+      omega (
+        arith,
+        led_members_room ld,
+        padded_room p,
+        members_size-add us n u,
+        named_room nm,
+      )
 
 -- ---- a walk over the tokens that start before a place
 
 before_step : (ts : List Token) (j n : ℕ) (t : Token) → slice_get ts n ≡ Some t → t.start < j
     → before j (drop n ts) ≡ suc (before j (drop (suc n) ts))
 before_step [] j n t h l = cc
-before_step (u ∷ ts) j zero t h l = let q : u ≡ t = cc in before_one j u ts (subst (λ v. v.start < j) (sym q) l)
+before_step (u ∷ ts) j zero t h l = let q : u ≡ t = cc in before_one j u ts (rw q l)
 before_step (u ∷ ts) j (suc n) t h l = before_step ts j n t h l
 
 pub before_walked : (ts : List Token) (j k n : ℕ) (t : Token) → slice_get ts n ≡ Some t → t.start < j
@@ -143,12 +153,12 @@ before_walked ts j k n t h l e =
     let f = before_step ts j n t h l in
     let next : suc n ≡ n + 1 = omega arith in
     let g : k ≡ suc n + before j (drop (suc n) ts) = omega arith in
-    subst (λ m. k ≡ m + before j (drop m ts)) next g
+    rw next at g
 
 pub before_stopped : (ts : List Token) (j n : ℕ) (t : Token) → slice_get ts n ≡ Some t → j ≤ t.start
     → before j (drop n ts) ≡ 0
 before_stopped [] j n t h l = cc
-before_stopped (u ∷ ts) j zero t h l = let q : u ≡ t = cc in before_zero j u ts (subst (λ v. j ≤ v.start) (sym q) l)
+before_stopped (u ∷ ts) j zero t h l = let q : u ≡ t = cc in before_zero j u ts (rw q l)
 before_stopped (u ∷ ts) j (suc n) t h l = before_stopped ts j n t h l
 
 pub before_end : (ts : List Token) (j n : ℕ) → length ts ≤ n → before j (drop n ts) ≡ 0

@@ -1,6 +1,6 @@
 -- The readings of a scalar against the spellings of RFC 8259, over lists of bytes.
 use Rattle.std.specs.Prelude.{codes}
-use Rattle.cj_spans.proofs.Common.{◌≡◌, ℕ, ◌<◌, ◌≤◌, List, [], ◌∷◌, ◌++◌, length, Bool, true, false, cond, ◌&&◌, ◌||◌, not, nat_eq, nat_le, Option, Some, None, refl, sym, ap, subst, arith, ◌∙◌, ◌⊎◌, inl, inr, both_true, first_so, second_so, option_and_then, append-nil, nat_tests, Kind, Null, Truth, Number, Text, Lex, AfterN, AfterNu, AfterNul, NullDone, AfterT, AfterTr, AfterTru, AfterF, AfterFa, AfterFal, AfterFals, TruthDone, Minus, Zero, Whole, Point, Fraction, Mark, MarkSign, Exponent, InString, Escape, Hex4, Hex3, Hex2, Hex1, StringDone, IsScalar, is_plain, is_escape, is_hex, IsDigit, AllDigits, IsDigits, IsMinus, IsInt, IsFrac, IsExp, IsExpRest, IsNumber, IsBody, nothing, plain, escape, unicode, is_digit, lex_start, lex_step, lex_kind, hex, one, digit_or, mark, point_or_mark, sign_mark}
+use Rattle.cj_spans.proofs.Common.{◌≡◌, ℕ, ◌<◌, ◌≤◌, List, [], ◌∷◌, ◌++◌, length, Bool, true, false, cond, ◌&&◌, ◌||◌, not, nat_eq, nat_le, Option, Some, None, refl, sym, ap, subst, arith, ◌∙◌, ◌⊎◌, inl, inr, both_true, first_so, second_so, option_and_then, IsSomeAnd, append-nil, nat_tests, Kind, Null, Truth, Number, Text, Lex, AfterN, AfterNu, AfterNul, NullDone, AfterT, AfterTr, AfterTru, AfterF, AfterFa, AfterFal, AfterFals, TruthDone, Minus, Zero, Whole, Point, Fraction, Mark, MarkSign, Exponent, InString, Escape, Hex4, Hex3, Hex2, Hex1, StringDone, IsScalar, is_plain, is_escape, is_hex, IsDigit, AllDigits, IsDigits, IsMinus, IsInt, IsFrac, IsExp, IsExpRest, IsNumber, IsBody, nothing, plain, escape, unicode, is_digit, lex_start, lex_step, lex_kind, hex, digit_or, mark, point_or_mark, sign_mark}
 use Rattle.std.proofs.lemmas.Bool.{eqb-true, leb-true, le-leb, or_cases}
 
 pub none_some : {A B : Type 0} (x : A) → ◌≡◌ {A = Option A} None (Some x) → B
@@ -19,7 +19,7 @@ abbrev pub reading : List ℕ → Option Lex
 reading [] = None
 reading (c ∷ s) = option_and_then (lex_run s) (lex_start c)
 
-pub stepped : (f : Lex → Option Lex) (o : Option Lex) (y : Lex) → option_and_then f o ≡ Some y → (z : Lex)
+pub stepped : {A : Type 0} (f : A → Option A) (o : Option A) (y : A) → option_and_then f o ≡ Some y → (z : A)
     × (o ≡ Some z) × (f z ≡ Some y)
 stepped f None y h = none_some y h
 stepped f (Some z) y h = (z, refl, h)
@@ -59,15 +59,15 @@ or_two : (c d e : ℕ) → nat_eq c d || nat_eq c e ≡ true → (c ≡ d) ⊎ (
 or_two c d e h =
     elim (or_cases (nat_eq c d) (nat_eq c e) h) [ inl p ↦ inl (eqb-true c d p) | inr q ↦ inr (eqb-true c e q) ]
 
--- what holds of the reading that comes holds of the one behind a test that succeeds
-test_one : (P : Lex → Type 0) (v : Bool) (x y : Lex) → cond v (Some x) None ≡ Some y → P y → (v ≡ true) × P x
-test_one P true x y h p = (refl, subst P (sym (some_same x y h)) p)
-test_one P false x y h p = none_some y h
+-- the reading behind a test that succeeds
+test_one : (P : Lex → Type 0) (v : Bool) (x : Lex) → IsSomeAnd (cond v (Some x) None) P → (v ≡ true) × P x
+test_one P true x p = (refl, p)
+test_one P false x p = absurd p
 
-test_two : (P : Lex → Type 0) (v : Bool) (x : Lex) (o : Option Lex) (y : Lex) → cond v (Some x) o ≡ Some y → P y
-    → ((v ≡ true) × P x) ⊎ ((v ≡ false) × (o ≡ Some y))
-test_two P true x o y h p = inl (refl, subst P (sym (some_same x y h)) p)
-test_two P false x o y h p = inr (refl, h)
+test_two : (P : Lex → Type 0) (v : Bool) (x : Lex) (o : Option Lex) → IsSomeAnd (cond v (Some x) o) P
+    → ((v ≡ true) × P x) ⊎ ((v ≡ false) × IsSomeAnd o P)
+test_two P true x o p = inl (refl, p)
+test_two P false x o p = inr (refl, p)
 
 -- ---- what a spelling has behind a reading
 
@@ -145,10 +145,10 @@ more_digits c d t = record {
 -- ---- one byte before it
 
 front : {c d : ℕ} {r s : List ℕ} → (nat_eq c d ≡ true) × (r ≡ s) → c ∷ r ≡ d ∷ s
-front {c} {d} {r} q = ap (λ z. z ∷ r) (eqb-true c d q.0) ∙ ap (λ z. d ∷ z) q.1
+front {c} {d} q = cc (eqb-true c d q.0, q.1)
 
 behind : (P : List ℕ → Type 0) (c d : ℕ) (r : List ℕ) → (nat_eq c d ≡ true) × P (d ∷ r) → P (c ∷ r)
-behind P c d r q = subst (λ z. P (z ∷ r)) (sym (eqb-true c d q.0)) q.1
+behind P c d r q = rw (eqb-true c d q.0) q.1
 
 zero_first : (c : ℕ) (r : List ℕ) → (nat_eq c 48 ≡ true) × Tail r → Unsigned (c ∷ r)
 zero_first c r q = record { int = c ∷ []; rest = r; int_is = inl (eqb-true c 48 q.0, refl); tail = q.1; joined = refl }
@@ -164,29 +164,23 @@ whole_first c r q =
       joined = ap (λ z. c ∷ z) t.joined;
     }
 
-module _ (c : ℕ) (r : List ℕ) (y : Lex) (p : Rest r y) where
-  letter : (d : ℕ) (x : Lex) → one c d x ≡ Some y → (nat_eq c d ≡ true) × Rest r x
-  letter d x h = test_one (Rest r) (nat_eq c d) x y h p
+module _ (c : ℕ) (r : List ℕ) where
+  digit : (x : Lex) → IsSomeAnd (digit_or c x None) (Rest r) → IsDigit c × Rest r x
+  digit x p = let q = test_one _ _ x p in (between_is 48 c 57 q.0, q.1)
 
-  digit : (x : Lex) → digit_or c x None ≡ Some y → IsDigit c × Rest r x
-  digit x h = let q = test_one (Rest r) (is_digit c) x y h p in (between_is 48 c 57 q.0, q.1)
+  exp_from : IsSomeAnd (mark c) (Rest r) → IsExp (c ∷ r)
+  exp_from p = let q = test_one _ _ Mark p in (or_two c 101 69 q.0, q.1)
 
-  hex_digit : (x : Lex) → hex c x ≡ Some y → (is_hex c ≡ true) × Rest r x
-  hex_digit x h = test_one (Rest r) (is_hex c) x y h p
-
-  exp_from : mark c ≡ Some y → IsExp (c ∷ r)
-  exp_from h = let q = test_one (Rest r) (nat_eq c 101 || nat_eq c 69) Mark y h p in (or_two c 101 69 q.0, q.1)
-
-  tail_from : point_or_mark c ≡ Some y → Tail (c ∷ r)
-  tail_from h =
-      elim (test_two (Rest r) (nat_eq c 46) Point (mark c) y h p) [
+  tail_from : IsSomeAnd (point_or_mark c) (Rest r) → Tail (c ∷ r)
+  tail_from p =
+      elim (test_two _ (nat_eq c 46) Point (mark c) p) [
         | inl q ↦ behind Tail c 46 r q
         | inr q ↦ record { frac = []; exp = c ∷ r; frac_is = tt; exp_is = exp_from q.1; joined = refl }
       ]
 
-  sign_from : sign_mark c ≡ Some y → IsExpRest (c ∷ r)
-  sign_from h =
-      let q = test_one (Rest r) (nat_eq c 43 || nat_eq c 45) MarkSign y h p in
+  sign_from : IsSomeAnd (sign_mark c) (Rest r) → IsExpRest (c ∷ r)
+  sign_from p =
+      let q = test_one _ _ MarkSign p in
       record {
         sign = c ∷ [];
         digits = r;
@@ -198,36 +192,26 @@ module _ (c : ℕ) (r : List ℕ) (y : Lex) (p : Rest r y) where
         joined = refl;
       }
 
-  plain_from : nat_eq c 34 ≡ false → nat_eq c 92 ≡ false → cond (nat_le 32 c) (Some InString) None ≡ Some y
+  plain_from : nat_eq c 34 ≡ false → nat_eq c 92 ≡ false → IsSomeAnd (cond (nat_le 32 c) (Some InString) None) (Rest r)
       → BodyTail (c ∷ r)
-  plain_from f g h =
-      let q = test_one (Rest r) (nat_le 32 c) InString y h p in let t = q.1 in
+  plain_from f g p =
+      let q = test_one _ _ InString p in let t = q.1 in
       (c ∷ t.0, plain c t.0 (both_true q.0 (both_true (ap not f) (ap not g))) t.1, ap (λ z. c ∷ z) t.2)
 
-rest_before : (x : Lex) (c : ℕ) (r : List ℕ) (y : Lex) → lex_step x c ≡ Some y → Rest r y → Rest (c ∷ r) x
-rest_before AfterN c r y h p = front (letter c r y p 117 AfterNu h)
-rest_before AfterNu c r y h p = front (letter c r y p 108 AfterNul h)
-rest_before AfterNul c r y h p = front (letter c r y p 108 NullDone h)
-rest_before AfterT c r y h p = front (letter c r y p 114 AfterTr h)
-rest_before AfterTr c r y h p = front (letter c r y p 117 AfterTru h)
-rest_before AfterTru c r y h p = front (letter c r y p 101 TruthDone h)
-rest_before AfterF c r y h p = front (letter c r y p 97 AfterFa h)
-rest_before AfterFa c r y h p = front (letter c r y p 108 AfterFal h)
-rest_before AfterFal c r y h p = front (letter c r y p 115 AfterFals h)
-rest_before AfterFals c r y h p = front (letter c r y p 101 TruthDone h)
-rest_before Minus c r y h p =
-    elim (test_two (Rest r) (nat_eq c 48) Zero _ y h p) [
+rest_before : (x : Lex) (c : ℕ) (r : List ℕ) → IsSomeAnd (lex_step x c) (Rest r) → Rest (c ∷ r) x
+rest_before Minus c r p =
+    elim (test_two (Rest r) (nat_eq c 48) Zero _ p) [
       | inl q ↦ zero_first c r q
-      | inr q ↦ whole_first c r (test_one (Rest r) (nat_le 49 c && nat_le c 57) Whole y q.1 p)
+      | inr q ↦ whole_first c r (test_one (Rest r) (nat_le 49 c && nat_le c 57) Whole q.1)
     ]
-rest_before Zero c r y h p = tail_from c r y p h
-rest_before Whole c r y h p =
-    elim (test_two (Rest r) (is_digit c) Whole _ y h p) [
+rest_before Zero c r p = tail_from c r p
+rest_before Whole c r p =
+    elim (test_two (Rest r) (is_digit c) Whole _ p) [
       | inl q ↦ more_digits c (between_is 48 c 57 q.0) q.1
-      | inr q ↦ no_digits (c ∷ r) (tail_from c r y p q.1)
+      | inr q ↦ no_digits (c ∷ r) (tail_from c r q.1)
     ]
-rest_before Point c r y h p =
-    let q = digit c r y p Fraction h in let t = q.1 in
+rest_before Point c r p =
+    let q = digit c r Fraction p in let t = q.1 in
     record {
       frac = 46 ∷ c ∷ t.digits;
       exp = t.rest;
@@ -235,13 +219,13 @@ rest_before Point c r y h p =
       exp_is = t.rest_is;
       joined = ap (λ z. 46 ∷ c ∷ z) t.joined;
     }
-rest_before Fraction c r y h p =
-    elim (test_two (Rest r) (is_digit c) Fraction _ y h p) [
+rest_before Fraction c r p =
+    elim (test_two (Rest r) (is_digit c) Fraction _ p) [
       | inl q ↦ more_digits c (between_is 48 c 57 q.0) q.1
-      | inr q ↦ no_digits (c ∷ r) (exp_from c r y p q.1)
+      | inr q ↦ no_digits (c ∷ r) (exp_from c r q.1)
     ]
-rest_before Mark c r y h p =
-    elim (test_two (Rest r) (is_digit c) Exponent _ y h p) [
+rest_before Mark c r p =
+    elim (test_two (Rest r) (is_digit c) Exponent _ p) [
       | inl q ↦ record {
         sign = [];
         digits = c ∷ r;
@@ -249,33 +233,36 @@ rest_before Mark c r y h p =
         digits_are = (between_is 48 c 57 q.0, q.1);
         joined = refl;
       }
-      | inr q ↦ sign_from c r y p q.1
+      | inr q ↦ sign_from c r q.1
     ]
-rest_before MarkSign c r y h p = digit c r y p Exponent h
-rest_before Exponent c r y h p = digit c r y p Exponent h
-rest_before InString c r y h p =
-    elim (test_two (Rest r) (nat_eq c 34) StringDone _ y h p) [
+rest_before MarkSign c r p = digit c r Exponent p
+rest_before Exponent c r p = digit c r Exponent p
+rest_before InString c r p =
+    elim (test_two (Rest r) (nat_eq c 34) StringDone _ p) [
       | inl q ↦ ([], nothing, front q)
-      | inr q ↦ elim (test_two (Rest r) (nat_eq c 92) Escape _ y q.1 p) [
+      | inr q ↦ elim (test_two (Rest r) (nat_eq c 92) Escape _ q.1) [
         | inl s ↦ behind BodyTail c 92 r s
-        | inr s ↦ plain_from c r y p q.0 s.0 s.1
+        | inr s ↦ plain_from c r q.0 s.0 s.1
       ]
     ]
-rest_before Escape c r y h p =
-    elim (test_two (Rest r) (is_escape c) InString _ y h p) [
+rest_before Escape c r p =
+    elim (test_two (Rest r) (is_escape c) InString _ p) [
       | inl q ↦ let t = q.1 in (92 ∷ c ∷ t.0, escape c t.0 q.0 t.1, ap (λ z. 92 ∷ c ∷ z) t.2)
-      | inr q ↦ behind (λ z. BodyTail (92 ∷ z)) c 117 r (test_one (Rest r) (nat_eq c 117) Hex4 y q.1 p)
+      | inr q ↦ behind (λ z. BodyTail (92 ∷ z)) c 117 r (test_one (Rest r) (nat_eq c 117) Hex4 q.1)
     ]
-rest_before Hex4 c r y h p = let q = hex_digit c r y p Hex3 h in q.1 c q.0
-rest_before Hex3 c r y h p = let q = hex_digit c r y p Hex2 h in λ i e. q.1 i c (both_true e q.0)
-rest_before Hex2 c r y h p = let q = hex_digit c r y p Hex1 h in λ i j e. q.1 i j c (both_true e q.0)
-rest_before Hex1 c r y h p =
-    let q = hex_digit c r y p InString h in let t = q.1 in λ i j k e. (
+rest_before Hex4 c r p = let q = test_one (Rest r) (is_hex c) Hex3 p in q.1 c q.0
+rest_before Hex3 c r p = let q = test_one (Rest r) (is_hex c) Hex2 p in λ i e. q.1 i c (both_true e q.0)
+rest_before Hex2 c r p = let q = test_one (Rest r) (is_hex c) Hex1 p in λ i j e. q.1 i j c (both_true e q.0)
+rest_before Hex1 c r p =
+    let q = test_one (Rest r) (is_hex c) InString p in let t = q.1 in λ i j k e. (
       92 ∷ 117 ∷ i ∷ j ∷ k ∷ c ∷ t.0,
       unicode i j k c t.0 (both_true e q.0) t.1,
       ap (λ z. 92 ∷ 117 ∷ i ∷ j ∷ k ∷ c ∷ z) t.2,
     )
-rest_before _ c r y h p = none_some y h
+rest_before NullDone c r p = absurd p
+rest_before TruthDone c r p = absurd p
+rest_before StringDone c r p = absurd p
+rest_before _ c r p = front (test_one (Rest r) _ _ p)
 
 -- where a scalar may end, nothing need follow
 rest_none : (x : Lex) (k : Kind) → lex_kind x ≡ Some k → Rest [] x
@@ -297,14 +284,14 @@ kind_stays AfterN c y h = grind (arith)
 kind_stays _ c y h = grind (arith)
 
 pub run_kind : (r : List ℕ) (x y : Lex) → lex_run r x ≡ Some y → kind_of_lex y ≡ kind_of_lex x
-run_kind [] x y h = ap kind_of_lex (sym (some_same x y h))
-run_kind (c ∷ r) x y h = let w = stepped (lex_run r) (lex_step x c) y h in
+run_kind [] x y h = cc (some_same x y h)
+run_kind (c ∷ r) x y h = let w = stepped _ _ y h in
     run_kind r w.0 y w.2 ∙ kind_stays x c w.0 w.1
 
 rest_of : (r : List ℕ) (x y : Lex) (k : Kind) → lex_run r x ≡ Some y → lex_kind y ≡ Some k → Rest r x
 rest_of [] x y k h d = rest_none x k (ap lex_kind (some_same x y h) ∙ d)
 rest_of (c ∷ r) x y k h d = let w = stepped (lex_run r) (lex_step x c) y h in
-    rest_before x c r w.0 w.1 (rest_of r w.0 y k w.2 d)
+    rest_before x c r (rw w.1 (rest_of r w.0 y k w.2 d))
 
 -- ---- all scalars
 
@@ -321,25 +308,25 @@ number minus m u = record {
   joined = ap (λ z. minus ++ z) (u.joined ∙ ap (λ z. u.int ++ z) u.tail.joined);
 }
 
-scalar_from : (c : ℕ) (r : List ℕ) (z : Lex) (k : Kind) → lex_start c ≡ Some z → Rest r z → kind_of_lex z ≡ k
-    → IsScalar k (c ∷ r)
-scalar_from c r z k h p e =
+scalar_from : (c : ℕ) (r : List ℕ) (k : Kind)
+    → IsSomeAnd (lex_start c) (λ x. Rest r x × (kind_of_lex x ≡ k)) → IsScalar k (c ∷ r)
+scalar_from c r k p =
     let P : Lex → Type 0 = λ x. Rest r x × (kind_of_lex x ≡ k) in
     let at : Kind → Type 0 = λ j. IsScalar j (c ∷ r) in
-    elim (test_two P (nat_eq c 110) AfterN _ z h (p, e)) [
+    elim (test_two P (nat_eq c 110) AfterN _ p) [
       | inl q ↦ subst at q.1.1 (front (q.0, q.1.0))
-      | inr h1 ↦ elim (test_two P (nat_eq c 116) AfterT _ z h1.1 (p, e)) [
+      | inr h1 ↦ elim (test_two P (nat_eq c 116) AfterT _ h1.1) [
         | inl q ↦ subst at q.1.1 (inl (front (q.0, q.1.0)))
-        | inr h2 ↦ elim (test_two P (nat_eq c 102) AfterF _ z h2.1 (p, e)) [
+        | inr h2 ↦ elim (test_two P (nat_eq c 102) AfterF _ h2.1) [
           | inl q ↦ subst at q.1.1 (inr (front (q.0, q.1.0)))
-          | inr h3 ↦ elim (test_two P (nat_eq c 45) Minus _ z h3.1 (p, e)) [
+          | inr h3 ↦ elim (test_two P (nat_eq c 45) Minus _ h3.1) [
             | inl q ↦ subst at q.1.1 (number (c ∷ []) (inr (front (q.0, refl))) q.1.0)
-            | inr h4 ↦ elim (test_two P (nat_eq c 48) Zero _ z h4.1 (p, e)) [
+            | inr h4 ↦ elim (test_two P (nat_eq c 48) Zero _ h4.1) [
               | inl q ↦ subst at q.1.1 (number [] (inl refl) (zero_first c r (q.0, q.1.0)))
-              | inr h5 ↦ elim (test_two P (nat_le 49 c && nat_le c 57) Whole _ z h5.1 (p, e)) [
+              | inr h5 ↦ elim (test_two P (nat_le 49 c && nat_le c 57) Whole _ h5.1) [
                 | inl q ↦ subst at q.1.1 (number [] (inl refl) (whole_first c r (q.0, q.1.0)))
                 | inr h6 ↦
-                    let q = test_one P (nat_eq c 34) InString z h6.1 (p, e) in let t = q.1.0 in
+                    let q = test_one P (nat_eq c 34) InString h6.1 in let t = q.1.0 in
                     subst at q.1.1 (record { body = t.0; body_is = t.1; joined = front (q.0, t.2) })
               ]
             ]
@@ -351,7 +338,7 @@ scalar_from c r z k h p e =
 pub reading_sound : (s : List ℕ) (x : Lex) (k : Kind) → reading s ≡ Some x → lex_kind x ≡ Some k → IsScalar k s
 reading_sound [] x k h d = none_some x h
 reading_sound (c ∷ r) x k h d = let w = stepped (lex_run r) (lex_start c) x h in
-    scalar_from c r w.0 k w.1 (rest_of r w.0 x k w.2 d) (sym (run_kind r w.0 x w.2) ∙ kind_done x k d)
+    scalar_from c r k (rw w.1 (rest_of r w.0 x k w.2 d, sym (run_kind r w.0 x w.2) ∙ kind_done x k d))
 
 -- ---- a spelling is read to its end
 
@@ -376,13 +363,13 @@ pub plain_goes : (c : ℕ) → is_plain c ≡ true → lex_step InString c ≡ S
 plain_goes c h = grind (arith)
 
 pub escape_goes : (c : ℕ) → is_escape c ≡ true → lex_step Escape c ≡ Some InString
-escape_goes c h = ap (λ v. cond v (Some InString) (cond (nat_eq c 117) (Some Hex4) None)) h
+escape_goes c h = cc
 
 pub hex_goes : (c : ℕ) (x : Lex) → is_hex c ≡ true → hex c x ≡ Some x
-hex_goes c x h = ap (λ v. cond v (Some x) None) h
+hex_goes c x h = cc
 
 digit_goes : (y : Lex) (c : ℕ) (other : Option Lex) → IsDigit c → digit_or c y other ≡ Some y
-digit_goes y c other d = ap (λ v. cond v (Some y) other) (between_test d.0 d.1)
+digit_goes y c other d = cc (between_test d.0 d.1)
 
 body_ends : {s : List ℕ} → IsBody s → Ends Text (s ++ 34 ∷ []) (Some InString)
 body_ends nothing = later 34 StringDone refl (ended StringDone refl)
@@ -407,14 +394,14 @@ digits_end : {x : Lex} → ((c : ℕ) → IsDigit c → lex_step x c ≡ Some Ex
     → Ends Number s (Some x)
 digits_end go [] h = absurd h
 digits_end go (c ∷ s) h =
-    later c Exponent (go c h.0) (subst (λ t. Ends Number t (Some Exponent)) (append-nil s)
+    later c Exponent (go c h.0) (rw (append-nil s) at
     (digits_pass (λ c h. digit_goes Exponent c None h) s h.1 (ended Exponent refl)))
 
 rest_ends : {s : List ℕ} → IsExpRest s → Ends Number s (Some Mark)
 rest_ends h =
     let P : List ℕ → Type 0 = λ t. Ends Number (t ++ h.digits) (Some Mark) in
     let behind_sign = digits_end (λ c h. digit_goes Exponent c None h) h.digits h.digits_are in
-    subst (λ t. Ends Number t (Some Mark)) (sym h.joined) (elim h.sign_is [
+    rw h.joined (elim h.sign_is [
       | inl n ↦ subst P (sym n) (digits_end (λ c h. digit_goes Exponent c _ h) h.digits h.digits_are)
       | inr (inl p) ↦ subst P (sym p) (later 43 MarkSign refl behind_sign)
       | inr (inr m) ↦ subst P (sym m) (later 45 MarkSign refl behind_sign)
@@ -439,8 +426,7 @@ int_part : (g : ℕ → Option Lex) → g 48 ≡ Some Zero → ((c : ℕ) → na
     → (c : ℕ) (i f s : List ℕ) → IsInt (c ∷ i) → IsFrac f → IsExp s → Ends Number (i ++ (f ++ s)) (g c)
 int_part g zero whole c i f s h a b =
     elim h [
-      | inl z ↦ ends_by Zero (ap g z.0 ∙ zero) (subst (λ t. Ends Number (t ++ (f ++ s)) (Some Zero)) (sym z.1)
-          (frac_part refl refl refl refl f s a b))
+      | inl z ↦ ends_by Zero (ap g z.0 ∙ zero) (rw z.1 (frac_part refl refl refl refl f s a b))
       | inr d ↦ ends_by Whole (whole c (between_test d.0 d.1)) (digits_pass (λ c h. digit_goes Whole c _ h) i d.2
           (frac_part refl refl refl refl f s a b))
     ]
@@ -461,7 +447,7 @@ number_read m (c ∷ i) f s n h a b =
     elim n [
       | inl e ↦ subst P (sym e) (first_read c (int_part lex_start refl first_digit c i f s h a b))
       | inr e ↦
-          let d = int_part (lex_step Minus) refl minus_digit c i f s h a b in
+          let d = int_part _ refl minus_digit c i f s h a b in
           subst P (sym e) (record { last = d.last; run = d.run; kind = d.kind })
     ]
   where
@@ -525,16 +511,16 @@ and_some (Some z) = refl
 run-append : (s r : List ℕ) (o : Option Lex) (x : Lex) → option_and_then (lex_run s) o ≡ Some x
     → option_and_then (lex_run (s ++ r)) o ≡ lex_run r x
 run-append s r None x h = none_some x h
-run-append [] r (Some y) x h = let e : y ≡ x = cc in ap (lex_run r) e
-run-append (d ∷ s) r (Some y) x h = run-append s r (lex_step y d) x h
+run-append [] r (Some y) x h = let e : y ≡ x = cc in cc
+run-append (d ∷ s) r (Some y) x h = run-append s r _ x h
 
 pub reading-append : (s r : List ℕ) (x : Lex) → reading s ≡ Some x → reading (s ++ r) ≡ lex_run r x
 reading-append [] r x h = none_some x h
-reading-append (d ∷ s) r x h = run-append s r (lex_start d) x h
+reading-append (d ∷ s) r x h = run-append s r _ x h
 
 -- one byte more
 pub reading-more : (s : List ℕ) (c : ℕ) (x : Lex) → reading s ≡ Some x → reading (s ++ c ∷ []) ≡ lex_step x c
-reading-more s c x h = reading-append s (c ∷ []) x h ∙ and_some (lex_step x c)
+reading-more s c x h = reading-append s _ x h ∙ and_some _
 
 pub record Prefix (s : List ℕ) : Type 0 where
   pub last : Lex

@@ -9,10 +9,9 @@ use Rattle.cj_spans.proofs.Facts.{IsLawful, goes, lawful_reaches, lawful_settles
 
 empty_settles : (b : List ℕ) {ks : List ℕ} {ts : List Token} → ts ≡ [] → ks ≡ []
     → ComesTo b start (idle Ready ks ts 0 0)
-empty_settles b {ts} e f =
+empty_settles b e f =
     let base : ComesTo b start start = record { last = start; reached = here; settles = refl; same = λ l. refl } in
-    subst (λ z. ComesTo b start (idle Ready z ts 0 0)) (sym f)
-    (subst (λ z. ComesTo b start (idle Ready [] z 0 0)) (sym e) base)
+    rw f (rw e base)
 
 pub standing_first : (b : List ℕ) (tokens : BoundedList Token) (stack : BoundedList ℕ) → IsWithin tokens
     → IsWithin stack → tokens.elements ≡ [] → stack.elements ≡ [] → Standing b tokens stack tokens stack Ready 0
@@ -20,7 +19,7 @@ standing_first b tokens stack w v e f = record {
   deepest = 0;
   settles = empty_settles b e f;
   place = omega arith;
-  kept = record { limit = refl; peak = let g = w.below_peak in omega arith; room = λ r. r; within = w };
+  kept = record { limit = refl; peak = omega arith; room = λ r. r; within = w };
   stack_limit = refl;
   stack_peak = omega arith;
   stack_room = λ r. r;
@@ -33,7 +32,7 @@ count_of : (m : Mode) (ks : List ℕ) (ts : List Token) (i p : ℕ) → IsLawful
     → 2 * length ts ≤ suc i + length ks
 count_of After ks ts i p l = l.token_count
 count_of AfterName ks ts i p l = l.token_count
-count_of _ ks ts i p l = let c = l.token_count in omega arith
+count_of _ ks ts i p l = omega arith
 
 pub count_before : (m : Mode) (ks : List ℕ) (ts : List Token) (i p : ℕ) → IsLawful (idle m ks ts i p) → BeginsValue m
     → 2 * length ts ≤ i + length ks
@@ -56,14 +55,11 @@ room_left : (b : List ℕ) {tokens0 tokens : BoundedList Token} (stack0 stack : 
     → (length b + stack0.limit + 1) / 2 ≤ tokens0.limit → i < length b
     → 2 * length tokens.elements ≤ i + length stack.elements → length tokens.elements < tokens.limit
 room_left b {tokens0} {tokens} stack0 stack i k e w r l c =
-    let p = w.below_peak in let q = w.below_limit in
-    subst (λ n. length tokens.elements < n) (sym k.limit)
-    (half_room (length tokens.elements) i (length b) (length stack.elements) stack0.limit tokens0.limit c l
+    rw k.limit (half_room (length tokens.elements) i (length b) (length stack.elements) stack0.limit tokens0.limit c l
     (omega arith) r)
 
 pub kept_both : {x y z : BoundedList Token} → Kept x y → Grown y z → Kept x z
 kept_both k g =
-    let a = k.peak in let c = g.kept.peak in
     record {
       limit = g.kept.limit ∙ k.limit;
       peak = omega arith;
@@ -92,7 +88,7 @@ count_after : (m : Mode) (i p : ℕ) (v : Move) (ks : List ℕ) (ts : List Token
 count_after m i p Stay ks ts l = count_of m ks ts (suc i) p l
 count_after m i p (To n) ks ts l = count_of n ks ts (suc i) p l
 count_after m i p (Open n) ks ts l = count_of n ks ts (suc i) p l
-count_after m i p (Atom n x) ks ts l = let c = l.token_count in omega arith
+count_after m i p (Atom n x) ks ts l = omega arith
 
 -- a run goes on
 pub settles_both : {b : List ℕ} {s t u : State} → Reaches b s t → ComesTo b t u → ComesTo b s u
@@ -103,16 +99,15 @@ sticks_both r h =
     record { last = h.last; reached = reaches_both r h.reached; at = h.at; within = h.within; stuck = h.stuck }
 
 pub kept_same : (x : BoundedList ℕ) → IsWithin x → Kept x x
-kept_same x w = let g = w.below_peak in record { limit = refl; peak = omega arith; room = λ r. r; within = w }
+kept_same x w = record { limit = refl; peak = omega arith; room = λ r. r; within = w }
 
 pub grown_same : (x : BoundedList Token) → IsWithin x → Grown x x
-grown_same x w = let g = w.below_peak in
+grown_same x w =
     record { kept = record { limit = refl; peak = omega arith; room = λ r. r; within = w }; longer = omega arith }
 
 -- one token more
 pub grown_more : (x z : BoundedList Token) (t : Token) → IsWithin x → Becomes x (x.elements ++ t ∷ []) z → Grown x z
 grown_more x z t w e =
-    let g = w.below_peak in let c = e.peak in
     let n : length z.elements ≡ length x.elements + 1 = ap length e.elements ∙ length-append x.elements (t ∷ []) in
     let f = length-append x.elements (t ∷ []) in
     record {
@@ -180,10 +175,9 @@ module _ {b : List ℕ} {tokens0 : BoundedList Token} {stack0 : BoundedList ℕ}
   standing_step {tokens1} {stack1} v l g k h =
       let u = state (phase_after m i v) stack1.elements tokens1.elements (suc i)
       (deepest_after v s.deepest (length stack1.elements)) in
-      let q : step (byte b s.settles.last.place) s.settles.last ≡ Some u =
-      ap (λ n. step (byte b n) s.settles.last) standing_last.place ∙ s.settles.same l ∙ h s.deepest in
+      let q : step (byte b s.settles.last.place) s.settles.last ≡ Some u = cc
+      (standing_last.place, s.settles.same l, h s.deepest) in
       let d = (goes u (byte b i) standing_lawful (h s.deepest)).deepest in
-      let a = s.stack_peak in let c = k.peak in
       record {
         deepest = deepest_after v s.deepest (length stack1.elements);
         reached = on s.settles.last u s.settles.reached q;
@@ -198,11 +192,10 @@ module _ {b : List ℕ} {tokens0 : BoundedList Token} {stack0 : BoundedList ℕ}
   pub standing_law : {tokens1 : BoundedList Token} {stack1 : BoundedList ℕ} → Grown tokens tokens1 → Kept stack stack1
       → tokens1 ≡ tokens → stack1 ≡ stack → KeepsLaw b tokens0 tokens1 stack0 stack1
   standing_law {tokens1} {stack1} g k e x =
-      let l : length stack1.elements ≡ length stack.elements = ap (λ z. length z.elements) x in
+      let l : length stack1.elements ≡ length stack.elements = cc x in
       let c = count_of m stack.elements tokens.elements i s.deepest standing_lawful in
       let z = kept_both s.kept g in
-      let f : length tokens1.elements ≡ length tokens.elements = ap (λ t. length t.elements) e in
-      let a = s.stack_peak in let d = k.peak in
+      let f : length tokens1.elements ≡ length tokens.elements = cc e in
       record {
         law = omega arith;
         token_limit = z.limit;
@@ -226,10 +219,9 @@ module _ {b : List ℕ} {tokens0 : BoundedList Token} {stack0 : BoundedList ℕ}
   standing_fault X tokens1 (NotUtf8 j) l h x = h 0
   standing_fault X tokens1 {stack1} (Syntax j) l h x =
       let a = h s.deepest in
-      let q : step (byte b j) s.settles.last ≡ None = ap (λ n. step (byte b n) s.settles.last) a.0 ∙ s.settles.same l
-      ∙ a.1 in
-      let ji = a.0 in let e = standing_last in let r = standing_shallow in
-      let same : stack1.peak ≡ stack.peak = ap (λ z. z.peak) x in let c = s.stack_peak in (
+      let q : step (byte b j) s.settles.last ≡ None = cc (a.0, s.settles.same l, a.1) in
+      let e = standing_last in let r = standing_shallow in
+      let same : stack1.peak ≡ stack.peak = cc x in (
         record {
           sticks = record {
             last = s.settles.last;
@@ -245,11 +237,10 @@ module _ {b : List ℕ} {tokens0 : BoundedList Token} {stack0 : BoundedList ℕ}
   standing_fault X tokens1 {stack1} (TooDeep j) l h x =
       let t = idle m stack.elements tokens.elements i s.deepest in
       let a = h s.deepest in
-      let q : step (byte b j) s.settles.last ≡ read m (byte b i) t = ap (λ n. step (byte b n) s.settles.last) a.0
-      ∙ s.settles.same l in
-      let ji = a.0 in let e = standing_last in let r = standing_shallow in
-      let same : stack1.peak ≡ stack.peak = ap (λ z. z.peak) x in let c = s.stack_peak in
-      let P : ℕ → Type 0 = λ n. IsSomeAnd (read m (byte b i) t) (λ u. length u.stack ≡ suc n) in
+      let q : step (byte b j) s.settles.last ≡ read m (byte b i) t = cc (a.0, s.settles.same l) in
+      let e = standing_last in let r = standing_shallow in
+      let same : stack1.peak ≡ stack.peak = cc x in let P : ℕ
+      → Type 0 = λ n. IsSomeAnd (read m (byte b i) t) (λ u. length u.stack ≡ suc n) in
       let Q : Option State → Type 0 = λ o. IsSomeAnd o (λ u. length u.stack ≡ suc stack0.limit) in (
         record {
           last = s.settles.last;
@@ -268,7 +259,6 @@ module _ {b : List ℕ} {tokens0 : BoundedList Token} {stack0 : BoundedList ℕ}
   ended_fault l n =
       let t = idle m stack.elements tokens.elements i s.deepest in
       let e = standing_last in let r = standing_shallow in
-      let c = s.stack_peak in
       let w = s.place in (
         record {
           sticks = record {
@@ -326,8 +316,7 @@ module _ {b : List ℕ} {tokens0 : BoundedList Token} {stack0 : BoundedList ℕ}
   stepped_law {tokens1} l g e =
       let c = stepped_count in
       let z = kept_both s.kept g in
-      let f : length tokens1.elements ≡ length tokens.elements = ap (λ t. length t.elements) e in
-      let a = s.stack_peak in
+      let f : length tokens1.elements ≡ length tokens.elements = cc e in
       record {
         law = omega arith;
         token_limit = z.limit;
@@ -348,8 +337,8 @@ module _ {b : List ℕ} {tokens0 : BoundedList Token} {stack0 : BoundedList ℕ}
   stepped_fault X tokens1 (Syntax j) h =
       let a = h s.deepest in
       let r = shallow_at s.deepest stack0.peak s.stack_peak s.stack_within.below_limit s.stack_limit in (
-        record { sticks = sticks_both s.reached a.sticks; shallow = subst (λ n. n ≤ stack0.limit) (sym a.flat) r },
-        subst (λ n. stack.peak ≡ max stack0.peak n) (sym a.flat) s.stack_peak,
+        record { sticks = sticks_both s.reached a.sticks; shallow = rw a.flat r },
+        rw a.flat s.stack_peak,
       )
 
 -- a test that failed

@@ -1,5 +1,5 @@
 -- One byte, in the code and in the machine.
-use Rattle.cj_spans.proofs.Common.{◌⊎◌, inl, inr, ◌≡◌, refl, Mode, Ready, FirstItem, After, FirstName, NextName, AfterName}
+use Rattle.cj_spans.proofs.Common.{◌⊎◌, inl, inr, ◌≡◌, refl, arith, Mode, Ready, FirstItem, After, FirstName, NextName, AfterName}
 
 -- the mode that is left where a value may come, or what follows one
 pub left_after : {m : Mode} → (m ≡ Ready) ⊎ ((m ≡ FirstItem) ⊎ (m ≡ After)) → (m ≡ Ready → ⊥) → (m ≡ FirstItem → ⊥)
@@ -11,9 +11,5 @@ left_after (inr (inr e)) p q = e
 -- the mode that is left where a name or a colon may come
 pub left_colon : (m : Mode) → (m ≡ Ready → ⊥) × (m ≡ FirstItem → ⊥) × (m ≡ After → ⊥) → (m ≡ FirstName → ⊥)
     → (m ≡ NextName → ⊥) → m ≡ AfterName
-left_colon Ready n p q = absurd (n.0 refl)
-left_colon FirstItem n p q = absurd (n.1 refl)
-left_colon After n p q = absurd (n.2 refl)
-left_colon FirstName n p q = absurd (p refl)
-left_colon NextName n p q = absurd (q refl)
 left_colon AfterName n p q = refl
+left_colon _ n p q = absurd (grind arith)

@@ -1,5 +1,5 @@
 -- The characters between the quotes of a string stand for code points.
-use Rattle.cj_spans.proofs.Common.{◌≡◌, ℕ, zero, suc, ◌-◌, ◌<◌, ◌≤◌, List, [], ◌∷◌, ◌++◌, length, take, get_or, Bool, true, false, ◌&&◌, inl, inr, nat_eq, refl, sym, ap, subst, arith, ◌∙◌, length-append, take-length, first_so, second_so, append-nil, take-append-le, nat_tests, encode_utf8, is_plain, is_escape, is_hex, IsBody, nothing, plain as plain_byte, escape, unicode, IsString, char_of, four_digits, unit, is_unicode, is_pair, body_of}
+use Rattle.cj_spans.proofs.Common.{◌≡◌, ℕ, zero, suc, ◌-◌, ◌<◌, ◌≤◌, List, [], ◌∷◌, ◌++◌, length, get_or, Bool, true, false, ◌&&◌, inl, inr, nat_eq, refl, sym, ap, subst, arith, ◌∙◌, length-append, take-length, first_so, second_so, append-nil, take-append-le, nat_tests, encode_utf8, is_plain, is_escape, is_hex, IsBody, nothing, plain as plain_byte, escape, unicode, IsString, char_of, four_digits, unit, is_unicode, is_pair, body_of}
 use Rattle.std.proofs.lemmas.Bool.{cases_lt, eqb-true}
 use Rattle.std.proofs.lemmas.Str.{encode_ascii, inside_one, cons_from_encodes, chars-encodes, IsUtf8-past_char, IsUtf8-take, IsCharBoundary-before_ascii}
 use Rattle.std.specs.Str.{chars, IsUtf8, encode_utf8_all}
@@ -16,7 +16,7 @@ data BodyBegins (b : ℕ) (r : List ℕ) : Type 0 where
 body_begins : {s : List ℕ} → IsBody s → (b : ℕ) (r : List ℕ) → s ≡ b ∷ r → BodyBegins b r
 body_begins nothing b r e = cc
 body_begins (plain_byte c s p y) b r e = let x : c ≡ b = cc in let z : s ≡ r = cc in
-    by_plain (subst (λ d. is_plain d ≡ true) x p) (subst IsBody z y)
+    by_plain (rw x at p) (subst IsBody z y)
 body_begins (escape c s p y) b r e = let x : 92 ≡ b = cc in let z : c ∷ s ≡ r = cc in by_escape (sym x) c s (sym z) p y
 body_begins (unicode h i j k s p y) b r e = let x : 92 ≡ b = cc in let z : 117 ∷ h ∷ i ∷ j ∷ k ∷ s ≡ r = cc in
     by_unicode (sym x) h i j k s (sym z) p y
@@ -144,9 +144,8 @@ unit_pair : (h i j k : ℕ) {es : List ℕ}
 unit_pair h i j k {es} ih a b f =
     let g : length f.after ≤ length es = let e = ap (λ (xs : List ℕ). length xs) f.is in omega arith in
     let r = ih f.after g f.body in
-    let low = subst (λ xs. is_low_surrogate (unit xs) ≡ true) f.is b in
-    subst (λ xs. Stands (92 ∷ 117 ∷ h ∷ i ∷ j ∷ k ∷ xs)) (sym f.is)
-    (_, pair h i j k f.l f.m f.n f.o f.after r.0 a low r.1)
+    let low = rw f.is at b in
+    rw f.is (_, pair h i j k f.l f.m f.n f.o f.after r.0 a low r.1)
 
 unit_case : (h i j k : ℕ) (es : List ℕ)
     → ((ds : List ℕ) → length ds ≤ length es → IsBody (encode_utf8_all ds) → Stands ds) → IsBody (encode_utf8_all es)
@@ -161,18 +160,17 @@ unit_case h i j k es ih y false e = let r = ih es (omega arith) y in
 ascii_case : {c : ℕ} (cs : List ℕ) → ((ds : List ℕ) → length ds ≤ length cs → IsBody (encode_utf8_all ds) → Stands ds)
     → BodyBegins c (encode_utf8_all cs) → Stands (c ∷ cs)
 ascii_case {c} cs ih (by_plain p y) = let r = ih cs (omega arith) y in (c ∷ r.0, plain c cs r.0 (plain_other c p) r.1)
-ascii_case {c} cs ih (by_escape q e s f p y) =
+ascii_case cs ih (by_escape q e s f p y) =
     let a = next cs e s (escape_small e p) f in
     let g : length a.after ≤ length cs = let z = ap (λ (xs : List ℕ). length xs) a.is in omega arith in
     let r = ih a.after g (subst IsBody (sym a.left) y) in
-    subst (λ xs. Stands (c ∷ xs)) (sym a.is)
-    (subst (λ d. Stands (d ∷ e ∷ a.after)) (sym q) (_, letter e a.after r.0 (escape_other e p) r.1))
-ascii_case {c} cs ih (by_unicode q h i j k s f p y) =
+    rw a.is (rw q (_, letter e a.after r.0 (escape_other e p) r.1))
+ascii_case cs ih (by_unicode q h i j k s f p y) =
     let a = unit4 cs h i j k s f p in
     let g : length a.after ≤ length cs = let z = ap (λ (xs : List ℕ). length xs) a.is in omega arith in
     let r = unit_case h i j k a.after (λ ds l b. ih ds (omega arith) b) (subst IsBody (sym a.left) y)
     (is_pair (92 ∷ 117 ∷ h ∷ i ∷ j ∷ k ∷ a.after)) refl in
-    subst (λ xs. Stands (c ∷ xs)) (sym a.is) (subst (λ d. Stands (d ∷ 117 ∷ h ∷ i ∷ j ∷ k ∷ a.after)) (sym q) r)
+    rw a.is (rw q r)
 
 stands : (n : ℕ) (cs : List ℕ) → length cs ≤ n → IsBody (encode_utf8_all cs) → Stands cs
 stands n [] l y = ([], done)
@@ -180,7 +178,7 @@ stands zero (c ∷ cs) l y = absurd (omega arith)
 stands (suc n) (c ∷ cs) l y =
     elim (cases_lt c 128) [
       | inl m ↦ ascii_case cs (λ ds g b. stands n ds (omega arith) b)
-          (body_begins (subst (λ xs. IsBody (xs ++ encode_utf8_all cs)) (encode_ascii c m) y) c (encode_utf8_all cs)
+          (body_begins (rw (encode_ascii c m) at y) c (encode_utf8_all cs)
           refl)
       | inr g ↦ let r = stands n cs (omega arith) (strip (encode_utf8 c) (encode_utf8_all cs) (long_bytes c g) y) in
           let p : nat_eq c 92 ≡ false = grind (arith, nat_tests) in (c ∷ r.0, plain c cs r.0 p r.1)
@@ -194,7 +192,7 @@ body-joined : (body : List ℕ) → body_of (34 ∷ (body ++ 34 ∷ [])) ≡ bod
 body-joined body =
     let e = length-append body (34 ∷ []) in
     let f : length (34 ∷ (body ++ 34 ∷ [])) - 1 - 1 ≡ length body = omega arith in
-    ap (λ n. take n (body ++ 34 ∷ [])) f ∙ take-append-le (length body) body (34 ∷ []) (omega arith) ∙ take-length body
+    cc (take-append-le (length body) body (34 ∷ []) (omega arith), take-length body)
 
 utf8_body : (body : List ℕ) → IsUtf8 (34 ∷ (body ++ 34 ∷ [])) → IsUtf8 body
 utf8_body body u =
@@ -212,6 +210,5 @@ text_told {s} h u =
     let v = utf8_body b (subst IsUtf8 h.joined u) in
     let y = subst IsBody (sym v.1.1) h.body_is in
     let r = stands (length v.0) v.0 (omega arith) y in
-    let e : chars (body_of s) ≡ v.0 = ap (λ xs. chars (body_of xs)) h.joined ∙ ap chars (body-joined b ∙ sym v.1.1)
-    ∙ chars-encodes v.0 v.1.0 in
-    (r.0, subst (λ cs. StandFor cs r.0) (sym e) r.1)
+    let e : chars (body_of s) ≡ v.0 = cc (h.joined, body-joined b, v.1.1, chars-encodes v.0 v.1.0) in
+    (r.0, rw e r.1)

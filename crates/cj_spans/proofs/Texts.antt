@@ -27,8 +27,7 @@ at_drop bs i h = rw (add-one, drop-cons bs i 0)
 -- the first byte says how many more come, and has the first bits
 lead : (bs : List ℕ) (i n c : ℕ) → i < length bs → continuation_len (get_or bs i 0) ≡ n → lead_bits (get_or bs i 0) ≡ c
     → chars (drop i bs) ≡ chars_after n c (drop (i + 1) bs)
-lead bs i n c h e f = ap chars (at_drop bs i h) ∙ first_of (get_or bs i 0) (drop (i + 1) bs)
-    ∙ (λ k. chars_after (e k) (f k) (drop (i + 1) bs))
+lead bs i n c h e f = cc (at_drop bs i h, first_of (get_or bs i 0) (drop (i + 1) bs))
 
 pub lead_one : (bs : List ℕ) (i : ℕ) → i < length bs → get_or bs i 0 < 128
     → chars (drop i bs) ≡ chars_after 0 (get_or bs i 0) (drop (i + 1) bs)
@@ -180,14 +179,13 @@ drop_width : (c : ℕ) (cs : List ℕ) (w : ℕ) → 0 < w
     → code_points_after (w - 1) cs ≡ code_points_after 0 (drop w (c ∷ cs))
 drop_width c cs zero h = absurd (omega arith)
 drop_width c cs (suc n) h =
-    let k : suc n - 1 ≡ n = omega arith in ap (λ m. code_points_after m cs) k ∙ points_drop n cs
+    let k : suc n - 1 ≡ n = omega arith in cc (points_drop n cs)
 
 pub points_cons : (c : ℕ) (cs : List ℕ)
     → code_points_after 0 (c ∷ cs) ≡ first_code_point (c ∷ cs) ∷ code_points_after 0
     (drop (first_width (c ∷ cs)) (c ∷ cs))
 unfolding code_points_after
-points_cons c cs =
-    ap (λ ps. first_code_point (c ∷ cs) ∷ ps) (drop_width c cs (first_width (c ∷ cs)) (width_some (c ∷ cs)))
+points_cons c cs = cc (drop_width c cs (first_width (c ∷ cs)) (width_some (c ∷ cs)))
 
 pub points_nil : code_points_after 0 [] ≡ []
 unfolding code_points_after
@@ -241,15 +239,13 @@ plain_point bs i f h n = let t = char_first bs i f h in
 
 pub escaped_point : (bs : List ℕ) (i : ℕ) (f : CodePoint) → left bs i ≡ after_read bs 0 (Some f)
     → nat_eq f.code 92 ≡ true → is_escaped (left bs i) ≡ true
-escaped_point bs i f h n = let t = char_first bs i f h in ap (λ x. nat_eq x 92) (sym t.code) ∙ n
+escaped_point bs i f h n = let t = char_first bs i f h in cc t.code
 
 points_at : {bs : List ℕ} (cs ds : List ℕ) (f : CodePoint) {p : CodePoint} → cs ≡ f.code ∷ ds
     → ReadsCodePoint bs cs (first_code_point cs) (first_width cs) p
     → code_points_after 0 cs ≡ p.code ∷ code_points_after 0 (left bs p.stop)
 points_at [] ds f h t = cc
-points_at (c ∷ cs) ds f {p} h t = points_cons c cs
-    ∙ ap (λ x. x ∷ code_points_after 0 (drop (first_width (c ∷ cs)) (c ∷ cs))) (sym t.code)
-    ∙ ap (λ xs. p.code ∷ code_points_after 0 xs) (sym t.rest)
+points_at (c ∷ cs) ds f h t = cc (points_cons c cs, t.code, t.rest)
 
 pub points_step : {bs : List ℕ} (i : ℕ) (f : CodePoint) {p : CodePoint} → left bs i ≡ after_read bs 0 (Some f)
     → ReadsCodePoint bs (left bs i) (first_code_point (left bs i)) (first_width (left bs i)) p
@@ -257,7 +253,7 @@ pub points_step : {bs : List ℕ} (i : ℕ) (f : CodePoint) {p : CodePoint} → 
 points_step {bs} i f h t = points_at (left bs i) (left bs f.stop) f (h ∙ chars_end f.code (drop f.stop bs)) t
 
 pub points_done : (bs : List ℕ) (i : ℕ) → left bs i ≡ [] → code_points_after 0 (left bs i) ≡ []
-points_done bs i h = ap (code_points_after 0) h ∙ points_nil
+points_done bs i h = cc points_nil
 
 pub characters_step : (bs : List ℕ) (i : ℕ) (f : CodePoint) → left bs i ≡ after_read bs 0 (Some f)
     → left bs i ≡ f.code ∷ left bs f.stop
@@ -272,28 +268,22 @@ plain_character bs i h l = lead_one bs i h l ∙ chars_end (get_or bs i 0) (drop
 points_go_on : (c : ℕ) (cs ds : List ℕ) {ps : List ℕ} {x n : ℕ}
     → (first_code_point (c ∷ cs) ≡ x) × (first_width (c ∷ cs) ≡ n)
     → drop n (c ∷ cs) ≡ ds → code_points_after 0 ds ≡ ps → code_points_after 0 (c ∷ cs) ≡ x ∷ ps
-points_go_on c cs ds {x} e d h =
-    points_cons c cs ∙ ap (λ y. y ∷ code_points_after 0 (drop (first_width (c ∷ cs)) (c ∷ cs))) e.0
-    ∙ ap (λ m. x ∷ code_points_after 0 (drop m (c ∷ cs))) e.1 ∙ ap (λ us. x ∷ code_points_after 0 us) d
-    ∙ ap (λ us. x ∷ us) h
+points_go_on c cs ds e d h = cc (points_cons c cs, e.0, e.1)
 
 plain_cons : (c : ℕ) (cs : List ℕ) → nat_eq c 92 ≡ false → code_points_after 0 (c ∷ cs) ≡ c ∷ code_points_after 0 cs
 plain_cons c cs n = points_go_on c cs cs {ps = code_points_after 0 cs} (first_plain (c ∷ cs) n) refl refl
 
 pub plain_code : (bs : List ℕ) (i : ℕ) → i < length bs → get_or bs i 0 < 128 → nat_eq (get_or bs i 0) 92 ≡ false
     → code_points_from bs i ≡ get_or bs i 0 ∷ code_points_from bs (i + 1)
-plain_code bs i h l n = ap (code_points_after 0) (plain_character bs i h l)
-    ∙ plain_cons (get_or bs i 0) (left bs (i + 1)) n
+plain_code bs i h l n = cc (plain_character bs i h l, plain_cons (get_or bs i 0) (left bs (i + 1)) n)
 
 pub text_ends : (bs ws : List ℕ) (i j : ℕ) → length bs ≤ i → length ws ≤ j
     → are_same (code_points_from bs i) (left ws j) ≡ true
-text_ends bs ws i j h k = ap (λ cs. are_same (code_points_after 0 cs) (left ws j)) (chars_past bs i h)
-    ∙ ap (λ ps. are_same ps (left ws j)) points_nil ∙ ap (are_same []) (chars_past ws j k)
+text_ends bs ws i j h k = cc (chars_past bs i h, points_nil, chars_past ws j k)
 
 pub order_ends : (bs ds : List ℕ) (i j : ℕ) → length bs ≤ i → length ds ≤ j
     → compare (code_points_from bs i) (code_points_from ds j) ≡ Equal
-order_ends bs ds i j h k = ap (λ ps. compare ps (code_points_from ds j)) (points_done bs i (chars_past bs i h))
-    ∙ ap (compare []) (points_done ds j (chars_past ds j k))
+order_ends bs ds i j h k = cc (points_done bs i (chars_past bs i h), points_done ds j (chars_past ds j k))
 
 -- the first code points decide, where they differ
 order_differs : (x y : ℕ) (xs ys : List ℕ) → nat_eq x y ≡ false → compare (x ∷ xs) (y ∷ ys) ≡ nat_cmp x y
@@ -315,7 +305,7 @@ order_apart bs ds i j {b} {c} f g n a p =
     ∙ ap (λ v. v ∷ code_points_from bs (i + 1)) (sym f.1) in
     let y = plain_code ds j g.0 (omega (arith, g.1)) (ap (λ v. nat_eq v 92) (sym g.1) ∙ p.1)
     ∙ ap (λ v. v ∷ code_points_from ds (j + 1)) (sym g.1) in
-    (λ k. compare (x k) (y k)) ∙ order_differs b c (code_points_from bs (i + 1)) (code_points_from ds (j + 1)) n
+    cc (order_differs b c (code_points_from bs (i + 1)) (code_points_from ds (j + 1)) n)
 
 -- ---- between the quotes
 
@@ -324,11 +314,11 @@ body_place s zero = refl
 body_place s (suc n) =
     let e : 1 + n ≡ suc n = omega arith in
     let f : suc n - 1 ≡ n = omega arith in
-    ap (λ k. drop 1 (take k s)) (sym e) ∙ drop-take 1 n s ∙ ap (λ k. take k (drop 1 s)) (sym f)
+    cc (drop-take 1 n s)
 
 pub code_points_between : (s : List ℕ) → code_points_after 0 (left (take (length s - 1) s) 1) ≡ text s
 unfolding text
-code_points_between s = ap (λ bs. code_points_after 0 (chars bs)) (body_place s (length s - 1))
+code_points_between s = cc (body_place s (length s - 1))
 
 -- ---- the first byte between the quotes
 
@@ -349,7 +339,7 @@ text_empty s h = let k = length-take (length s - 1) s in
     ∙ points_done (take (length s - 1) s) 1 (chars_past (take (length s - 1) s) 1 (omega arith))
 
 others_differ : (x y : ℕ) (xs ys : List ℕ) → nat_eq x y ≡ false → are_same (x ∷ xs) (y ∷ ys) ≡ false
-others_differ x y xs ys h = ap (λ v. v && are_same xs ys) h
+others_differ x y xs ys h = cc
 
 front_differs : (s ys : List ℕ) (y : ℕ) → 1 < length s → get_or s 1 0 < 128 → nat_eq (get_or s 1 0) 92 ≡ false
     → nat_eq (get_or s 1 0) y ≡ false → are_same (text s) (y ∷ ys) ≡ false
@@ -364,22 +354,20 @@ front_differs s ys y h l n d =
 pub other_text : (s w : List ℕ) → 1 < length s → 0 < length w → (get_or s 1 0 < 128) × (get_or w 0 0 < 128)
     → (nat_eq (get_or s 1 0) 92 ≡ false) × (nat_eq (get_or w 0 0) 92 ≡ false)
     → nat_eq (get_or s 1 0) (get_or w 0 0) ≡ false → are_same (text s) (chars w) ≡ false
-other_text s w h o a n d = ap (are_same (text s)) (plain_character w 0 o a.1)
-    ∙ front_differs s (left w 1) (get_or w 0 0) h a.0 n.0 d
+other_text s w h o a n d = cc (plain_character w 0 o a.1, front_differs s (left w 1) (get_or w 0 0) h a.0 n.0 d)
 
 pub other_texts : (s o : List ℕ) → 1 < length s → 2 < length o → (get_or s 1 0 < 128) × (get_or o 1 0 < 128)
     → (nat_eq (get_or s 1 0) 92 ≡ false) × (nat_eq (get_or o 1 0) 92 ≡ false)
     → nat_eq (get_or s 1 0) (get_or o 1 0) ≡ false → are_same (text s) (text o) ≡ false
 other_texts s o h k a n d = let p = text_front o k a.1 n.1 in
-    ap (are_same (text s)) p.1 ∙ front_differs s p.0 (get_or o 1 0) h a.0 n.0 d
+    cc (p.1, front_differs s p.0 (get_or o 1 0) h a.0 n.0 d)
 
 -- ---- the relation has one answer, the function's
 
 pub stands_once : {cs ps : List ℕ} → StandFor cs ps → code_points_after 0 cs ≡ ps
 stands_once done = points_nil
 stands_once (plain c cs ps e s) = points_go_on c cs cs (first_plain (c ∷ cs) e) refl (stands_once s)
-stands_once (letter c cs ps e s) =
-    points_go_on 92 (c ∷ cs) cs (first_letter (92 ∷ c ∷ cs) e refl) refl (stands_once s)
+stands_once (letter c cs ps e s) = points_go_on 92 (c ∷ cs) cs (first_letter (92 ∷ c ∷ cs) e refl) refl (stands_once s)
 stands_once (single h i j k cs ps e s) =
     points_go_on 92 (117 ∷ h ∷ i ∷ j ∷ k ∷ cs) cs (first_unit (92 ∷ 117 ∷ h ∷ i ∷ j ∷ k ∷ cs) e refl) refl
     (stands_once s)
@@ -396,8 +384,7 @@ IsShared x y = (x ≡ y) × (x < 128) × (nat_eq x 92 ≡ false)
 -- the same at places that are equal
 shared_at : (bs : List ℕ) (k i : ℕ) (ds : List ℕ) (l j : ℕ) → k ≡ i → l ≡ j → IsShared (get_or bs k 0) (get_or ds l 0)
     → IsShared (get_or bs i 0) (get_or ds j 0)
-shared_at bs k i ds l j x y s =
-    subst (λ v. IsShared (get_or bs v 0) (get_or ds j 0)) x (subst (λ v. IsShared (get_or bs k 0) (get_or ds v 0)) y s)
+shared_at bs k i ds l j x y s = rw x at (rw y at s)
 
 alike_on : (bs : List ℕ) (i : ℕ) (ds : List ℕ) (j n last m : ℕ) → AreAlike bs i ds j n → last ≤ n
     → AreAlike bs (i + last) ds (j + last) m → AreAlike bs i ds j (last + m)
@@ -454,7 +441,7 @@ shared_front zero bs i ds j h k a = ([], ap (code_points_from bs) (omega arith),
 shared_front (suc n) bs i ds j h k a =
     let s = alike_here bs i ds j n a in
     let p = plain_code bs i (omega arith) s.1 s.2 in
-    let q = plain_code ds j (omega arith) (subst (λ v. v < 128) s.0 s.1) (ap (λ v. nat_eq v 92) (sym s.0) ∙ s.2) in
+    let q = plain_code ds j (omega arith) (rw s.0 at s.1) (ap (λ v. nat_eq v 92) (sym s.0) ∙ s.2) in
     let r = shared_front n bs (i + 1) ds (j + 1) (omega arith) (omega arith) (alike_behind bs i ds j n a) in
     let e : i + 1 + n ≡ i + suc n = omega arith in
     let f : j + 1 + n ≡ j + suc n = omega arith in (
@@ -471,10 +458,10 @@ same_alike (suc n) ws i bs j h k a =
     let s = alike_here ws i bs j n a in
     let same = s.0 in
     let p = plain_character ws i (omega arith) s.1 in
-    let q = plain_code bs j (omega arith) (subst (λ v. v < 128) same s.1) (ap (λ v. nat_eq v 92) (sym same) ∙ s.2) in
+    let q = plain_code bs j (omega arith) (rw same at s.1) (ap (λ v. nat_eq v 92) (sym same) ∙ s.2) in
     let one : nat_eq (get_or bs j 0) (get_or ws i 0) ≡ true = grind (arith, nat_tests, same) in
     let rest = same_alike n ws (i + 1) bs (j + 1) (omega arith) (omega arith) (alike_behind ws i bs j n a) in
-    (λ l. are_same (q l) (p l)) ∙ ap (λ b. b && are_same (code_points_from bs (j + 1)) (left ws (i + 1))) one ∙ rest
+    cc
 
 -- tell nothing
 number_equal : (x : ℕ) → nat_cmp x x ≡ Equal
@@ -484,21 +471,19 @@ number_equal x = let l : nat_lt x x ≡ false = grind (arith, nat_tests) in
 
 order_behind : (fs cs ds : List ℕ) → compare cs ds ≡ compare (fs ++ cs) (fs ++ ds)
 order_behind [] cs ds = refl
-order_behind (x ∷ fs) cs ds = order_behind fs cs ds
-    ∙ sym (ap (λ o. ordering_then o (compare (fs ++ cs) (fs ++ ds))) (number_equal x))
+order_behind (x ∷ fs) cs ds = cc (order_behind fs cs ds, number_equal x)
 
 pub order_passed : {bs : List ℕ} {i : ℕ} {ds : List ℕ} {j n : ℕ} → StartAlike bs i ds j n
     → compare (code_points_from bs (i + n)) (code_points_from ds (j + n)) ≡ compare (code_points_from bs i)
     (code_points_from ds j)
 order_passed {bs} {i} {ds} {j} {n} s =
     let f = shared_front n bs i ds j s.within s.within_other s.alike in
-    order_behind f.0 (code_points_from bs (i + n)) (code_points_from ds (j + n))
-    ∙ (λ k. compare (sym f.1 k) (sym f.2 k))
+    cc (order_behind f.0 (code_points_from bs (i + n)) (code_points_from ds (j + n)), f.1, f.2)
 
 pub fewer_left : {bs : List ℕ} {i : ℕ} {ds : List ℕ} {j n : ℕ} → StartAlike bs i ds j n
     → length (code_points_from bs (i + n)) ≤ length (code_points_from bs i)
 fewer_left {bs} {i} {ds} {j} {n} s =
-    let f = shared_front n bs i ds j s.within s.within_other s.alike in
-    let l = ap length f.1 in
-    let a = length-append f.0 (code_points_from bs (i + n)) in
-    omega arith
+    let f = shared_front n bs i ds j s.within s.within_other s.alike in let l = ap length f.1 in omega (
+      arith,
+      length-append f.0 (code_points_from bs (i + n)),
+    )

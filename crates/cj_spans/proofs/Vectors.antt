@@ -15,8 +15,7 @@ module _ (p : ℕ → Bool) (b : List ℕ) (i n : ℕ) {m : ℕ} (few : n ≤ 64
   marks_counted : (m ≡ 0 → ⊥) → count_trailing_zeros 64 m ≡ prefix_len (λ x. not (p x)) (chunk i n b)
   marks_counted s =
       let some : 0 < m = omega arith in
-      ap (count_trailing_zeros 64) e
-      ∙ trailing_mask_l p 64 (chunk i n b) (omega (arith, length-chunk i n b room)) (subst (λ x. 0 < x) e some)
+      cc (e, trailing_mask_l p 64 (chunk i n b) (omega (arith, length-chunk i n b room)) (rw e at some))
 
   pub marks_within : (m ≡ 0 → ⊥) → count_trailing_zeros 64 m ≤ n
   marks_within s = run_in_chunk_le p b i n (count_trailing_zeros 64 m) 0 room (marks_counted s)
@@ -44,9 +43,12 @@ digit_from x l h = let e : (x + 208) % 256 ≤ 9 = grind (arith, nat_tests) in t
 pub marks_over : {m : ℕ} (n : ℕ) (v : List ℕ) → length v ≡ m → m ≤ 64
     → mask_l (map (top 7) (zip2 (λ a c. cond (ltb a c) 255 0) (replicate m n) v)) % 2 ^ 64
     ≡ mask_l (map (λ y. ltb n y) v)
-marks_over {m} n v long few =
-    ap (λ ms. mask_l ms % 2 ^ 64) (tops_compared w8 ltb (replicate m n) v ∙ zip2_splat_left ltb n m v long)
-    ∙ mask_l-mod (map (λ y. ltb n y) v) 64 (omega (arith, length-map v (λ y. ltb n y)))
+marks_over {m} n v long few = cc (
+  tops_compared w8 ltb (replicate m n) v,
+  zip2_splat_left ltb n m v long,
+  mask_l-mod
+      (map (λ y. ltb n y) v) 64 (omega (arith, length-map v (λ y. ltb n y))),
+)
 
 -- the marks of the m bytes from i on that are no digits
 abbrev marks_of : ℕ → List ℕ → ℕ → ℕ
@@ -58,10 +60,12 @@ marks_are : (m : ℕ) (b : List ℕ) (i : ℕ) → i + m ≤ length b → m ≤ 
 marks_are m b i room few =
     let v = chunk i m b in
     let long : length v ≡ m = length-chunk i m b room in
-    ap (λ w. mask_l (map (top 7) (zip2 (λ a c. cond (ltb a c) 255 0) (replicate m 9) w)) % 2 ^ 64)
-    (zip2_splat (λ a c. (a + (256 - c)) % 256) v m 48 long)
-    ∙ marks_over 9 (map above v) (length-map v above ∙ long) few
-    ∙ ap mask_l (map-map (λ y. ltb 9 y) above v)
+    cc (
+      zip2_splat (λ a c. (a + (256 - c)) % 256) v m 48 long,
+      marks_over 9 (map above v) (length-map v above ∙ long)
+          few,
+      map-map (λ y. ltb 9 y) above v,
+    )
 
 abbrev pub digit_marks : List ℕ → ℕ → ℕ
 digit_marks b i = marks_of 16 b i
@@ -90,9 +94,8 @@ block_marked b i room small =
           (subst (λ n. n < 2 ^ 32) (sym e) (subst (λ n. mask_l (map other v) < 2 ^ n) long (mask_l-lt (map other v))));
       digits = λ k l h.
           let few : k < 32 = omega arith in
-          let at : get_or (map other v) k false ≡ other (byte b (i + k)) =
-          get_or-map other v k 0 false (omega (arith, length-chunk i 32 b room))
-          ∙ ap other (get_or-chunk i 32 b k 0 few) in
+          let at : get_or (map other v) k false ≡ other (byte b (i + k)) = cc
+          (get_or-map other v k 0 false (omega (arith, length-chunk i 32 b room)), get_or-chunk i 32 b k 0 few) in
           digit_from (byte b (i + k)) (small (i + k))
           (sym at ∙ unset (get_or (map other v) k false)
           (sym (bit_mask_l (map other v) k) ∙ ap (λ n. n / 2 ^ k % 2) (sym e) ∙ h));
@@ -133,17 +136,20 @@ chosen : (p : ℕ → Bool) (f : ℕ → ℕ) (n : ℕ) (v : List ℕ) → lengt
     → sel_l (map p v) (replicate n 0) (map f v) ≡ map (λ x. cond (p x) 0 (f x)) v
 chosen p f n [] h = refl
 chosen p f zero (x ∷ v) h = absurd (omega arith)
-chosen p f (suc n) (x ∷ v) h = ap (λ z. cond (p x) 0 (f x) ∷ z) (chosen p f n v (omega arith))
+chosen p f (suc n) (x ∷ v) h = cc (chosen p f n v (omega arith))
 
 -- the vector v with 0 in the place of n
 abbrev without : ℕ → List ℕ → List ℕ
 without n v = sel_l (map (top 7) (zip2 (λ a c. cond (eqb a c) 255 0) v (replicate 16 n))) (replicate 16 0) v
 
 without_is : (n : ℕ) (v : List ℕ) → length v ≡ 16 → without n v ≡ map (dropped n) v
-without_is n v long =
-    ap (λ ms. sel_l ms (replicate 16 0) v) (tops_compared w8 eqb v (replicate 16 n) ∙ zip2_splat eqb v 16 n long)
-    ∙ ap (sel_l (map (λ x. eqb x n) v) (replicate 16 0)) (sym (map-id v))
-    ∙ chosen (λ x. eqb x n) (λ x. x) 16 v long
+without_is n v long = cc (
+  tops_compared w8 eqb v (replicate 16 n),
+  zip2_splat eqb v 16 n long,
+  map-id v,
+  chosen (λ x.
+      eqb x n) (λ x. x) 16 v long,
+)
 
 -- the vector v with 0 in the place of quotes and backslashes
 abbrev kept_lanes : List ℕ → List ℕ
@@ -151,11 +157,13 @@ kept_lanes v =
     sel_l (map (top 7) (zip2 (λ a c. cond (eqb a c) 255 0) v (replicate 16 92))) (replicate 16 0) (without 34 v)
 
 kept_lanes_are : (v : List ℕ) → length v ≡ 16 → kept_lanes v ≡ map kept v
-kept_lanes_are v long =
-    ap (λ ms. sel_l ms (replicate 16 0) (without 34 v))
-    (tops_compared w8 eqb v (replicate 16 92) ∙ zip2_splat eqb v 16 92 long)
-    ∙ ap (sel_l (map (λ x. eqb x 92) v) (replicate 16 0)) (without_is 34 v long)
-    ∙ chosen (λ x. eqb x 92) (dropped 34) 16 v long
+kept_lanes_are v long = cc (
+  tops_compared w8 eqb v (replicate 16 92),
+  zip2_splat eqb v 16 92 long,
+  without_is 34 v
+      long,
+  chosen (λ x. eqb x 92) (dropped 34) 16 v long,
+)
 
 -- the marks of the bytes from i on that do not stand for themselves
 abbrev pub plain_marks : List ℕ → ℕ → ℕ
@@ -166,10 +174,11 @@ plain_marks_are : (b : List ℕ) (i : ℕ) → i + 16 ≤ length b → plain_mar
 plain_marks_are b i room =
     let v = chunk i 16 b in
     let long : length v ≡ 16 = length-chunk i 16 b room in
-    ap (λ u. mask_l (map (top 7) (zip2 (λ a c. cond (ltb a c) 255 0) u (replicate 16 32))) % 2 ^ 64)
-    (kept_lanes_are v long)
-    ∙ bitmask_splat w8 ltb (map kept v) 16 32 (length-map v kept ∙ long) (omega arith)
-    ∙ ap mask_l (map-map (λ x. ltb x 32) kept v)
+    cc (
+      kept_lanes_are v long,
+      bitmask_splat w8 ltb (map kept v) 16 32 (length-map v kept ∙ long) (omega arith),
+      map-map (λ x. ltb x 32) kept v,
+    )
 
 pub all_plain : (b : List ℕ) (i : ℕ) → i + 16 ≤ length b → plain_marks b i ≡ 0 → (k : ℕ) → i ≤ k → k < i + 16
     → is_plain (byte b k) ≡ true
@@ -217,13 +226,15 @@ foreign_marks_are b i room =
     let long : length v ≡ 16 = length-chunk i 16 b room in
     let w = map (dropped 46) v in
     let long1 : length w ≡ 16 = length-map v (dropped 46) ∙ long in
-    ap (λ u. mask_l (map (top 7) (zip2 (λ a c. cond (ltb a c) 255 0) (replicate 16 13)
-    (zip2 (λ a c. (a + (256 - c)) % 256) u (replicate 16 44)))) % 2 ^ 64) (without_is 46 v long)
-    ∙ ap (λ u. mask_l (map (top 7) (zip2 (λ a c. cond (ltb a c) 255 0) (replicate 16 13) u)) % 2 ^ 64)
-    (zip2_splat (λ a c. (a + (256 - c)) % 256) w 16 44 long1)
-    ∙ marks_over 13 (map (λ a. (a + 212) % 256) w) (length-map w (λ a. (a + 212) % 256) ∙ long1) (omega arith)
-    ∙ ap mask_l (map-map (λ y. ltb 13 y) (λ a. (a + 212) % 256) w
-    ∙ map-map (λ a. ltb 13 ((a + 212) % 256)) (dropped 46) v)
+    cc (
+      without_is 46 v long,
+      zip2_splat (λ a c. (a + (256 - c)) % 256) w 16 44 long1,
+      marks_over 13 (map (λ a. (a +
+          212) % 256) w) (length-map w (λ a. (a + 212) % 256) ∙ long1) (omega arith),
+      map-map (λ y. ltb 13 y) (λ a. (a +
+          212) % 256) w,
+      map-map (λ a. ltb 13 ((a + 212) % 256)) (dropped 46) v,
+    )
 
 -- where the marks stop below a bit, the bytes from there on are signs
 pub signs_above : (b : List ℕ) (i : ℕ) → i + 16 ≤ length b → ((k : ℕ) → byte b k < 256) → (j k : ℕ)
@@ -234,9 +245,8 @@ signs_above b i room small j k low order few =
     let less : mask_l (map foreign v) < 2 ^ k = omega (arith, pow_mono order, e) in
     let none : mask_l (map foreign v) / 2 ^ k ≡ 0 = div-eq_of_lt less in
     let bit = bit_mask_l (map foreign v) k in
-    let at : get_or (map foreign v) k false ≡ foreign (byte b (i + k)) =
-    get_or-map foreign v k 0 false (omega (arith, length-chunk i 16 b room))
-    ∙ ap foreign (get_or-chunk i 16 b k 0 few) in
+    let at : get_or (map foreign v) k false ≡ foreign (byte b (i + k)) = cc
+    (get_or-map foreign v k 0 false (omega (arith, length-chunk i 16 b room)), get_or-chunk i 16 b k 0 few) in
     sign_from (byte b (i + k)) (small (i + k))
     (sym at ∙ unset (get_or (map foreign v) k false) (sym bit ∙ ap (λ n. n % 2) none))
 
@@ -291,10 +301,7 @@ length_lanes (suc m) (x ∷ v) [] a b = absurd (omega arith)
 length_lanes (suc m) (x ∷ v) (y ∷ w) a b = ap suc (length_lanes m v w (omega arith) (omega arith))
 
 shared_is : {m : ℕ} (v w : List ℕ) → length v ≡ m → shared m v w ≡ lanes m v w
-shared_is {m} v w a =
-    ap (λ ms. sel_l ms (unescaped m v) (replicate m 255)) (tops_compared w8 eqb v w)
-    ∙ ap (λ ms. sel_l (zip2 eqb v w) (sel_l ms (replicate m 255) v) (replicate m 255))
-    (tops_compared w8 eqb v (replicate m 92) ∙ zip2_splat eqb v m 92 a)
+shared_is {m} v w a = cc (tops_compared w8 eqb v w, tops_compared w8 eqb v (replicate m 92), zip2_splat eqb v m 92 a)
 
 -- the lanes of the bytes from i and from j on
 abbrev lanes_from : ℕ → List ℕ → ℕ → List ℕ → ℕ → List ℕ
@@ -310,10 +317,12 @@ alike_marks_are : (m : ℕ) (b : List ℕ) (i : ℕ) (o : List ℕ) (j : ℕ) �
 alike_marks_are m b i o j few room there =
     let all = lanes_from m b i o j in
     let long : length all ≡ m = lanes_long m b i o j room there in
-    ap (λ u. mask_l (map (top 7) (zip2 (λ x y. cond (ltb x y) 255 0) (replicate m 127) u)) % 2 ^ 64)
-    (shared_is (chunk i m b) (chunk j m o) (length-chunk i m b room))
-    ∙ ap (λ ms. mask_l ms % 2 ^ 64) (tops_compared w8 ltb (replicate m 127) all ∙ zip2_splat_left ltb 127 m all long)
-    ∙ mask_l-mod (map (λ y. ltb 127 y) all) 64 (omega (arith, length-map all (λ y. ltb 127 y)))
+    cc (
+      shared_is (chunk i m b) (chunk j m o) (length-chunk i m b room),
+      tops_compared w8 ltb (replicate m 127) all,
+      zip2_splat_left ltb 127 m all long,
+      mask_l-mod (map (λ y. ltb 127 y) all) 64 (omega (arith, length-map all (λ y. ltb 127 y))),
+    )
 
 -- how many lanes come before the first that is marked
 abbrev count_before : ℕ → List ℕ → ℕ → List ℕ → ℕ → ℕ
@@ -351,9 +360,12 @@ counted_alike : (m : ℕ) (b : List ℕ) (i : ℕ) (o : List ℕ) (j : ℕ) → 
 counted_alike m b i o j few room there n =
     let e = alike_marks_are m b i o j few room there in
     let some : 0 < alike_marks m b i o j = omega arith in
-    ap (count_trailing_zeros 64) e
-    ∙ trailing_mask_l (λ y. ltb 127 y) 64 (lanes_from m b i o j)
-    (omega (arith, few, lanes_long m b i o j room there)) (subst (λ x. 0 < x) e some)
+    cc (trailing_mask_l (λ y. ltb 127 y) 64 (lanes_from m b i o j) (omega (
+      arith,
+      few,
+      lanes_long m b i o j room
+          there,
+    )) (rw e at some))
 
 pub few_alike : (m : ℕ) (b : List ℕ) (i : ℕ) (o : List ℕ) (j : ℕ) → m ≤ 64 → i + m ≤ length b → j + m ≤ length o
     → (alike_marks m b i o j ≡ 0 → ⊥) → count_trailing_zeros 64 (alike_marks m b i o j) ≤ m

@@ -1,13 +1,13 @@
 -- What the pass over a line says of the line.
-use Rattle.cj_spans.proofs.Common.{◌≡◌, ℕ, suc, ◌+◌, ◌^◌, ◌<◌, ◌≤◌, List, [], ◌++◌, length, max, IsTrue, Option, Some, None, Result, Ok, Err, refl, sym, ap, subst, arith, rules, ◌∙◌, ◌⊎◌, inl, inr, take-length, eq-or-lt_of_le, cases_lt, cases_order, IsValidUpTo, BoundedList, Becomes, LineFault, NotUtf8, Syntax, TooDeep, Kind, Token, Mode, Ready, FirstItem, After, FirstName, NextName, AfterName, Tree, scalar, size, nest, byte, atom_at, White, Value, atom, Padded, padded, Json, JsonPrefix, IsJsonPrefix, SyntaxAt, stuck, short, DeepAt, NowhereDeep, flatten, spans_of, forest, IsScanOf, KeepsLaw, AreUnmarked, State, state, in_atom, step, settle, end_atom, lex_kind, Reaches, here, on, start, Sticks, SticksAt, SinksAt, Accepts, RunAnswers, AreLinked}
+use Rattle.cj_spans.proofs.Common.{◌≡◌, ℕ, suc, ◌+◌, ◌^◌, ◌<◌, ◌≤◌, List, [], ◌++◌, length, max, IsTrue, Option, Some, None, Result, Ok, Err, refl, sym, ap, subst, arith, rules, ◌∙◌, ◌⊎◌, inl, inr, take-length, eq-or-lt_of_le, cases_lt, cases_order, IsValidUpTo, BoundedList, Becomes, LineFault, NotUtf8, Syntax, TooDeep, Kind, Token, Ready, After, AfterName, Tree, scalar, size, nest, byte, atom_at, White, Value, atom, padded, Json, JsonPrefix, IsJsonPrefix, SyntaxAt, stuck, short, DeepAt, NowhereDeep, flatten, spans_of, IsScanOf, KeepsLaw, AreUnmarked, State, state, in_atom, step, settle, end_atom, lex_kind, Reaches, here, on, start, Sticks, SticksAt, SinksAt, Accepts, RunAnswers}
 use Rattle.std.specs.Prelude.{IsSomeAnd, OnOk, IsErrOf, IsOk, IsUtf8}
 use Rattle.std.proofs.lemmas.Str.{utf8_valid_len-IsValidUpTo}
 use Rattle.cj_spans.proofs.Spellings.{none_some, some_same}
 use Rattle.cj_spans.proofs.Lists.{rise, rise-nest, length-flatten, spans_of-flatten}
-use Rattle.cj_spans.proofs.Runs.{idle, settled, same_mode}
+use Rattle.cj_spans.proofs.Runs.{idle, settled}
 use Rattle.cj_spans.proofs.Follows.{run_json}
 use Rattle.cj_spans.proofs.Places.{atom_sound}
-use Rattle.cj_spans.proofs.Sound.{Context, root, Inv, ready, first_item, after_tree, first_name, next_name, after_name, in_scalar, in_name, inv_reaches, no_white}
+use Rattle.cj_spans.proofs.Sound.{Context, root, Inv, after_tree, in_scalar, in_name, inv_reaches, no_white}
 use Rattle.cj_spans.proofs.Facts.{lawful_reaches, next_place, same_state, state_before}
 use Rattle.cj_spans.proofs.Fronts.{Live, front_runs, inv_front}
 use Rattle.cj_spans.proofs.Forests.{json_shown, tree_by_preorder}
@@ -36,24 +36,13 @@ spells_at {b} {e} {j} {k} p q {ks} {ts} us t c v w h =
     let z : us ≡ ts ++ flatten (length ts) t = sym (ap (λ u. u.tokens) h) in
     record {
       tree = t;
-      json = subst (λ n. Padded b 0 n t) n (padded 0 e j k t r.0 v w);
+      json = rw n at (padded 0 e j k t r.0 v w);
       tokens = z ∙ ap (λ y. y ++ flatten (length y) t) r.1;
     }
 
-other_mode : {A : Type 0} (m : Mode) (ks ls : List ℕ) (ts us : List Token) (i j p q : ℕ) → (m ≡ After → ⊥)
-    → Some (idle m ks ts i p) ≡ Some (idle After ls us j q) → A
-other_mode m ks ls ts us i j p q n h = absurd (n (same_mode m After (ap (λ u. u.phase) (some_same _ _ h))))
-
 pub spells : {b : List ℕ} {s : State} → Inv b s → (us : List Token) (q : ℕ)
     → settle s ≡ Some (idle After [] us (length b) q) → Spells b us
-spells (ready k p ks ts c) us q h = other_mode Ready _ _ _ _ _ _ _ _ (λ (e : Ready ≡ After). cc) h
-spells (first_item e k p ks ts c o w) us q h = other_mode FirstItem _ _ _ _ _ _ _ _ (λ (e : FirstItem ≡ After). cc) h
 spells (after_tree e j k p ks ts t c v w) us q h = spells_at p q us t c v w (some_same _ _ h)
-spells (first_name e k p ks ts c o w) us q h = other_mode FirstName _ _ _ _ _ _ _ _ (λ (e : FirstName ≡ After). cc) h
-spells (next_name e j k p ks ts us0 c o l w) us q h =
-    other_mode NextName _ _ _ _ _ _ _ _ (λ (e : NextName ≡ After). cc) h
-spells (after_name e j l m k p ks ts us0 c o ld w0 wd w) us q h =
-    other_mode AfterName _ _ _ _ _ _ _ _ (λ (e : AfterName ≡ After). cc) h
 spells {b} (in_scalar e k p ks ts x c w) us q h = by_kind (lex_kind x) refl h
   where
     by_kind : (r : Option Kind) → lex_kind x ≡ r → end_atom After e r (state (in_atom After e x) ks ts k p)
@@ -66,7 +55,8 @@ spells {b} {s} (in_name e j l k p ks ts us0 x c o ld w0 y w) us q h = by_name (l
   where
     by_name : (r : Option Kind) → end_atom AfterName l r s ≡ Some (idle After [] us (length b) q) → Spells b us
     by_name None h = none_some _ h
-    by_name (Some kd) h = other_mode AfterName _ _ _ _ _ _ _ _ (λ (e : AfterName ≡ After). cc) h
+    by_name _ h = let e = ap (λ (u : State). u.phase) (some_same _ _ h) in cc
+spells _ us q h = let e = ap (λ (u : State). u.phase) (some_same _ _ h) in cc
 
 -- two ends of one line are the same
 same_end : {b : List ℕ} (x y : State) {s t : State} → Reaches b start s → Reaches b start t → settle s ≡ Some x
@@ -86,11 +76,8 @@ json_only b t u j k =
 pub nest_of : {b : List ℕ} (t : Tree) {s : State} (us : List Token) (p : ℕ) → Json b t → Reaches b start s
     → settle s ≡ Some (idle After [] us (length b) p) → p ≡ nest t
 nest_of {b} t us p j r h =
-    let q = run_json b t j in
-    let e = same_end (idle After [] us (length b) p) _ r q.reached h q.settles refl in
-    let f = rise-nest 0 0 t (omega arith) in
-    let d : p ≡ rise 0 0 t = ap (λ u. u.deepest) e in
-    omega arith
+    let q = run_json b t j in let e = same_end _ _ r q.reached h q.settles refl in let
+    d : p ≡ rise 0 0 t = ap (λ u. u.deepest) e in omega (arith, rise-nest 0 0 t (omega arith))
 
 -- ---- the places of faults
 
@@ -103,11 +90,11 @@ next_stuck {b} {s} r n (on t v q h) e =
     none_some v (sym n ∙ ap (λ w. step (byte b w.place) w) d ∙ h)
 
 front_before : {b : List ℕ} {s : State} (k : ℕ) → Reaches b start s → k ≤ s.place → IsJsonPrefix b k
-front_before {b} k r l =
+front_before k r l =
     let v = state_before k r l in
     record {
       open_count = length v.at.stack;
-      front = subst (λ n. JsonPrefix b 0 n (length v.at.stack)) v.place (inv_front (inv_reaches v.reached));
+      front = rw v.place at (inv_front (inv_reaches v.reached));
     }
 
 live_at : (b : List ℕ) (i n : ℕ) → JsonPrefix b 0 i n → Live b start i (n + 0)
@@ -117,10 +104,10 @@ pub sticks_syntax : {b : List ℕ} {i : ℕ} → Sticks b start i → SyntaxAt b
 sticks_syntax {b} {i} a =
     let e = a.at in
     elim a.stuck [
-      | inl z ↦ stuck z.0 (λ k h. front_before (suc k) a.reached (omega arith)) (λ f.
-          let v = live_at b (suc i) f.open_count f.front in
+      | inl z ↦ stuck z.0 (λ k h. front_before _ a.reached (omega arith)) (λ f.
+          let v = live_at b _ f.open_count f.front in
           next_stuck a.reached (ap (λ n. step (byte b n) a.last) e ∙ z.1) v.reached (v.place ∙ ap suc (sym e)))
-      | inr z ↦ short z.0 (λ k h. front_before (suc k) a.reached (omega arith)) (λ t j.
+      | inr z ↦ short z.0 (λ k h. front_before _ a.reached (omega arith)) (λ t j.
           let v = run_json b t j in
           let d : a.last ≡ v.at =
           same_state a.reached v.reached (e ∙ z.0 ∙ sym (settled v.at _ v.settles).place) in
@@ -135,21 +122,21 @@ not_deeper {b} d i n r h l f g =
     let w = state_before i r l in
     let e : v.at ≡ w.at = same_state v.reached w.reached (v.place ∙ sym w.place) in
     let a = (lawful_reaches v.reached).deep in
-    let q : v.at.deepest ≡ w.at.deepest = ap (λ u. u.deepest) e in
+    let q : v.at.deepest ≡ w.at.deepest = cc e in
     absurd (omega arith)
 
 nowhere_deep : {b : List ℕ} {s : State} (d : ℕ) → Reaches b start s → s.deepest ≤ d → (length b ≤ s.place)
     ⊎ (step (byte b s.place) s ≡ None) → NowhereDeep b d
 nowhere_deep {b} {s} d r h stop i a =
     elim (cases_lt (suc i) s.place) [
-      | inl l ↦ not_deeper d (suc i) (suc d) r h (omega arith) a.deep (omega arith)
+      | inl l ↦ not_deeper d _ _ r h (omega arith) a.deep (omega arith)
       | inr g ↦ elim (eq-or-lt_of_le g) [
-        | inl e ↦ not_deeper d (suc i) (suc d) r h (omega arith) a.deep (omega arith)
+        | inl e ↦ not_deeper d _ _ r h (omega arith) a.deep (omega arith)
         | inr l ↦ elim stop [
           | inl e ↦ let w = a.within in absurd (omega arith)
           | inr n ↦
-              let v = live_at b (suc i) (suc d) a.deep in
-              let w = state_before (suc s.place) v.reached (omega arith) in
+              let v = live_at b _ _ a.deep in
+              let w = state_before _ v.reached (omega arith) in
               next_stuck r n w.reached w.place
         ]
       ]
@@ -160,8 +147,7 @@ sticks_nowhere b {d} i a =
     let e = a.sticks.at in
     nowhere_deep d a.sticks.reached a.shallow (elim a.sticks.stuck [
       | inl z ↦ inr (ap (λ n. step (byte b n) a.sticks.last) e ∙ z.1)
-      | inr z ↦ let q = z.0 in
-          inl (omega arith)
+      | inr z ↦ inl (omega arith)
     ])
 
 accepts_nowhere : {b : List ℕ} {tokens : BoundedList Token} {old new : BoundedList ℕ} → Accepts b tokens old new
@@ -171,19 +157,19 @@ accepts_nowhere {old} a =
     nowhere_deep old.limit a.settles.reached (omega arith) (inl (omega arith))
 
 pub sinks_deep : {b : List ℕ} {d i : ℕ} → SinksAt b d i → DeepAt b d i
-sinks_deep {b} {d} {i} a = by_step (step (byte b i) a.last) refl a.deep
+sinks_deep {b} {d} {i} a = by_step _ refl a.deep
   where
     by_step : (o : Option State) → step (byte b i) a.last ≡ o → IsSomeAnd o (λ u. length u.stack ≡ suc d) → DeepAt b d i
     by_step None e h = absurd h
     by_step (Some u) e h =
-        let q : step (byte b a.last.place) a.last ≡ Some u = ap (λ n. step (byte b n) a.last) a.at ∙ e in
+        let q : step (byte b a.last.place) a.last ≡ Some u = cc (a.at, e) in
         let r = on a.last u a.reached q in
         let p : u.place ≡ suc i = next_place u a.reached q ∙ ap suc a.at in
         let f : JsonPrefix b 0 (suc i) (length u.stack) =
-        subst (λ n. JsonPrefix b 0 n (length u.stack)) p (inv_front (inv_reaches r)) in
+        rw p at (inv_front (inv_reaches r)) in
         record {
           within = a.within;
-          deep = subst (λ n. JsonPrefix b 0 (suc i) n) h f;
+          deep = rw h at f;
           least = λ k l g. not_deeper d (suc k) (suc d) a.reached a.shallow (omega arith) g (omega arith);
         }
 
@@ -208,7 +194,7 @@ syntax_within (short e f n) = omega arith
 -- there is no fault before another's place
 not_earlier : {b : List ℕ} {i j : ℕ} → SyntaxAt b i → SyntaxAt b j → i < j → ⊥
 not_earlier (stuck l f n) y h = n (fronts_below y _ h)
-not_earlier (short e f n) y h = let w = syntax_within y in absurd (omega arith)
+not_earlier (short e f n) y h = absurd (omega (arith, syntax_within y))
 
 pub one_syntax : {b : List ℕ} {i j : ℕ} → SyntaxAt b i → SyntaxAt b j → i ≡ j
 one_syntax {i} {j} x y =
@@ -221,7 +207,7 @@ one_syntax {i} {j} x y =
 pub json_no_syntax : {b : List ℕ} {i : ℕ} → (t : Tree) → Json b t → SyntaxAt b i → ⊥
 json_no_syntax {b} {i} t j (stuck l f n) =
     let v = run_json b t j in let p = (settled v.at _ v.settles).place in
-    n (front_before (suc i) v.reached (omega arith))
+    n (front_before _ v.reached (omega arith))
 json_no_syntax t j (short e f n) = n t j
 
 pub json_nowhere : (b : List ℕ) (d : ℕ) (t : Tree) → Json b t → nest t ≤ d → NowhereDeep b d
@@ -240,45 +226,44 @@ pub record Cleared {T : Type 0} (old empty : BoundedList T) : Type 0 where
   pub room : IsTrue old.reserved → IsTrue empty.reserved
 
 pub cleared : {T : Type 0} (old empty : BoundedList T) → Becomes old [] empty → Cleared old empty
-cleared old empty c = let p = c.peak in record { limit = c.limit; peak = omega arith; room = c.room }
+cleared old empty c = record { limit = c.limit; peak = omega arith; room = c.room }
 
-pub scan_of : {b : List ℕ} {old empty new : BoundedList Token} {old_stack empty_stack new_stack : BoundedList ℕ}
-    → Cleared old empty → Cleared old_stack empty_stack → KeepsLaw b empty new empty_stack new_stack
-    → length b ≤ 1073741824 → Accepts b new empty_stack new_stack
-    → (t : Tree) × IsScanOf b t old new old_stack new_stack
-scan_of {b} {new} c d k few_bytes a =
-    let s = spells (inv_reaches a.settles.reached) new.elements a.deepest a.settles.settles in
-    let t = s.tree in
-    let n = nest_of t new.elements a.deepest s.json a.settles.reached a.settles.settles in
-    let count : length new.elements ≡ size t = ap length s.tokens ∙ length-flatten 0 t in
-    let few : size t < 2 ^ 31 = let o = ap (λ (ns : List ℕ). length ns) a.closed in omega arith in
-    let p = k.token_peak in let q = a.peak in let e = c.peak in let f = d.peak in
-    let g = d.limit in (
-      t,
-      record {
-        json = s.json;
-        only = λ u j. json_only b t u s.json j;
-        shallow = omega arith;
-        spans = ap spans_of s.tokens ∙ spans_of-flatten 0 t;
-        shown = ap (λ z. forest b (spans_of z)) s.tokens ∙ ap (forest b) (spans_of-flatten 0 t) ∙ json_shown b t s.json;
-        count = count;
-        linked = subst AreLinked (sym s.tokens) (json_linked b t s.json few);
-        closed = a.closed;
-        token_peak = omega arith;
-        stack_peak = omega arith;
-      },
-    )
+module _ {b : List ℕ} {empty new : BoundedList Token} {empty_stack new_stack : BoundedList ℕ}
+    (k : KeepsLaw b empty new empty_stack new_stack) (few_bytes : length b ≤ 1073741824)
+    (a : Accepts b new empty_stack new_stack) where
+  spelled : Spells b new.elements
+  spelled = spells (inv_reaches a.settles.reached) new.elements a.deepest a.settles.settles
 
--- it leaves no marks
-scan_unmarked : {b : List ℕ} {empty new : BoundedList Token} {empty_stack new_stack : BoundedList ℕ}
-    → KeepsLaw b empty new empty_stack new_stack → length b ≤ 1073741824 → Accepts b new empty_stack new_stack
-    → AreUnmarked new.elements
-scan_unmarked {b} {new} k few_bytes a =
-    let s = spells (inv_reaches a.settles.reached) new.elements a.deepest a.settles.settles in
-    let t = s.tree in
-    let count : length new.elements ≡ size t = ap length s.tokens ∙ length-flatten 0 t in
-    let few : size t < 2 ^ 31 = let o = ap (λ (ns : List ℕ). length ns) a.closed in omega arith in
-    subst AreUnmarked (sym s.tokens) (json_unmarked b t s.json few)
+  count : length new.elements ≡ size spelled.tree
+  count = ap length spelled.tokens ∙ length-flatten 0 spelled.tree
+
+  few : size spelled.tree < 2 ^ 31
+  few = let o = ap (λ (ns : List ℕ). length ns) a.closed in omega (arith, count)
+
+  scan_of : {old : BoundedList Token} {old_stack : BoundedList ℕ} → Cleared old empty → Cleared old_stack empty_stack
+      → (t : Tree) × IsScanOf b t old new old_stack new_stack
+  scan_of c d =
+      let s = spelled in
+      let t = s.tree in
+      let n = nest_of t new.elements a.deepest s.json a.settles.reached a.settles.settles in (
+        t,
+        record {
+          json = s.json;
+          only = λ u j. json_only b t u s.json j;
+          shallow = omega arith;
+          spans = ap spans_of s.tokens ∙ spans_of-flatten 0 t;
+          shown = cc (s.tokens, spans_of-flatten 0 t, json_shown b t s.json);
+          count = count;
+          linked = rw s.tokens (json_linked b t s.json few);
+          closed = a.closed;
+          token_peak = omega (arith, count);
+          stack_peak = omega arith;
+        },
+      )
+
+  -- it leaves no marks
+  scan_unmarked : AreUnmarked new.elements
+  scan_unmarked = rw spelled.tokens (json_unmarked b spelled.tree spelled.json few)
 
 -- a pass over the line, which began with lists that were cleared
 pub record Ran (b : List ℕ) (old new : BoundedList Token) (old_stack new_stack : BoundedList ℕ)
@@ -294,7 +279,7 @@ pub record Ran (b : List ℕ) (old new : BoundedList Token) (old_stack new_stack
 module _ {b : List ℕ} {old new : BoundedList Token} {old_stack new_stack : BoundedList ℕ} where
   pub ran_tree : (r : Result (Unit {0}) LineFault) → Ran b old new old_stack new_stack r
       → OnOk r ((t : Tree) × IsScanOf b t old new old_stack new_stack)
-  ran_tree (Ok v) h = scan_of h.cleared h.cleared_stack h.law h.short h.answer
+  ran_tree (Ok v) h = scan_of h.law h.short h.answer h.cleared h.cleared_stack
   ran_tree (Err e) h = search rules
 
   pub ran_unmarked : (r : Result (Unit {0}) LineFault) → Ran b old new old_stack new_stack r
@@ -304,57 +289,42 @@ module _ {b : List ℕ} {old new : BoundedList Token} {old_stack new_stack : Bou
 
   pub finds_deep : (r : Result (Unit {0}) LineFault) {i : ℕ} → Ran b old new old_stack new_stack r
       → DeepAt b old_stack.limit i → r ≡ Err (TooDeep i)
-  finds_deep r {i} h d = by_answer r h.empty_stack h.answer (subst (λ n. DeepAt b n i) (sym h.cleared_stack.limit) d)
-    where
-      by_answer : (r : Result (Unit {0}) LineFault) (ks : BoundedList ℕ) → RunAnswers b ks r new new_stack
-          → DeepAt b ks.limit i → r ≡ Err (TooDeep i)
-      by_answer (Ok v) ks a d = absurd (accepts_nowhere a i d)
-      by_answer (Err (NotUtf8 j)) ks a d = absurd a
-      by_answer (Err (Syntax j)) ks a d = absurd (sticks_nowhere b j a.0 i d)
-      by_answer (Err (TooDeep j)) ks a d = ap (λ n. Err (TooDeep n)) (one_deep (sinks_deep a.0) d)
+  finds_deep (Ok v) {i} h d = absurd (accepts_nowhere h.answer i (rw h.cleared_stack.limit d))
+  finds_deep (Err (NotUtf8 j)) h d = absurd h.answer
+  finds_deep (Err (Syntax j)) {i} h d = absurd (sticks_nowhere b j h.answer.0 i (rw h.cleared_stack.limit d))
+  finds_deep (Err (TooDeep j)) h d =
+      ap (λ n. Err (TooDeep n)) (one_deep (sinks_deep h.answer.0) (rw h.cleared_stack.limit d))
 
   pub finds_syntax : (r : Result (Unit {0}) LineFault) {i : ℕ} → Ran b old new old_stack new_stack r
       → NowhereDeep b old_stack.limit → SyntaxAt b i → r ≡ Err (Syntax i)
-  finds_syntax r {i} h n s = by_answer r h.empty_stack h.answer (subst (NowhereDeep b) (sym h.cleared_stack.limit) n)
-    where
-      by_answer : (r : Result (Unit {0}) LineFault) (ks : BoundedList ℕ) → RunAnswers b ks r new new_stack
-          → NowhereDeep b ks.limit → r ≡ Err (Syntax i)
-      by_answer (Ok v) ks a n =
-          let z = spells (inv_reaches a.settles.reached) new.elements a.deepest a.settles.settles in
-          absurd (json_no_syntax z.tree z.json s)
-      by_answer (Err (NotUtf8 j)) ks a n = absurd a
-      by_answer (Err (Syntax j)) ks a n = ap (λ k. Err (Syntax k)) (one_syntax (sticks_syntax a.0.sticks) s)
-      by_answer (Err (TooDeep j)) ks a n = absurd (n j (sinks_deep a.0))
+  finds_syntax (Ok v) h n s =
+      let z = spelled h.law h.short h.answer in absurd (json_no_syntax z.tree z.json s)
+  finds_syntax (Err (NotUtf8 j)) h n s = absurd h.answer
+  finds_syntax (Err (Syntax j)) h n s = ap (λ k. Err (Syntax k)) (one_syntax (sticks_syntax h.answer.0.sticks) s)
+  finds_syntax (Err (TooDeep j)) h n s = absurd (n j (rw h.cleared_stack.limit at (sinks_deep h.answer.0)))
 
   pub finds_tree : (r : Result (Unit {0}) LineFault) (t : Tree) → Ran b old new old_stack new_stack r → Json b t
       → nest t ≤ old_stack.limit → IsOk r
-  finds_tree r t h j l = by_answer r h.empty_stack h.answer (subst (λ n. nest t ≤ n) (sym h.cleared_stack.limit) l)
-    where
-      by_answer : (r : Result (Unit {0}) LineFault) (ks : BoundedList ℕ) → RunAnswers b ks r new new_stack
-          → nest t ≤ ks.limit → IsOk r
-      by_answer (Ok v) ks a l = search rules
-      by_answer (Err (NotUtf8 i)) ks a l = absurd a
-      by_answer (Err (Syntax i)) ks a l = absurd (json_no_syntax t j (sticks_syntax a.0.sticks))
-      by_answer (Err (TooDeep i)) ks a l = absurd (json_nowhere b ks.limit t j l i (sinks_deep a.0))
+  finds_tree (Ok v) t h j l = search rules
+  finds_tree (Err (NotUtf8 i)) t h j l = absurd h.answer
+  finds_tree (Err (Syntax i)) t h j l = absurd (json_no_syntax t j (sticks_syntax h.answer.0.sticks))
+  finds_tree (Err (TooDeep i)) t h j l =
+      absurd (json_nowhere b old_stack.limit t j l i (rw h.cleared_stack.limit at (sinks_deep h.answer.0)))
 
   module _ {r : Result (Unit {0}) LineFault} (h : Ran b old new old_stack new_stack r) (i : ℕ) where
     pub ran_sinks : r ≡ Err (TooDeep i) → (s : SinksAt b old_stack.limit i)
         × (new_stack.peak ≡ max h.empty_stack.peak s.last.deepest)
-    ran_sinks e =
-        subst (λ n. (s : SinksAt b n i) × (new_stack.peak ≡ max h.empty_stack.peak s.last.deepest))
-        h.cleared_stack.limit (subst (λ z. RunAnswers b h.empty_stack z new new_stack) e h.answer)
+    ran_sinks e = rw h.cleared_stack.limit at (rw e at h.answer)
 
     pub ran_sticks : r ≡ Err (Syntax i) → (s : SticksAt b old_stack.limit i)
         × (new_stack.peak ≡ max h.empty_stack.peak s.sticks.last.deepest)
-    ran_sticks e =
-        subst (λ n. (s : SticksAt b n i) × (new_stack.peak ≡ max h.empty_stack.peak s.sticks.last.deepest))
-        h.cleared_stack.limit (subst (λ z. RunAnswers b h.empty_stack z new new_stack) e h.answer)
+    ran_sticks e = rw h.cleared_stack.limit at (rw e at h.answer)
 
     pub ran_syntax : r ≡ Err (Syntax i) → SyntaxAt b i × NowhereDeep b old_stack.limit
     ran_syntax e = let s = (ran_sticks e).0 in (sticks_syntax s.sticks, sticks_nowhere b i s)
 
     pub ran_utf8 : r ≡ Err (NotUtf8 i) → ⊥
-    ran_utf8 e = subst (λ z. RunAnswers b h.empty_stack z new new_stack) e h.answer
+    ran_utf8 e = rw e at h.answer
 
 -- ---- UTF-8
 

@@ -33,10 +33,8 @@ below_at b ts k t h =
     subst P (some_same r.0 t (sym r.1 ∙ h))
     (record {
       found = r.1;
-      tree = subst (λ j. tree_at b (spans_of ts) k ≡ node b (kind_by (byte b r.0.start)) r.0.start r.0.stop
-          (held r.0.stop (forest b (drop j (spans_of ts))))) e r.2;
-      front = subst (λ j. forest b (drop k (spans_of ts)) ≡ tree_at b (spans_of ts) k
-          ∷ past r.0.stop (forest b (drop j (spans_of ts)))) e r.3;
+      tree = rw e at r.2;
+      front = rw e at r.3;
       start = ap start_of r.2 ∙ start-node b (kind_by (byte b r.0.start)) r.0.start r.0.stop
           (held r.0.stop (forest b (drop (suc k) (spans_of ts))));
     })
@@ -61,15 +59,20 @@ past-past (t ∷ ts) i j h =
 
 skip_one : {b : List ℕ} {ts : List Token} {k : ℕ} (j : ℕ) {t : Token} → Below b ts k t → t.start < j → t.stop ≤ j
     → past j (forest b (drop k (spans_of ts))) ≡ past j (forest b (drop (k + 1) (spans_of ts)))
-skip_one {b} {ts} {k} j {t} h l o =
-    ap (past j) h.front ∙ past_on (tree_at b (spans_of ts) k) (past t.stop (forest b (drop (k + 1) (spans_of ts)))) j
-    (omega arith) ∙ past-past (forest b (drop (k + 1) (spans_of ts))) t.stop j o
+skip_one {b} {ts} {k} j {t} h l o = cc (
+  h.front,
+  past_on (tree_at b (spans_of ts) k) (past t.stop (forest b (drop (k
+      + 1) (spans_of ts)))) j (omega arith),
+  past-past (forest b (drop (k + 1) (spans_of ts))) t.stop j o,
+)
 
 skip_end : {b : List ℕ} {ts : List Token} {k : ℕ} (j : ℕ) {t : Token} → Below b ts k t → j ≤ t.start
     → past j (forest b (drop k (spans_of ts))) ≡ forest b (drop k (spans_of ts))
-skip_end {b} {ts} {k} j {t} h l =
-    ap (past j) h.front ∙ past_here (tree_at b (spans_of ts) k) (past t.stop (forest b (drop (k + 1) (spans_of ts)))) j
-    (omega arith) ∙ sym h.front
+skip_end {b} {ts} {k} j {t} h l = cc (
+  h.front,
+  past_here (tree_at b (spans_of ts) k) (past t.stop (forest b (drop (k
+      + 1) (spans_of ts)))) j (omega arith),
+)
 
 drop_spans : (ts : List Token) (k : ℕ) → length ts ≤ k → drop k (spans_of ts) ≡ []
 drop_spans [] zero h = refl
@@ -79,20 +82,20 @@ drop_spans (t ∷ ts) (suc k) h = drop_spans ts k (omega arith)
 
 forest_out : (b : List ℕ) (ts : List Token) (k : ℕ) → length ts ≤ k → forest b (drop k (spans_of ts)) ≡ []
 unfolding forest
-forest_out b ts k h = ap (forest b) (drop_spans ts k h)
+forest_out b ts k h = cc (drop_spans ts k h)
 
 -- ---- the trees past a place are those from a link on
 
 link_first : (b : List ℕ) (t : Token) (ts : List Token) (j r : ℕ) → t.start < j → t.stop ≤ j → r ≡ before j (t ∷ ts)
     → ((n : ℕ) → n ≡ before j ts → forest b (drop n (spans_of ts)) ≡ past j (forest b (spans_of ts)))
     → forest b (drop r (spans_of (t ∷ ts))) ≡ past j (forest b (spans_of (t ∷ ts)))
-link_first b t ts j zero l o e next = let f = before_one j t ts l in absurd (omega arith)
+link_first b t ts j zero l o e next = absurd (omega (arith, before_one j t ts l))
 link_first b t ts j (suc r) l o e next = let f = before_one j t ts l in
     next r (omega arith) ∙ sym (skip_one j (below_at b (t ∷ ts) 0 t refl) l o)
 
 pub link_past : (b : List ℕ) (ts : List Token) (k j r : ℕ) → StopBefore ts k j → r ≡ k + before j (drop k ts)
     → forest b (drop r (spans_of ts)) ≡ past j (forest b (drop k (spans_of ts)))
-link_past b [] k j r s e = forest_out b [] r (omega arith) ∙ sym (ap (past j) (forest_out b [] k (omega arith)))
+link_past b [] k j r s e = cc (forest_out b [] r (omega arith), forest_out b [] k (omega arith))
 link_past b (t ∷ ts) (suc k) j zero s e = absurd (omega arith)
 link_past b (t ∷ ts) (suc k) j (suc r) s e =
     link_past b ts k j r (λ i u h g l. s (suc i) u (omega arith) g l) (omega arith)
@@ -119,14 +122,14 @@ spelling-node b _ i j ts = refl
 
 pub list-items_from : (ts : List Tree) → list_items (items_from ts) ≡ ts
 list-items_from [] = refl
-list-items_from (t ∷ ts) = ap (λ xs. t ∷ xs) (list-items_from ts)
+list-items_from (t ∷ ts) = cc (list-items_from ts)
 
 kind_text : (k : Kind) → is_text k ≡ true → k ≡ Text
 kind_text Text h = refl
 kind_text _ h = cc
 
 name_is : (n : Tree) → is_name n ≡ true → n ≡ scalar Text (atom_of n)
-name_is (scalar k a) h = ap (λ k. scalar k a) (kind_text k h)
+name_is (scalar k a) h = cc (kind_text k h)
 name_is _ h = cc
 
 pub list-members_from : (ts : List Tree) → are_members ts ≡ true → pairs_of ts ≡ list_members (members_from ts)
@@ -167,8 +170,8 @@ length-past j (t ∷ ts) =
 pub length-forest : (b : List ℕ) (ss : List Span) → length (forest b ss) ≤ length ss
 unfolding forest
 length-forest b [] = omega arith
-length-forest b (s ∷ ss) = let l = length-forest b ss in let m = length-past s.stop (forest b ss) in omega arith
+length-forest b (s ∷ ss) = omega (arith, length-forest b ss, length-past s.stop (forest b ss))
 
 pub length-pairs : (ts : List Tree) → length (pairs_of ts) ≤ length ts
-length-pairs (n ∷ t ∷ ts) = let l = length-pairs ts in omega arith
+length-pairs (n ∷ t ∷ ts) = omega (arith, length-pairs ts)
 length-pairs _ = omega arith

@@ -1,8 +1,10 @@
 -- Walks over the parts of a container, by the indices of tokens.
-use Rattle.cj_spans.proofs.Common.{◌≡◌, ℕ, zero, suc, ◌+◌, ◌-◌, ◌%◌, ◌^◌, ◌<◌, ◌≤◌, List, [], ◌∷◌, length, take, drop, slice_get, true, inl, inr, Some, refl, sym, ap, subst, arith, ◌∙◌, first_so, second_so, cases_lt, length-drop, length-take, drop-drop, slice_get_within, nat_tests, Token, Kind, Null, Text, Array, Object, Tree, start_of, size, total_size, kind_by, held, past, node, forest, byte, Span, span_at, spans_of, kind_of, items_of, members_of, AreOf, AreNamed, AreNested, AreLinked, AreLone, AreWhole, ShowMembers, StopBefore, before, is_name, are_members, link_of, shown_between, items_end, members_end, AreSized, tree_at, pairs_of}
+use Rattle.cj_spans.proofs.Common.{◌≡◌, ℕ, zero, suc, ◌+◌, ◌-◌, ◌%◌, ◌^◌, ◌<◌, ◌≤◌, List, [], ◌∷◌, length, take, drop, slice_get, true, inl, inr, Some, refl, sym, ap, subst, arith, ◌∙◌, first_so, second_so, cases_lt, length-drop, length-take, drop-drop, slice_get_within, nat_tests, Token, Kind, Null, Text, Array, Object, Tree, start_of, size, total_size, kind_by, held, past, node, forest, byte, Span, span_at, spans_of, kind_of, items_of, members_of, AreOf, AreLone, AreWhole, ShowMembers, StopBefore, before, is_name, are_members, link_of, shown_between, items_end, members_end, AreSized, tree_at, pairs_of}
+use Rattle.cj_spans.specs.declared.node.Source.{Source}
+use Rattle.cj_spans.proofs.Spellings.{some_same}
 use Rattle.cj_spans.proofs.Forests.{held_on, past_on, start-node}
 use Rattle.cj_spans.proofs.Links.{before_length, before_one, before_zero}
-use Rattle.cj_spans.proofs.Sizes.{are_sized, before_walked, before_stopped}
+use Rattle.cj_spans.proofs.Sizes.{are_sized, full_sized, before_walked, before_stopped}
 use Rattle.cj_spans.proofs.Scanned.{forest_small, length-spans_of}
 use Rattle.cj_spans.proofs.Views.{below, below_at, held_none, past_here, past-past, kind-node, kind_object, list-items_from, list-members_from, length-forest, length-pairs}
 
@@ -127,7 +129,7 @@ held_more b (t ∷ ts) j (suc n) s e =
 past_more : (b : List ℕ) (ts : List Token) (j n m p : ℕ) → Stops j ts → m ≡ before j ts → n ≡ m + p
     → past j (forest b (take n (spans_of ts))) ≡ forest b (take p (drop m (spans_of ts)))
 unfolding forest
-past_more b [] j n m p s e l = ap (past j) (forest_nil b n 0) ∙ sym (forest_nil b p m)
+past_more b [] j n m p s e l = cc (forest_nil b n 0, forest_nil b p m)
 past_more b (t ∷ ts) j n zero p s e l =
     elim (cases_lt t.start j) [
       | inl a ↦ let f = before_one j t ts a in absurd (omega arith)
@@ -147,53 +149,15 @@ past_more b (t ∷ ts) j (suc n) (suc m) p s e l =
       | inr g ↦ let f = before_zero j t ts g in absurd (omega arith)
     ]
 
--- ---- walks
-
-pub shown_none : (b : List ℕ) (ts : List Token) (k n : ℕ) → n ≤ k → shown_between b ts k n ≡ []
-unfolding forest
-shown_none b ts k n h = let e : n - k ≡ 0 = omega arith in ap (λ m. forest b (take m (drop k (spans_of ts)))) e
-
--- the parts of a token's tree are what the tokens up to its link show
-pub shown_parts : (b : List ℕ) (ts : List Token) (k : ℕ) {r : ℕ} (t : Token) → AreNested ts → slice_get ts k ≡ Some t
-    → r ≡ k + 1 + before t.stop (drop (k + 1) ts)
-    → shown_between b ts (k + 1) r ≡ held t.stop (forest b (drop (k + 1) (spans_of ts)))
-shown_parts b ts k {r} t nested h e =
-    let P : List Span → Type 0 = λ ss. forest b (take (r - (k + 1)) ss) ≡ held t.stop (forest b ss) in
-    subst P (spans_of-drop (k + 1) ts)
-    (taken b (drop (k + 1) ts) t.stop (r - (k + 1)) (stops_from ts (k + 1) t.stop (nested k t h)) (omega arith))
+-- ---- a token and what follows it
 
 drop_next : (ts : List Token) (k : ℕ) (t : Token) → slice_get ts k ≡ Some t
     → drop k (spans_of ts) ≡ span_at t.start t.stop ∷ drop (k + 1) (spans_of ts)
 drop_next [] k t h = cc
-drop_next (u ∷ ts) zero t h = let e : u ≡ t = cc in ap (λ (v : Token). span_at v.start v.stop ∷ spans_of ts) e
+drop_next (u ∷ ts) zero t h = let e : u ≡ t = cc in cc
 drop_next (u ∷ ts) (suc k) t h =
     let e : suc k + 1 ≡ suc (k + 1) = omega arith in
-    drop_next ts k t h ∙ ap (λ m. span_at t.start t.stop ∷ drop m (spans_of (u ∷ ts))) (sym e)
-
--- one step of a walk
-pub walk_on : (b : List ℕ) (ts : List Token) (k n : ℕ) {r : ℕ} (t : Token) → AreNested ts → slice_get ts k ≡ Some t
-    → r ≡ k + 1 + before t.stop (drop (k + 1) ts) → r ≤ n
-    → shown_between b ts k n ≡ tree_at b (spans_of ts) k ∷ shown_between b ts r n
-unfolding forest
-walk_on b ts k n {r} t nested h e l =
-    let us = drop (k + 1) ts in
-    let s = stops_from ts (k + 1) t.stop (nested k t h) in
-    let ss = drop (k + 1) (spans_of ts) in
-    let m = before t.stop us in
-    let p = n - (k + 1) in
-    let f : n - k ≡ suc p = omega arith in
-    let parts : held t.stop (forest b (take p ss)) ≡ held t.stop (forest b ss) =
-    subst (λ z. held t.stop (forest b (take p z)) ≡ held t.stop (forest b z)) (spans_of-drop (k + 1) ts)
-    (held_more b us t.stop p s (omega arith)) in
-    let rest : past t.stop (forest b (take p ss)) ≡ forest b (take (n - r) (drop m ss)) =
-    subst (λ z. past t.stop (forest b (take p z)) ≡ forest b (take (n - r) (drop m z))) (spans_of-drop (k + 1) ts)
-    (past_more b us t.stop p m (n - r) s refl (omega arith)) in
-    ap (λ q. forest b (take q (drop k (spans_of ts)))) f ∙ ap (λ z. forest b (take (suc p) z)) (drop_next ts k t h)
-    ∙ (λ i. node b (kind_by (byte b t.start)) t.start t.stop (parts i) ∷ rest i)
-    ∙ (λ i. sym (below_at b ts k t h).tree i ∷ forest b (take (n - r) (drop-drop m (k + 1) (spans_of ts) i)))
-    ∙ ap (λ q. tree_at b (spans_of ts) k ∷ forest b (take (n - r) (drop q (spans_of ts)))) (sym e)
-
--- ---- tokens that are whole
+    cc (drop_next ts k t h)
 
 pub before_drop : (j i : ℕ) (ts : List Token) → i ≤ before j ts → before j (drop i ts) + i ≡ before j ts
 before_drop j zero ts h = omega arith
@@ -218,44 +182,13 @@ pub starts_before : (ts : List Token) (j k : ℕ) (t : Token) → slice_get ts k
 starts_before ts j k t h l =
     elim (cases_lt t.start j) [ inl o ↦ o | inr g ↦ let z = before_stopped ts j k t h g in absurd (omega arith) ]
 
--- a part of a token's tree links no further than the token
-part_link : (ts : List Token) (k : ℕ) {r : ℕ} (i : ℕ) (t u : Token) → AreNested ts → AreLinked ts
-    → slice_get ts k ≡ Some t
-    → r ≡ k + 1 + before t.stop (drop (k + 1) ts) → k + 1 ≤ i → i < r → slice_get ts i ≡ Some u → link_of u ≤ r
-part_link ts k {r} i t u nested linked h e o l g =
-    let j = t.stop in
-    let n = i - (k + 1) in
-    let d = drop (k + 1) ts in
-    let at : k + 1 + n ≡ i = omega arith in
-    let left = before_drop j n d (omega arith) in
-    let here : before j (drop n d) ≡ before j (drop i ts) = ap (before j) (drop-drop n (k + 1) ts)
-    ∙ ap (λ x. before j (drop x ts)) at in
-    let s = starts_before ts j i u g (omega arith) in
-    let next = before_walked ts j r i u g s (omega arith) in
-    let m = before-less u.stop j (drop (i + 1) ts) (nested k t h i u o g s) in
-    let f = linked i u g in
-    omega arith
-
-pub whole_parts : (ts : List Token) (k : ℕ) {r : ℕ} (t : Token) → AreNested ts → AreLinked ts → slice_get ts k ≡ Some t
-    → r ≡ k + 1 + before t.stop (drop (k + 1) ts) → AreWhole ts (k + 1) r
-whole_parts ts k t nested linked h e =
-    let m = before_length t.stop (drop (k + 1) ts) in let d = length-drop (k + 1) ts in
-    let w = slice_get_within ts k t h in
-    (omega arith, λ i u o l g. part_link ts k i t u nested linked h e o l g)
-
-pub whole_none : (ts : List Token) (k : ℕ) → AreWhole ts k 0
-whole_none ts k = (omega arith, λ i u o l g. absurd (omega arith))
-
-pub whole_later : (ts : List Token) (k m n : ℕ) → k ≤ m → AreWhole ts k n → AreWhole ts m n
-whole_later ts k m n l w = (w.0, λ i u o p g. w.1 i u (omega arith) p g)
-
 -- ---- names
 
 kind_string : (c : ℕ) → kind_by c ≡ Text → c ≡ 34
 kind_string c h = grind (arith, nat_tests)
 
 string_size : (b : List ℕ) (i j : ℕ) (ts : List Tree) → byte b i ≡ 34 → size (node b (kind_by (byte b i)) i j ts) ≡ 1
-string_size b i j ts e = ap (λ c. size (node b (kind_by c) i j ts)) e
+string_size b i j ts e = cc
 
 -- a string has no parts
 pub are_lone : {b : List ℕ} {ts : List Token} → AreOf b ts → AreLone b ts
@@ -277,75 +210,7 @@ lone_name : (n : Tree) (ts : List Tree) → are_members (n ∷ ts) ≡ true → 
 lone_name n [] h e = cc
 lone_name n _ h e = cc
 
-members_on : (n t : Tree) (ts : List Tree) → are_members (n ∷ t ∷ ts) ≡ true → are_members ts ≡ true
-members_on n t ts h = second_so _ _ h
-
--- at a name: its value stands right behind it
-pub record AtName (b : List ℕ) (ts : List Token) (k n : ℕ) : Type 0 where
-  pub value : k + 1 < n
-  pub shown : shown_between b ts k n ≡ tree_at b (spans_of ts) k ∷ shown_between b ts (k + 1) n
-
-pub at_name : (b : List ℕ) (ts : List Token) (k n : ℕ) → AreNested ts → AreLinked ts → AreLone b ts → AreWhole ts k n
-    → ShowMembers b ts k n → k < n → AtName b ts k n
-at_name b ts k n nested linked lone w named l =
-    let whole = w.0 in
-    let found = below b ts k (omega arith) in
-    let t = found.0 in
-    let h = found.1 in
-    let r = link_of t in
-    let s = walk_on b ts k n t nested h (linked k t h) (w.1 k t (omega arith) l h) in
-    let m = named _ s in
-    let c = kind_string (byte b t.start)
-    (name_node b (kind_by (byte b t.start)) t.start t.stop _ (sym (ap is_name found.2) ∙ name_first _ _ m)) in
-    let e : r ≡ k + 1 = lone k t h c in
-    let shown = subst (λ q. shown_between b ts k n ≡ tree_at b (spans_of ts) k ∷ shown_between b ts q n) e s in
-    record {
-      value = elim (cases_lt (k + 1) n) [
-        | inl o ↦ o
-        | inr g ↦
-            absurd (lone_name (tree_at b (spans_of ts) k) (shown_between b ts (k + 1) n) (named _ shown)
-            (shown_none b ts (k + 1) n g))
-      ];
-      shown = shown;
-    }
-
--- the token at k links to r
-abbrev pub LinksTo : List Token → ℕ → ℕ → Type 0
-LinksTo ts k r = (t : Token) → slice_get ts k ≡ Some t → r ≡ k + 1 + before t.stop (drop (k + 1) ts)
-
--- one step of a walk over items
-pub item_on : (b : List ℕ) (ts : List Token) (k n r : ℕ) → AreNested ts → AreLinked ts → AreWhole ts k n → k < n
-    → LinksTo ts k r → shown_between b ts k n ≡ tree_at b (spans_of ts) k ∷ shown_between b ts r n
-item_on b ts k n r nested linked w l e =
-    let whole = w.0 in
-    let found = below b ts k (omega arith) in
-    let t = found.0 in
-    let f = linked k t found.1 in
-    let g = e t found.1 in
-    let o = w.1 k t (omega arith) l found.1 in
-    walk_on b ts k n t nested found.1 g (omega arith)
-
--- one step of a walk over names and values
-pub record MemberStep (b : List ℕ) (ts : List Token) (k n r : ℕ) : Type 0 where
-  pub shown : pairs_of (shown_between b ts k n) ≡ (tree_at b (spans_of ts) k, tree_at b (spans_of ts) (k + 1))
-      ∷ pairs_of (shown_between b ts r n)
-  pub named : ShowMembers b ts r n
-
-pub member_on : (b : List ℕ) (ts : List Token) (k n r : ℕ) → AreNested ts → AreLinked ts → AreLone b ts
-    → AreWhole ts k n → ShowMembers b ts k n → k < n → LinksTo ts (k + 1) r → MemberStep b ts k n r
-member_on b ts k n r nested linked lone w named l e =
-    let a = at_name b ts k n nested linked lone w named l in
-    let later = whole_later ts k (k + 1) n (omega arith) w in
-    let both = a.shown ∙ ap (λ xs. tree_at b (spans_of ts) k ∷ xs)
-    (item_on b ts (k + 1) n r nested linked later a.value e) in
-    record {
-      shown = ap pairs_of both;
-      named = λ us f. sym (ap are_members f)
-          ∙ members_on (tree_at b (spans_of ts) k) (tree_at b (spans_of ts) (k + 1)) (shown_between b ts r n)
-          (named _ both);
-    }
-
--- ---- where a walk begins
+-- ---- what a node shows of its parts
 
 items-node : (b : List ℕ) (k : Kind) (i j l : ℕ) {ts : List Tree} (shown : ℕ → List Tree) → shown l ≡ ts → shown 0 ≡ []
     → shown (items_end k l) ≡ items_of (node b k i j ts)
@@ -355,13 +220,16 @@ items-node b _ i j l shown e z = z
 members-node : (b : List ℕ) (k : Kind) (i j l : ℕ) {ts : List Tree} (shown : ℕ → List Tree)
     → (k ≡ Object → are_members ts ≡ true) → shown l ≡ ts → shown 0 ≡ []
     → pairs_of (shown (members_end k l)) ≡ members_of (node b k i j ts)
-members-node b Object i j l {ts} shown h e z = ap pairs_of e ∙ list-members_from ts (h refl)
-members-node b _ i j l shown h e z = ap pairs_of z
+members-node b Object i j l {ts} shown h e z = cc (list-members_from ts (h refl))
+members-node b _ i j l shown h e z = cc
 
 named-node : (k : Kind) (l : ℕ) {ts : List Tree} (shown : ℕ → List Tree) → (k ≡ Object → are_members ts ≡ true)
     → shown l ≡ ts → shown 0 ≡ [] → are_members (shown (members_end k l)) ≡ true
-named-node Object l shown h e z = ap are_members e ∙ h refl
-named-node _ l shown h e z = ap are_members z
+named-node Object l shown h e z = cc (h refl)
+named-node _ l shown h e z = cc
+
+whole_none : (ts : List Token) (k : ℕ) → AreWhole ts k 0
+whole_none ts k = (omega arith, λ i u o l g. absurd (omega arith))
 
 whole_items : (ts : List Token) (k l : ℕ) (r : Kind) → AreWhole ts k l → AreWhole ts k (items_end r l)
 whole_items ts k l Array w = w
@@ -371,199 +239,316 @@ whole_members : (ts : List Token) (k l : ℕ) (r : Kind) → AreWhole ts k l →
 whole_members ts k l Object w = w
 whole_members ts k l _ w = whole_none ts k
 
--- of a node of the kind r whose token, at k, links to l: a walk over its items up to n
-pub record ItemsFrom (b : List ℕ) (ts : List Token) (k n : ℕ) : Type 0 where
-  pub whole : AreWhole ts (k + 1) n
-  pub shown : shown_between b ts (k + 1) n ≡ items_of (tree_at b (spans_of ts) k)
-
-pub items_from_link : (b : List ℕ) (ts : List Token) (k l : ℕ) {n : ℕ} {r : Kind} → AreNested ts → AreLinked ts
-    → k < length ts → LinksTo ts k l → r ≡ kind_of (tree_at b (spans_of ts) k) → n ≡ items_end r l → ItemsFrom b ts k n
-items_from_link b ts k l {n} {r} nested linked inside e f g =
-    let found = below b ts k inside in
-    let t = found.0 in
-    let w = below_at b ts k t found.1 in
-    let d = kind_by (byte b t.start) in
-    let parts = held t.stop (forest b (drop (k + 1) (spans_of ts))) in
-    let kind : r ≡ d = f ∙ ap kind_of w.tree ∙ kind-node b d t.start t.stop parts in
-    let all = items-node b d t.start t.stop l (shown_between b ts (k + 1))
-    (shown_parts b ts k t nested found.1 (e t found.1)) (shown_none b ts (k + 1) 0 (omega arith))
-    ∙ sym (ap items_of w.tree) in
-    let stop : items_end d l ≡ n = ap (λ x. items_end x l) (sym kind) ∙ sym g in
-    record {
-      whole = subst (AreWhole ts (k + 1)) stop
-          (whole_items ts (k + 1) l d (whole_parts ts k t nested linked found.1 (e t found.1)));
-      shown = ap (shown_between b ts (k + 1)) (sym stop) ∙ all;
-    }
-
--- and one over its members
-pub record MembersFrom (b : List ℕ) (ts : List Token) (k n : ℕ) : Type 0 where
-  pub whole : AreWhole ts (k + 1) n
-  pub named : ShowMembers b ts (k + 1) n
-  pub shown : pairs_of (shown_between b ts (k + 1) n) ≡ members_of (tree_at b (spans_of ts) k)
-
-pub members_from_link : (b : List ℕ) (ts : List Token) (k l : ℕ) {n : ℕ} {r : Kind} → AreNested ts → AreLinked ts
-    → AreNamed b ts → k < length ts → LinksTo ts k l → r ≡ kind_of (tree_at b (spans_of ts) k) → n ≡ members_end r l
-    → MembersFrom b ts k n
-members_from_link b ts k l {n} {r} nested linked named inside e f g =
-    let found = below b ts k inside in
-    let t = found.0 in
-    let w = below_at b ts k t found.1 in
-    let d = kind_by (byte b t.start) in
-    let parts = held t.stop (forest b (drop (k + 1) (spans_of ts))) in
-    let kind : r ≡ d = f ∙ ap kind_of w.tree ∙ kind-node b d t.start t.stop parts in
-    let names : d ≡ Object → are_members parts ≡ true = λ o. named k t found.1 (kind_object (byte b t.start) o) in
-    let first = shown_parts b ts k t nested found.1 (e t found.1) in
-    let none = shown_none b ts (k + 1) 0 (omega arith) in
-    let all = members-node b d t.start t.stop l (shown_between b ts (k + 1)) names first none
-    ∙ sym (ap members_of w.tree) in
-    let stop : members_end d l ≡ n = ap (λ x. members_end x l) (sym kind) ∙ sym g in
-    record {
-      whole = subst (AreWhole ts (k + 1)) stop
-          (whole_members ts (k + 1) l d (whole_parts ts k t nested linked found.1 (e t found.1)));
-      named = λ us q. sym (ap are_members q) ∙ ap (λ m. are_members (shown_between b ts (k + 1) m)) (sym stop)
-          ∙ named-node d l (shown_between b ts (k + 1)) names first none;
-      shown = ap (λ m. pairs_of (shown_between b ts (k + 1) m)) (sym stop) ∙ all;
-    }
-
--- ---- no more trees than tokens
-
-pub few_trees : (b : List ℕ) (ts : List Token) (k n : ℕ) → length (shown_between b ts k n) ≤ length ts
-few_trees b ts k n =
-    let ss = drop k (spans_of ts) in
-    let l = length-forest b (take (n - k) ss) in
-    omega (arith, length-take (n - k) ss, length-drop k (spans_of ts), length-spans_of ts)
-
-pub few_pairs : (b : List ℕ) (ts : List Token) (k n : ℕ) → length (pairs_of (shown_between b ts k n)) ≤ length ts
-few_pairs b ts k n = let l = length-pairs (shown_between b ts k n) in let m = few_trees b ts k n in omega arith
-
--- ---- a walk that passes over the first trees by how many values and names they are
-
-passed_over : (ts : List Tree) {us : List Tree} (t : Tree) (j : ℕ) → us ≡ t ∷ ts
-    → total_size (take (suc j) us) ≡ size t + total_size (take j ts)
-passed_over ts t j e = ap (λ xs. total_size (take (suc j) xs)) e
-
-some_left : {ts : List Tree} (j : ℕ) → suc j ≤ length ts → ts ≡ [] → ⊥
-some_left {ts} j h e = let n : length ts ≡ 0 = ap length e in absurd (omega arith)
-
--- a walk from the k-th token on, whose first j trees are m values and names
-pub walk_behind : (b : List ℕ) (ts : List Token) (j k m n : ℕ) → AreNested ts → AreLinked ts → AreSized b ts
-    → AreWhole ts k n → j ≤ length (shown_between b ts k n) → total_size (take j (shown_between b ts k n)) ≡ m
-    → shown_between b ts (k + m) n ≡ drop j (shown_between b ts k n)
-walk_behind b ts zero k m n nested linked sized w few e = ap (λ i. shown_between b ts i n) (omega arith)
-walk_behind b ts (suc j) k m n nested linked sized w few e =
-    elim (cases_lt k n) [
-      | inl l ↦
-          let whole = w.0 in
-          let found = below b ts k (omega arith) in
-          let t = found.0 in
-          let r = link_of t in
-          let here = linked k t found.1 in
-          let own = sized k t found.1 in
-          let step = walk_on b ts k n t nested found.1 here (w.1 k t (omega arith) l found.1) in
-          let first =
-          passed_over (shown_between b ts r n) (tree_at b (spans_of ts) k) j step in
-          let count = ap length step in
-          let later =
-          walk_behind b ts j r (total_size (take j (shown_between b ts r n))) n nested linked sized
-          (whole_later ts k r n (omega arith) w) (omega arith) refl in
-          let same : k + m ≡ r + total_size (take j (shown_between b ts r n)) = omega arith in
-          ap (λ i. shown_between b ts i n) same ∙ later ∙ sym (ap (drop (suc j)) step)
-      | inr g ↦ absurd (some_left j few (shown_none b ts k n g))
-    ]
-
--- what a walk shows is no more values and names than tokens
-pub small_trees : (b : List ℕ) (ts : List Token) (k n : ℕ) → total_size (shown_between b ts k n) ≤ n - k
-small_trees b ts k n = let ss = drop k (spans_of ts) in
-    let l = forest_small b (take (n - k) ss) in omega (arith, length-take (n - k) ss)
-
 items_end_low : (r : Kind) (l : ℕ) → items_end r l ≤ l
 items_end_low Null l = omega arith
 items_end_low _ l = omega arith
 
-link_low : (ts : List Token) (k l : ℕ) → AreLinked ts → k < length ts → LinksTo ts k l → l < 2 ^ 31
-link_low ts k l linked h e =
-    let t = below [] ts k h in
-    let here : t.0.link % 2 ^ 31 ≡ k + 1 + before t.0.stop (drop (k + 1) ts) = linked k t.0 t.1 in
-    let there = e t.0 t.1 in
-    omega arith
+-- the token at k links to r
+abbrev pub LinksTo : List Token → ℕ → ℕ → Type 0
+LinksTo ts k r = (t : Token) → slice_get ts k ≡ Some t → r ≡ k + 1 + before t.stop (drop (k + 1) ts)
 
--- the items of a node whose token, at k, links to l
-pub small_items : (b : List ℕ) (ts : List Token) (k l : ℕ) {n : ℕ} (r : Kind) → AreLinked ts → k < length ts
-    → LinksTo ts k l
-    → n ≡ items_end r l → total_size (shown_between b ts (k + 1) n) < 2 ^ 31
-small_items b ts k l {n} r linked inside e f =
-    let low = link_low ts k l linked inside e in let end = items_end_low r l in
-    let small = small_trees b ts (k + 1) n in omega arith
+-- ---- walks over the tokens of a source
 
--- a walk over them that passes over the first ones
-pub items_behind_link : (b : List ℕ) (ts : List Token) (k l : ℕ) {n : ℕ} (j : ℕ) {m : ℕ} {r : Kind} → AreNested ts
-    → AreLinked ts
-    → AreSized b ts → k < length ts → LinksTo ts k l → r ≡ kind_of (tree_at b (spans_of ts) k) → n ≡ items_end r l
-    → j ≤ length (items_of (tree_at b (spans_of ts) k)) → total_size (take j (items_of (tree_at b (spans_of ts) k))) ≡ m
-    → shown_between b ts (k + 1 + m) n ≡ drop j (items_of (tree_at b (spans_of ts) k))
-items_behind_link b ts k l {n} j {m} nested linked sized inside e f g few same =
-    let w = items_from_link b ts k l nested linked inside e f g in
-    let count = ap length w.shown in
-    walk_behind b ts j (k + 1) m n nested linked sized w.whole (omega arith)
-    (ap (λ xs. total_size (take j xs)) w.shown ∙ same) ∙ ap (drop j) w.shown
+module _ (source : Source) where
+  abbrev b : List ℕ
+  b = source.line.now
 
--- the item behind the first ones of a node, if there is one
-pub record ItemBehind (b : List ℕ) (ts : List Token) (k j m : ℕ) : Type 0 where
-  pub inside : k + 1 + m < length ts
-  pub rest : List Tree
-  pub first : drop j (items_of (tree_at b (spans_of ts) k)) ≡ tree_at b (spans_of ts) (k + 1 + m) ∷ rest
+  abbrev ts : List Token
+  ts = source.tokens.now
 
-some_one : {t u : Token} → Some t ≡ Some u → t ≡ u
-some_one e = cc
+  -- the tree of the k-th token, and the trees of those from the k-th to the n-th
+  abbrev tree_of : ℕ → Tree
+  tree_of k = tree_at b (spans_of ts) k
 
-pub item_behind_link : (b : List ℕ) (ts : List Token) (k j : ℕ) {m : ℕ} → AreNested ts → AreLinked ts → AreSized b ts
-    → k < length ts → j < length (items_of (tree_at b (spans_of ts) k))
-    → total_size (take j (items_of (tree_at b (spans_of ts) k))) ≡ m
-    → ItemBehind b ts k j m
-item_behind_link b ts k j {m} nested linked sized inside few same =
-    let found = below b ts k inside in
-    let l = k + 1 + before found.0.stop (drop (k + 1) ts) in
-    let r = kind_of (tree_at b (spans_of ts) k) in
-    let n = items_end r l in
-    let links : LinksTo ts k l = λ t e. sym (linked k found.0 found.1) ∙ ap link_of (some_one (sym found.1 ∙ e))
-    ∙ linked k t e in
-    let w = items_from_link b ts k l {n = n} {r = r} nested linked inside links refl refl in
-    let left =
-    items_behind_link b ts k l {n = n} j {r = r} nested linked sized inside links refl refl (omega (arith, few)) same in
-    let count = length-drop j (items_of (tree_at b (spans_of ts) k)) in
-    elim (cases_lt (k + 1 + m) n) [
-      | inl low ↦
-          let whole = whole_later ts (k + 1) (k + 1 + m) n (omega arith) w.whole in
-          let there = below b ts (k + 1 + m) (omega (arith, whole.0, low)) in
-          let u = there.0 in
-          let step = walk_on b ts (k + 1 + m) n u nested there.1 (linked (k + 1 + m) u there.1)
-          (whole.1 (k + 1 + m) u (omega arith) low there.1) in
-          record {
-            inside = omega (arith, whole.0, low);
-            rest = shown_between b ts (link_of u) n;
-            first = sym left ∙ step;
-          }
-      | inr high ↦
-          let none = ap length (sym left ∙ shown_none b ts (k + 1 + m) n high) in
-          absurd (omega (arith, none, count, few))
-    ]
+  abbrev shown : ℕ → ℕ → List Tree
+  shown k n = shown_between b ts k n
 
--- a token's link, by the size of its tree
-pub linked_size : (b : List ℕ) (ts : List Token) (k l : ℕ) → AreLinked ts → AreSized b ts → k < length ts
-    → LinksTo ts k l → (l ≡ k + size (tree_at b (spans_of ts) k)) × (l < 2 ^ 31)
-linked_size b ts k l linked sized inside e =
-    let t = below b ts k inside in
-    let here = linked k t.0 t.1 in
-    let own = sized k t.0 t.1 in
-    let there = e t.0 t.1 in
-    (omega arith, link_low ts k l linked inside e)
+  -- to what the token t at k links
+  abbrev end_of : ℕ → Token → ℕ
+  end_of k t = k + 1 + before t.stop (drop (k + 1) ts)
 
--- ---- numbers
+  sized : AreSized b ts
+  sized = full_sized b ts source.nested source.linked source.full
 
--- a token's index is below its link, which is below 2^31
-pub number_linked : (tokens : List Token) (k : ℕ) → AreLinked tokens → k < length tokens → k < 2 ^ 31
-number_linked tokens k linked h =
-    let t = below [] tokens k h in
-    let e : t.0.link % 2 ^ 31 ≡ k + 1 + before t.0.stop (drop (k + 1) tokens) = linked k t.0 t.1 in
-    let b : t.0.link % 2 ^ 31 < 2 ^ 31 = omega arith in
-    omega arith
+  pub shown_none : (k n : ℕ) → n ≤ k → shown k n ≡ []
+  unfolding forest
+  shown_none k n h = let e : n - k ≡ 0 = omega arith in ap (λ m. forest b (take m (drop k (spans_of ts)))) e
+
+  -- the parts of a token's tree are what the tokens up to its link show
+  shown_parts : (k : ℕ) {r : ℕ} (t : Token) → slice_get ts k ≡ Some t → r ≡ end_of k t
+      → shown (k + 1) r ≡ held t.stop (forest b (drop (k + 1) (spans_of ts)))
+  shown_parts k {r} t h e =
+      let P : List Span → Type 0 = λ ss. forest b (take (r - (k + 1)) ss) ≡ held t.stop (forest b ss) in
+      subst P (spans_of-drop (k + 1) ts) (taken b (drop (k + 1) ts) t.stop (r - (k + 1))
+      (stops_from ts (k + 1) t.stop (source.nested k t h)) (omega arith))
+
+  -- one step of a walk
+  walk_on : (k n : ℕ) {r : ℕ} (t : Token) → slice_get ts k ≡ Some t → r ≡ end_of k t → r ≤ n
+      → shown k n ≡ tree_of k ∷ shown r n
+  unfolding forest
+  walk_on k n {r} t h e l =
+      let us = drop (k + 1) ts in
+      let s = stops_from ts (k + 1) t.stop (source.nested k t h) in
+      let ss = drop (k + 1) (spans_of ts) in
+      let m = before t.stop us in
+      let p = n - (k + 1) in
+      let f : n - k ≡ suc p = omega arith in
+      let parts : held t.stop (forest b (take p ss)) ≡ held t.stop (forest b ss) =
+      subst (λ z. held t.stop (forest b (take p z)) ≡ held t.stop (forest b z)) (spans_of-drop (k + 1) ts)
+      (held_more b us t.stop p s (omega arith)) in
+      let rest : past t.stop (forest b (take p ss)) ≡ forest b (take (n - r) (drop m ss)) =
+      subst (λ z. past t.stop (forest b (take p z)) ≡ forest b (take (n - r) (drop m z))) (spans_of-drop (k + 1) ts)
+      (past_more b us t.stop p m (n - r) s refl (omega arith)) in
+      ap (λ q. forest b (take q (drop k (spans_of ts)))) f ∙ ap (λ z. forest b (take (suc p) z)) (drop_next ts k t h)
+      ∙ (λ i. node b (kind_by (byte b t.start)) t.start t.stop (parts i) ∷ rest i)
+      ∙ (λ i. sym (below_at b ts k t h).tree i ∷ forest b (take (n - r) (drop-drop m (k + 1) (spans_of ts) i)))
+      ∙ ap (λ q. tree_of k ∷ forest b (take (n - r) (drop q (spans_of ts)))) (sym e)
+
+  -- ---- tokens that are whole
+
+  -- a part of a token's tree links no further than the token
+  part_link : (k : ℕ) {r : ℕ} (i : ℕ) (t u : Token) → slice_get ts k ≡ Some t → r ≡ end_of k t → k + 1 ≤ i → i < r
+      → slice_get ts i ≡ Some u → link_of u ≤ r
+  part_link k {r} i t u h e o l g =
+      let j = t.stop in
+      let n = i - (k + 1) in
+      let at : k + 1 + n ≡ i = omega arith in
+      let left = before_drop j n (drop (k + 1) ts) (omega arith) in
+      let here : before j (drop n (drop (k + 1) ts)) ≡ before j (drop i ts) = ap (before j) (drop-drop n (k + 1) ts)
+      ∙ ap (λ x. before j (drop x ts)) at in
+      let s = starts_before ts j i u g (omega arith) in
+      let next = before_walked ts j r i u g s (omega arith) in
+      omega (arith, before-less u.stop j (drop (i + 1) ts) (source.nested k t h i u o g s), source.linked i u g)
+
+  whole_parts : (k : ℕ) {r : ℕ} (t : Token) → slice_get ts k ≡ Some t → r ≡ end_of k t → AreWhole ts (k + 1) r
+  whole_parts k t h e = (
+    omega (arith, before_length t.stop (drop (k + 1) ts), length-drop (k + 1) ts, slice_get_within ts k t h),
+    λ i u o l g. part_link k i t u h e o l g,
+  )
+
+  pub whole_later : (k m n : ℕ) → k ≤ m → AreWhole ts k n → AreWhole ts m n
+  whole_later k m n l w = (w.0, λ i u o p g. w.1 i u (omega arith) p g)
+
+  -- at a name: its value stands right behind it
+  pub record AtName (k n : ℕ) : Type 0 where
+    pub value : k + 1 < n
+    pub shown_on : shown k n ≡ tree_of k ∷ shown (k + 1) n
+
+  pub at_name : (k n : ℕ) → AreWhole ts k n → ShowMembers b ts k n → k < n → AtName k n
+  at_name k n w named l =
+      let whole = w.0 in
+      let found = below b ts k (omega arith) in
+      let t = found.0 in
+      let h = found.1 in
+      let s = walk_on k n t h (source.linked k t h) (w.1 k t (omega arith) l h) in
+      let c = kind_string (byte b t.start) (name_node b (kind_by (byte b t.start)) t.start t.stop _
+      (sym (ap is_name found.2) ∙ name_first _ _ (named _ s))) in
+      let e : link_of t ≡ k + 1 = source.lone k t h c in
+      let on = subst (λ q. shown k n ≡ tree_of k ∷ shown q n) e s in
+      record {
+        value = elim (cases_lt (k + 1) n) [
+          | inl o ↦ o
+          | inr g ↦ absurd (lone_name (tree_of k) (shown (k + 1) n) (named _ on) (shown_none (k + 1) n g))
+        ];
+        shown_on = on;
+      }
+
+  -- one step of a walk over items
+  pub item_on : (k n r : ℕ) → AreWhole ts k n → k < n → LinksTo ts k r → shown k n ≡ tree_of k ∷ shown r n
+  item_on k n r w l e =
+      let whole = w.0 in
+      let found = below b ts k (omega arith) in
+      let f = source.linked k found.0 found.1 in
+      let g = e found.0 found.1 in
+      let o = w.1 k found.0 (omega arith) l found.1 in
+      walk_on k n found.0 found.1 g (omega arith)
+
+  -- one step of a walk over names and values
+  pub record MemberStep (k n r : ℕ) : Type 0 where
+    pub shown_on : pairs_of (shown k n) ≡ (tree_of k, tree_of (k + 1)) ∷ pairs_of (shown r n)
+    pub named : ShowMembers b ts r n
+
+  pub member_on : (k n r : ℕ) → AreWhole ts k n → ShowMembers b ts k n → k < n → LinksTo ts (k + 1) r
+      → MemberStep k n r
+  member_on k n r w named l e =
+      let a = at_name k n w named l in
+      let both = a.shown_on ∙ ap (λ xs. tree_of k ∷ xs)
+      (item_on (k + 1) n r (whole_later k (k + 1) n (omega arith) w) a.value e) in
+      record {
+        shown_on = ap pairs_of both;
+        named = λ us f.
+            sym (ap are_members f) ∙ second_so (is_name (tree_of k)) (are_members (shown r n)) (named _ both);
+      }
+
+  -- ---- where a walk begins
+
+  -- of a node of the kind r whose token, at k, links to l: a walk over its items up to n
+  pub record ItemsFrom (k n : ℕ) : Type 0 where
+    pub whole : AreWhole ts (k + 1) n
+    pub all : shown (k + 1) n ≡ items_of (tree_of k)
+
+  -- and one over its members
+  pub record MembersFrom (k n : ℕ) : Type 0 where
+    pub whole : AreWhole ts (k + 1) n
+    pub named : ShowMembers b ts (k + 1) n
+    pub all : pairs_of (shown (k + 1) n) ≡ members_of (tree_of k)
+
+  module _ (k l : ℕ) {n : ℕ} {r : Kind} (inside : k < length ts) (e : LinksTo ts k l)
+      (f : r ≡ kind_of (tree_of k)) where
+    pub items_from_link : n ≡ items_end r l → ItemsFrom k n
+    items_from_link g =
+        let found = below b ts k inside in
+        let t = found.0 in
+        let w = below_at b ts k t found.1 in
+        let d = kind_by (byte b t.start) in
+        let kind : r ≡ d = f ∙ ap kind_of w.tree ∙ kind-node b d t.start t.stop _ in
+        let stop : items_end d l ≡ n = ap (λ x. items_end x l) (sym kind) ∙ sym g in
+        record {
+          whole = subst (AreWhole ts (k + 1)) stop
+              (whole_items ts (k + 1) l d (whole_parts k t found.1 (e t found.1)));
+          all = ap (shown (k + 1)) (sym stop) ∙ items-node b d t.start t.stop l (shown (k + 1))
+              (shown_parts k t found.1 (e t found.1)) (shown_none (k + 1) 0 (omega arith)) ∙ sym (ap items_of w.tree);
+        }
+
+    pub members_from_link : n ≡ members_end r l → MembersFrom k n
+    members_from_link g =
+        let found = below b ts k inside in
+        let t = found.0 in
+        let w = below_at b ts k t found.1 in
+        let d = kind_by (byte b t.start) in
+        let parts = held t.stop (forest b (drop (k + 1) (spans_of ts))) in
+        let kind : r ≡ d = f ∙ ap kind_of w.tree ∙ kind-node b d t.start t.stop parts in
+        let names : d ≡ Object → are_members parts ≡ true =
+        λ o. source.named k t found.1 (kind_object (byte b t.start) o) in
+        let first = shown_parts k t found.1 (e t found.1) in
+        let none = shown_none (k + 1) 0 (omega arith) in
+        let stop : members_end d l ≡ n = ap (λ x. members_end x l) (sym kind) ∙ sym g in
+        record {
+          whole = subst (AreWhole ts (k + 1)) stop
+              (whole_members ts (k + 1) l d (whole_parts k t found.1 (e t found.1)));
+          named = λ us q. sym (ap are_members q) ∙ ap (λ m. are_members (shown (k + 1) m)) (sym stop)
+              ∙ named-node d l (shown (k + 1)) names first none;
+          all = ap (λ m. pairs_of (shown (k + 1) m)) (sym stop)
+              ∙ members-node b d t.start t.stop l (shown (k + 1)) names first none ∙ sym (ap members_of w.tree);
+        }
+
+  -- ---- no more trees than tokens
+
+  pub few_trees : (k n : ℕ) → length (shown k n) ≤ length ts
+  few_trees k n =
+      let ss = drop k (spans_of ts) in
+      omega (
+        arith,
+        length-forest b (take (n - k) ss),
+        length-take (n - k) ss,
+        length-drop k (spans_of ts),
+        length-spans_of ts,
+      )
+
+  pub few_pairs : (k n : ℕ) → length (pairs_of (shown k n)) ≤ length ts
+  few_pairs k n = omega (arith, length-pairs (shown k n), few_trees k n)
+
+  -- ---- a walk that passes over the first trees by how many values and names they are
+
+  -- a walk from the k-th token on, whose first j trees are m values and names
+  walk_behind : (j k m n : ℕ) → AreWhole ts k n → j ≤ length (shown k n) → total_size (take j (shown k n)) ≡ m
+      → shown (k + m) n ≡ drop j (shown k n)
+  walk_behind zero k m n w few e = ap (λ i. shown i n) (omega arith)
+  walk_behind (suc j) k m n w few e =
+      elim (cases_lt k n) [
+        | inl l ↦
+            let whole = w.0 in
+            let found = below b ts k (omega arith) in
+            let t = found.0 in
+            let r = link_of t in
+            let here = source.linked k t found.1 in
+            let own = sized k t found.1 in
+            let step = walk_on k n t found.1 here (w.1 k t (omega arith) l found.1) in
+            let first : total_size (take (suc j) (shown k n)) ≡ size (tree_of k) + total_size (take j (shown r n)) =
+            ap (λ xs. total_size (take (suc j) xs)) step in
+            let count = ap length step in
+            let later = walk_behind j r (total_size (take j (shown r n))) n
+            (whole_later k r n (omega arith) w) (omega arith) refl in
+            let same : k + m ≡ r + total_size (take j (shown r n)) = omega arith in
+            ap (λ i. shown i n) same ∙ later ∙ sym (ap (drop (suc j)) step)
+        | inr g ↦ let none = ap length (shown_none k n g) in absurd (omega arith)
+      ]
+
+  link_low : (k l : ℕ) → k < length ts → LinksTo ts k l → l < 2 ^ 31
+  link_low k l h e =
+      let t = below [] ts k h in
+      let here : t.0.link % 2 ^ 31 ≡ end_of k t.0 = source.linked k t.0 t.1 in
+      omega (arith, e t.0 t.1)
+
+  -- the items of a node whose token, at k, links to l
+  pub small_items : (k l : ℕ) {n : ℕ} (r : Kind) → k < length ts → LinksTo ts k l → n ≡ items_end r l
+      → total_size (shown (k + 1) n) < 2 ^ 31
+  small_items k l {n} r inside e f =
+      let ss = drop (k + 1) (spans_of ts) in
+      omega (
+        arith,
+        link_low k l inside e,
+        items_end_low r l,
+        forest_small b (take (n - (k + 1)) ss),
+        length-take (n - (k + 1)) ss,
+      )
+
+  -- a walk over them that passes over the first ones
+  pub items_behind_link : (k l : ℕ) {n : ℕ} (j : ℕ) {m : ℕ} {r : Kind} → k < length ts → LinksTo ts k l
+      → r ≡ kind_of (tree_of k) → n ≡ items_end r l → j ≤ length (items_of (tree_of k))
+      → total_size (take j (items_of (tree_of k))) ≡ m → shown (k + 1 + m) n ≡ drop j (items_of (tree_of k))
+  items_behind_link k l {n} j {m} inside e f g few same =
+      let w = items_from_link k l inside e f g in
+      let count = ap length w.all in
+      walk_behind j (k + 1) m n w.whole (omega arith) (ap (λ xs. total_size (take j xs)) w.all ∙ same)
+      ∙ ap (drop j) w.all
+
+  -- the item behind the first ones of a node, if there is one
+  pub record ItemBehind (k j m : ℕ) : Type 0 where
+    pub inside : k + 1 + m < length ts
+    pub rest : List Tree
+    pub first : drop j (items_of (tree_of k)) ≡ tree_of (k + 1 + m) ∷ rest
+
+  pub item_behind_link : (k j : ℕ) {m : ℕ} → k < length ts → j < length (items_of (tree_of k))
+      → total_size (take j (items_of (tree_of k))) ≡ m → ItemBehind k j m
+  item_behind_link k j {m} inside few same =
+      let found = below b ts k inside in
+      let l = end_of k found.0 in
+      let r = kind_of (tree_of k) in
+      let n = items_end r l in
+      let links : LinksTo ts k l = λ t e. ap (end_of k) (some_same found.0 t (sym found.1 ∙ e)) in
+      let w = items_from_link k l {n = n} {r = r} inside links refl refl in
+      let left = items_behind_link k l {n = n} j {r = r} inside links refl refl (omega (arith, few)) same in
+      let count = length-drop j (items_of (tree_of k)) in
+      elim (cases_lt (k + 1 + m) n) [
+        | inl low ↦
+            let whole = whole_later (k + 1) (k + 1 + m) n (omega arith) w.whole in
+            let there = below b ts (k + 1 + m) (omega (arith, whole.0, low)) in
+            let u = there.0 in
+            record {
+              inside = omega (arith, whole.0, low);
+              rest = shown (link_of u) n;
+              first = sym left ∙ walk_on (k + 1 + m) n u there.1 (source.linked (k + 1 + m) u there.1)
+                  (whole.1 (k + 1 + m) u (omega arith) low there.1);
+            }
+        | inr high ↦
+            let none = ap length (sym left ∙ shown_none (k + 1 + m) n high) in
+            absurd (omega (arith, none, count, few))
+      ]
+
+  -- a token's link, by the size of its tree
+  pub linked_size : (k l : ℕ) → k < length ts → LinksTo ts k l → (l ≡ k + size (tree_of k)) × (l < 2 ^ 31)
+  linked_size k l inside e =
+      let t = below b ts k inside in
+      let here = source.linked k t.0 t.1 in
+      let own = sized k t.0 t.1 in
+      let there = e t.0 t.1 in
+      (omega arith, link_low k l inside e)
+
+  -- a token's index is below its link, which is below 2^31
+  pub number_linked : (k : ℕ) → k < length ts → k < 2 ^ 31
+  number_linked k h =
+      let t = below [] ts k h in
+      let e : t.0.link % 2 ^ 31 ≡ end_of k t.0 = source.linked k t.0 t.1 in
+      let low : t.0.link % 2 ^ 31 < 2 ^ 31 = omega arith in
+      omega arith

@@ -18,7 +18,6 @@ pub number_read : {b : List ℕ} (s : State) (m : Mode) (ks : List ℕ) (ts : Li
     → IsNumberUpTo b i k → EndsItem (byte b k) → BeginsValue m → us ≡ ts ++ token_at i k (length ts + 1) ∷ []
     → ComesTo b s (idle m ks ts i p) → ComesTo b s (idle After ks us k p)
 number_read {b} s m ks ts {i} {k} p n w v q h =
-    let below = n.order in let inside = n.within in
     let r = step_on (state (in_atom After i n.first) ks ts (suc i) p) h (omega arith)
     (step_atom (byte b i) n.first m ks ts i p v n.begins) in
     settles_both r (ends_ok i p Number After ks ts n.goes
@@ -31,7 +30,7 @@ pub whole_stays : (c : ℕ) → is_digit c ≡ true → lex_step Whole c ≡ Som
 whole_stays c h = grind (arith)
 
 first_zero : {c : ℕ} → c ≡ 48 → lex_start c ≡ Some Zero
-first_zero e = ap lex_start e
+first_zero e = cc
 
 first_whole : (c : ℕ) → 49 ≤ c → c ≤ 57 → lex_start c ≡ Some Whole
 first_whole c l h = grind (arith, nat_tests)
@@ -54,20 +53,20 @@ number_is {b} i {k} d z same l h = (d.0, choose (split (byte b i)))
           last = Zero;
           sign = (omega arith, d.1);
           begins = first_zero q;
-          goes = subst (λ n. Continues b (suc i) Zero n Zero) f still;
+          goes = rw (← f) still;
           done = refl;
           order = omega arith;
           within = h;
         }
     choose (inr q) =
         let f : suc i ≡ i + 1 = omega arith in
-        let low = d.0 in let high = d.1 in
+        let high = d.1 in
         record {
           first = Whole;
           last = Whole;
           sign = (omega arith, high);
           begins = first_whole (byte b i) (omega arith) high;
-          goes = same (suc i) Whole (subst (λ n. Continues b (suc i) Whole n Whole) f still);
+          goes = same (suc i) Whole (rw (← f) still);
           done = refl;
           order = omega arith;
           within = h;
@@ -80,23 +79,22 @@ behind_minus c l h = grind (arith, nat_tests)
 -- one byte more in front
 from_front : {b : List ℕ} {i : ℕ} {x y : Lex} {k : ℕ} {z : Lex} → lex_step x (byte b i) ≡ Some y
     → Continues b (suc i) y k z → Continues b i x k z
-from_front {b} {i} {x} {y} h still = further i x y still h
-from_front {b} {i} {x} {y} h (further k u v c e) = further k u v (from_front h c) e
+from_front {i} {x} {y} h still = further i x y still h
+from_front h (further k u v c e) = further k u v (from_front h c) e
 
 -- the same behind a minus
 minus_is : {b : List ℕ} (i : ℕ) {k : ℕ} → byte b i ≡ 45 → (48 ≤ byte b (i + 1)) × IsNumberUpTo b (i + 1) k
     → IsNumberUpTo b i k
-minus_is {b} i {k} e d =
+minus_is {b} i e d =
     let n = d.1 in
     let f : suc i ≡ i + 1 = omega arith in
-    let below = n.order in
     let h : lex_step Minus (byte b (i + 1)) ≡ Some n.first = behind_minus (byte b (i + 1)) d.0 n.sign.1 ∙ n.begins in
     record {
       first = Minus;
       last = n.last;
       sign = (omega arith, omega arith);
       begins = ap lex_start e;
-      goes = subst (λ j. Continues b j Minus k n.last) (sym f) (from_front h n.goes);
+      goes = rw f (from_front h n.goes);
       done = n.done;
       order = omega arith;
       within = n.within;

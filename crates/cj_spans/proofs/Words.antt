@@ -1,5 +1,5 @@
 -- The first code points of a text as one number.
-use Rattle.cj_spans.proofs.Common.{◌≡◌, ℕ, suc, ◌+◌, ◌*◌, ◌/◌, ◌<◌, ◌≤◌, ◌^◌, List, [], ◌∷◌, true, false, cond, nat_lt, nat_eq, get_or, length, Option, Some, None, inl, inr, refl, sym, ap, subst, arith, ◌∙◌, mul-le-mul_right, ordering_then, Less, Equal, Greater, cases_order, cases_lt, nat_tests, AreAlike, code_points_from, compare, compare_texts, digits, front_word}
+use Rattle.cj_spans.proofs.Common.{◌≡◌, ℕ, suc, ◌+◌, ◌*◌, ◌/◌, ◌<◌, ◌≤◌, ◌^◌, List, [], ◌∷◌, true, false, nat_lt, nat_eq, get_or, length, Option, Some, None, inl, inr, refl, sym, ap, arith, ◌∙◌, mul-le-mul_right, Less, cases_order, cases_lt, nat_tests, AreAlike, code_points_from, compare, compare_texts, digits, front_word}
 use Rattle.std.specs.Int.{from_be_bytes, w64}
 use Rattle.cj_spans.proofs.Texts.{chars_past, plain_code, points_done}
 
@@ -7,11 +7,11 @@ use Rattle.cj_spans.proofs.Texts.{chars_past, plain_code, points_done}
 
 pub digits_few : (w c : ℕ) (cs : List ℕ) → c < 255 → digits w (c ∷ cs) ≡ c * w + digits (w / 256) cs
 digits_few w c cs h = let e : nat_lt c 255 ≡ true = grind (arith, nat_tests) in
-    ap (λ b. cond b (c * w + digits (w / 256) cs) (255 * w)) e
+    cc
 
 pub digits_cut : (w c : ℕ) (cs : List ℕ) → 255 ≤ c → digits w (c ∷ cs) ≡ 255 * w
 digits_cut w c cs h = let e : nat_lt c 255 ≡ false = grind (arith, nat_tests) in
-    ap (λ b. cond b (c * w + digits (w / 256) cs) (255 * w)) e
+    cc
 
 -- ---- no number is as much as the next digit's weight more
 
@@ -29,25 +29,24 @@ digits_below w (c ∷ cs) =
     ]
 
 pub digits_none : (cs : List ℕ) → digits 0 cs ≡ 0
-digits_none cs = let h = digits_below 0 cs in omega arith
+digits_none cs = omega (arith, digits_below 0 cs)
 
 pub word_fits : (cs : List ℕ) → digits (256 ^ 7) cs < 2 ^ 64
-word_fits cs = let h = digits_below (256 ^ 7) cs in omega arith
+word_fits cs = omega (arith, digits_below (256 ^ 7) cs)
 
 -- ---- a lesser word is of a lesser text
 
 -- the first code points decide
 first_less : (c d : ℕ) (cs ds : List ℕ) → c < d → compare (c ∷ cs) (d ∷ ds) ≡ Less
 first_less c d cs ds h = let e : nat_lt c d ≡ true = grind (arith, nat_tests) in
-    ap (λ b. ordering_then (cond b Less (cond (nat_eq c d) Equal Greater)) (compare cs ds)) e
+    cc
 
 -- equal first code points leave the order to what follows
 first_same : {c d : ℕ} (cs ds : List ℕ) → c ≡ d → compare (c ∷ cs) (d ∷ ds) ≡ compare cs ds
 first_same {c} {d} cs ds h =
     let e : nat_lt c d ≡ false = grind (arith, nat_tests) in
     let f : nat_eq c d ≡ true = grind (arith, nat_tests) in
-    ap (λ b. ordering_then (cond b Less (cond (nat_eq c d) Equal Greater)) (compare cs ds)) e
-    ∙ ap (λ b. ordering_then (cond b Equal Greater) (compare cs ds)) f
+    cc
 
 -- a lesser first code point makes no greater number
 first_no_more : (w c d : ℕ) (cs ds : List ℕ) → d < c → digits w (d ∷ ds) ≤ digits w (c ∷ cs)
@@ -82,7 +81,7 @@ less_by_digits w (c ∷ cs) (d ∷ ds) h =
     elim (cases_order c d) [
       | inl e ↦
           let g : digits w (c ∷ cs) < digits w (c ∷ ds) =
-          subst (λ x. digits w (c ∷ cs) < digits w (x ∷ ds)) (sym e) h in
+          rw (← e) at h in
           first_same cs ds e ∙ less_by_digits (w / 256) cs ds (first_goes_on w c cs ds g)
       | inr (inl l) ↦ first_less c d cs ds l
       | inr (inr l) ↦ let m = first_no_more w c d cs ds l in absurd (omega arith)
@@ -96,16 +95,18 @@ less_by_words (Some s) (Some t) h = less_by_digits (256 ^ 7) s t h
 -- ---- a word of plain bytes
 
 pub digits_end : (w : ℕ) (bs : List ℕ) (i : ℕ) → length bs ≤ i → digits w (code_points_from bs i) ≡ 0
-digits_end w bs i h = ap (digits w) (points_done bs i (chars_past bs i h))
+digits_end w bs i h = cc (points_done bs i (chars_past bs i h))
 
 -- a plain byte is a code point by itself
 pub digits_plain : (w : ℕ) (bs : List ℕ) (i b : ℕ) → i < length bs → b ≡ get_or bs i 0 → b < 128 → nat_eq b 92 ≡ false
     → digits w (code_points_from bs i) ≡ b * w + digits (w / 256) (code_points_from bs (i + 1))
 digits_plain w bs i b h e l n =
-    let low = subst (λ v. v < 128) e l in
-    ap (digits w) (plain_code bs i h low (ap (λ v. nat_eq v 92) (sym e) ∙ n))
-    ∙ digits_few w (get_or bs i 0) (code_points_from bs (i + 1)) (omega arith)
-    ∙ ap (λ v. v * w + digits (w / 256) (code_points_from bs (i + 1))) (sym e)
+    let low = rw e at l in
+    cc (
+      plain_code bs i h low (ap (λ v. nat_eq v 92) (sym e) ∙ n),
+      digits_few w (get_or bs i 0) (code_points_from bs
+          (i + 1)) (omega arith),
+    )
 
 plain_digit : (w : ℕ) (bs : List ℕ) (i k : ℕ) → i + 8 ≤ length bs → AreAlike bs i bs i 8 → k < 8
     → digits w (code_points_from bs (i + k)) ≡ get_or bs (i + k) 0 * w + digits (w / 256)
@@ -113,8 +114,7 @@ plain_digit : (w : ℕ) (bs : List ℕ) (i k : ℕ) → i + 8 ≤ length bs → 
 plain_digit w bs i k h a l =
     let b = a k l in
     let next : i + k + 1 ≡ i + (k + 1) = omega arith in
-    digits_plain w bs (i + k) (get_or bs (i + k) 0) (omega arith) refl b.1 b.2
-    ∙ ap (λ j. get_or bs (i + k) 0 * w + digits (w / 256) (code_points_from bs j)) next
+    cc (digits_plain w bs (i + k) (get_or bs (i + k) 0) (omega arith) refl b.1 b.2)
 
 -- it is the sum of their weights
 pub plain_word : (bs : List ℕ) (i : ℕ) → i + 8 ≤ length bs → AreAlike bs i bs i 8
@@ -122,17 +122,18 @@ pub plain_word : (bs : List ℕ) (i : ℕ) → i + 8 ≤ length bs → AreAlike 
     ≡ from_be_bytes w64 (get_or bs i 0 ∷ get_or bs (i + 1) 0 ∷ get_or bs (i + 2) 0 ∷ get_or bs (i + 3) 0
     ∷ get_or bs (i + 4) 0 ∷ get_or bs (i + 5) 0 ∷ get_or bs (i + 6) 0 ∷ get_or bs (i + 7) 0 ∷ [])
 plain_word bs i h a =
-    let none : i + 0 ≡ i = omega arith in
-    let start : digits (256 ^ 7) (code_points_from bs i) ≡ get_or bs i 0 * 256 ^ 7 + digits (256 ^ 6)
-    (code_points_from bs (i + 1)) =
-    subst (λ j. digits (256 ^ 7) (code_points_from bs j) ≡ get_or bs j 0 * 256 ^ 7 + digits (256 ^ 6)
-    (code_points_from bs (i + 1))) none (plain_digit (256 ^ 7) bs i 0 h a (omega arith)) in
-    let e1 = plain_digit (256 ^ 6) bs i 1 h a (omega arith) in
-    let e2 = plain_digit (256 ^ 5) bs i 2 h a (omega arith) in
-    let e3 = plain_digit (256 ^ 4) bs i 3 h a (omega arith) in
-    let e4 = plain_digit (256 ^ 3) bs i 4 h a (omega arith) in
-    let e5 = plain_digit (256 ^ 2) bs i 5 h a (omega arith) in
-    let e6 = plain_digit (256 ^ 1) bs i 6 h a (omega arith) in
-    let e7 = plain_digit 1 bs i 7 h a (omega arith) in
-    let end = digits_none (code_points_from bs (i + 8)) in
-    omega arith
+    let none : i + 0 ≡ i = omega arith in let start : digits (256 ^ 7) (code_points_from bs i) ≡ get_or bs i 0 * 256
+    ^ 7 + digits (256 ^ 6) (code_points_from bs (i + 1)) = rw none at (plain_digit (256 ^ 7) bs i 0 h a
+    (omega arith)) in omega (
+      arith,
+      plain_digit (256 ^ 6) bs i 1 h a (omega arith),
+      plain_digit (256 ^ 5) bs i 2 h a
+          (omega arith),
+      plain_digit (256 ^ 4) bs i 3 h a (omega arith),
+      plain_digit (256 ^ 3) bs i 4 h a (omega arith),
+      plain_digit (256 ^ 2) bs i 5 h a (omega arith),
+      plain_digit (256 ^ 1) bs i 6 h a (omega arith),
+      plain_digit 1 bs
+          i 7 h a (omega arith),
+      digits_none (code_points_from bs (i + 8)),
+    )

@@ -16,7 +16,7 @@ record Run (b : List ℕ) (n : ℕ) (s : State) : Type 0 where
 
 run_next : {b : List ℕ} {n : ℕ} {t : State} (s : State) → Run b n t → step (byte b n) t ≡ Some s → Run b (suc n) s
 run_next {b} {t} s r h =
-    let q : step (byte b t.place) t ≡ Some s = ap (λ k. step (byte b k) t) r.place ∙ h in
+    let q : step (byte b t.place) t ≡ Some s = cc (r.place, h) in
     record { reached = on t s r.reached q; place = next_place s r.reached q ∙ ap suc r.place }
 
 run_last : {b : List ℕ} (n : ℕ) (s : State) (o : Option State) → ((t : State) → o ≡ Some t → Run b n t)

@@ -1,6 +1,6 @@
-use Rattle.cj_spans.proofs.Common.{◌≡◌, ◌<◌, length, Some, suc, ◌∷◌, subst, sym, ap, arith, slice_get, slice_set, Becomes, Token, token_at, InArray, Standing}
-use Rattle.cj_spans.proofs.Nested.{stands_on, stands_small, stands_room, stands_within}
-use Rattle.cj_spans.proofs.Leads.{in_small, flat_stands, flat_read, flat_innermost, flat_inside, flat_closed, standing_stack, outer_stays, kept_all, kept_more, top_there, index_within, with_top}
+use Rattle.cj_spans.proofs.Common.{length, arith}
+use Rattle.cj_spans.proofs.Nested.{stands_on, stands_small, stands_room}
+use Rattle.cj_spans.proofs.Leads.{in_small, flat_stands, flat_read, flat_innermost, flat_inside, flat_left, flat_outer, standing_stack, kept_all, kept_more, index_within}
 use Rattle.cj_spans.proofs.arrays.read_array.Goals as goal
 
 pub open_array-requires-clause-room : goal.open_array-requires-clause-room
@@ -21,8 +21,8 @@ close_token-requires c =
           (n.ensures.ended c.if-numbers.true).within;
       within =
           let a = flat_innermost r.stands r.begins r.within r.bracket r.shallow c.open_array.ensures n.ensures.leads in
-          subst (λ k. k < length n.new.tokens.elements) (sym c.len-index.ensures.value)
-          (index_within c.args.stack.now.elements (length c.args.tokens.now.elements) n.new.tokens.elements a);
+          rw c.len-index.ensures.value (index_within c.args.stack.now.elements (length c.args.tokens.now.elements)
+          n.new.tokens.elements a);
       list =
           let s = flat_inside r.stands r.begins r.within r.bracket r.shallow c.open_array.ensures n.ensures.leads in
           s.stands.standing.kept.within;
@@ -32,56 +32,27 @@ pub leave_arrays-requires-clause-stands : goal.leave_arrays-requires-clause-stan
 leave_arrays-requires-clause-stands c =
     let r = c.requires in
     let n = c.read_numbers-numbers in
-    let b = c.args.line.now in let ts = c.args.tokens.now in
-    let ks = c.args.stack.now in
-    let j = n.result.next.place in
     let end = n.ensures.ended c.if-numbers.true in
-    let w = stands_within r.stands in
-    let a = flat_innermost r.stands r.begins r.within r.bracket r.shallow c.open_array.ensures n.ensures.leads in
-    let closed = subst (λ k. (t : Token) → slice_get n.new.tokens.elements k ≡ Some t
-    → c.close_token.new.tokens.elements
-    ≡ slice_set n.new.tokens.elements k (token_at t.start (suc j) (length n.new.tokens.elements)))
-    c.len-index.ensures.value c.close_token.ensures.closed in
-    stands_on r.stands (λ t0 s0 z. flat_closed b ks (length ts.elements) j
-    end.within end.bracket a w.1 c.push_and_pop.ensures.within c.push_and_pop.ensures.peak closed
-    c.close_token.ensures.tokens t0 s0
-    (subst (λ x. Standing b t0 s0 n.new.tokens (with_top ks (length ts.elements)) x j) end.after
-    (flat_read r.stands r.begins r.within r.bracket r.shallow c.open_array.ensures n.ensures.leads t0 s0 z)))
+    stands_on r.stands (flat_left r.stands r.begins r.within r.bracket r.shallow c.open_array.ensures n.ensures.leads
+    c.close_token.new.tokens c.len-index.ensures.value c.close_token.ensures.closed c.push_and_pop.ensures.peak end.after end.within end.bracket
+    c.push_and_pop.ensures.within c.close_token.ensures.tokens)
 
 pub leave_arrays-requires-clause-array : goal.leave_arrays-requires-clause-array
 leave_arrays-requires-clause-array c =
     let r = c.requires in
     let n = c.read_numbers-numbers in
-    let ts = c.args.tokens.now in let ks = c.args.stack.now in
-    let a = flat_innermost r.stands r.begins r.within r.bracket r.shallow c.open_array.ensures n.ensures.leads in
-    let closed = subst (λ k. (t : Token) → slice_get n.new.tokens.elements k ≡ Some t
-    → c.close_token.new.tokens.elements
-    ≡ slice_set n.new.tokens.elements k (token_at t.start (suc n.result.next.place) (length n.new.tokens.elements)))
-    c.len-index.ensures.value c.close_token.ensures.closed in
-    subst (λ z. InArray z c.close_token.new.tokens.elements) (sym (ap (λ z. z.elements) c.push_and_pop.ensures.peak))
-    (outer_stays ks.elements ts.elements n.new.tokens.elements (length ts.elements) _
-    r.array (omega arith) (kept_all _ _ _ (kept_more _ _ c.open_array.ensures.elements) n.ensures.kept)
-    (closed a.token (top_there ks.elements (length ts.elements) n.new.tokens.elements a)))
+    flat_outer r.stands r.begins r.within r.bracket r.shallow c.open_array.ensures n.ensures.leads
+    c.close_token.new.tokens c.len-index.ensures.value c.close_token.ensures.closed c.push_and_pop.ensures.peak r.array
+    (kept_all _ _ _ (kept_more _ _ c.open_array.ensures.elements) n.ensures.kept)
 
 pub returns-then-numbers-clause-answer : goal.returns-then-numbers-clause-answer
 returns-then-numbers-clause-answer c = λ t0 s0 z.
     let r = c.requires in
     let n = c.read_numbers-numbers in
-    let b = c.args.line.now in let ts = c.args.tokens.now in
-    let ks = c.args.stack.now in
-    let j = n.result.next.place in
     let end = n.ensures.ended c.if-numbers.true in
-    let w = stands_within r.stands in
-    let a = flat_innermost r.stands r.begins r.within r.bracket r.shallow c.open_array.ensures n.ensures.leads in
-    let closed = subst (λ k. (t : Token) → slice_get n.new.tokens.elements k ≡ Some t
-    → c.close_token.new.tokens.elements
-    ≡ slice_set n.new.tokens.elements k (token_at t.start (suc j) (length n.new.tokens.elements)))
-    c.len-index.ensures.value c.close_token.ensures.closed in
-    c.leave_arrays.ensures.answer t0 s0 (flat_closed b ks (length ts.elements) j
-    end.within end.bracket a w.1 c.push_and_pop.ensures.within c.push_and_pop.ensures.peak closed
-    c.close_token.ensures.tokens t0 s0
-    (subst (λ x. Standing b t0 s0 n.new.tokens (with_top ks (length ts.elements)) x j) end.after
-    (flat_read r.stands r.begins r.within r.bracket r.shallow c.open_array.ensures n.ensures.leads t0 s0 z)))
+    c.leave_arrays.ensures.answer t0 s0 (flat_left r.stands r.begins r.within r.bracket r.shallow c.open_array.ensures
+    n.ensures.leads c.close_token.new.tokens c.len-index.ensures.value c.close_token.ensures.closed c.push_and_pop.ensures.peak end.after
+    end.within end.bracket c.push_and_pop.ensures.within c.close_token.ensures.tokens t0 s0 z)
 
 pub overflow_cast-index : goal.overflow_cast-index
 overflow_cast-index c =
@@ -94,8 +65,7 @@ returns-clause-answer c = λ t0 s0 z.
     let n = c.read_numbers-numbers in
     let ts = c.args.tokens.now in
     let ks = c.args.stack.now in
-    let e = subst (λ k. Becomes ks (k ∷ ks.elements) c.push_reserved.new.self) c.len-index.ensures.value
-    c.push_reserved.ensures in
+    let e = rw c.len-index.ensures.value at c.push_reserved.ensures in
     standing_stack ks c.push_reserved.new.self (length ts.elements) e
     (flat_read r.stands r.begins r.within r.bracket r.shallow c.open_array.ensures n.ensures.leads t0 s0 z)
 
@@ -105,6 +75,5 @@ returns-clause-array c = λ t.
     let n = c.read_numbers-numbers in
     let ks = c.args.stack.now in
     let a = flat_innermost r.stands r.begins r.within r.bracket r.shallow c.open_array.ensures n.ensures.leads in
-    let e = subst (λ k. Becomes ks (k ∷ ks.elements) c.push_reserved.new.self) c.len-index.ensures.value
-    c.push_reserved.ensures in
-    (subst (λ z. InArray z n.new.tokens.elements) (sym e.elements) a, n.ensures.begins c.if-numbers.false)
+    let e = rw c.len-index.ensures.value at c.push_reserved.ensures in
+    (rw e.elements a, n.ensures.begins c.if-numbers.false)

@@ -1,4 +1,4 @@
-use Rattle.cj_spans.proofs.Common.{◌≡◌, ◌∙◌, ap, subst, tied_itself, is_eq, Equal, compare}
+use Rattle.cj_spans.proofs.Common.{◌∙◌, ap, tied_itself, is_eq}
 use Rattle.std.specs.Cmp.Lexicographic.{bytes_decides, nat_list_cmp_total, options_total, texts_ties}
 use Rattle.cj_spans.proofs.laws.texts_are_ordered.Goals as goal
 
@@ -9,5 +9,5 @@ pub returns-clause-same : goal.returns-clause-same
 returns-clause-same c =
     λ s t. (
       λ h. (bytes_decides s t).0 (texts_ties s t ∙ ap is_eq h),
-      λ h. subst (λ u. compare s u ≡ Equal) h (tied_itself nat_list_cmp_total s),
+      λ h. rw (← h) (tied_itself nat_list_cmp_total s),
     )

@@ -1,4 +1,4 @@
-use Rattle.cj_spans.proofs.Common.{◌∙◌, Some, ap, sym, arith, chars, tree, members_left, members_source, source_of}
+use Rattle.cj_spans.proofs.Common.{◌∙◌, arith, chars, tree, members_left, members_source, source_of}
 use Rattle.std.specs.Prelude.{get_or}
 use Rattle.cj_spans.proofs.Noted.{found_from, found_none, found_here}
 use Rattle.cj_spans.proofs.Walks.{at_name}
@@ -23,8 +23,7 @@ invariant_of-value c =
     let s = w.source in
     let h = c.requires.places c.in-Some.slot (omega arith) in
     let whole = h.whole.0 in
-    let a = at_name s.line.now s.tokens.now (get_or c.args.places.now c.in-Some.slot 0) w.stop s.nested s.linked s.lone
-    h.whole h.named h.within in
+    let a = at_name s (get_or c.args.places.now c.in-Some.slot 0) w.stop h.whole h.named h.within in
     let v = a.value in
     record { known = omega arith }
 
@@ -34,6 +33,9 @@ returns c =
     let name = chars c.args.name.now in
     let place = get_or c.args.places.now c.in-Some.slot 0 in
     let h = c.requires.places c.in-Some.slot (omega arith) in
-    ap Some c.number.ensures.node
-    ∙ sym (found_here name h (c.is_spelled.ensures c.if-not-is_spelled.false))
-    ∙ found_from name c.in-Some.slot c.requires c.in-Some.ensures.slot (omega arith)
+    cc (
+      c.number.ensures.node,
+      found_here name h (c.is_spelled.ensures c.if-not-is_spelled.false),
+      found_from name
+          c.in-Some.slot c.requires c.in-Some.ensures.slot (omega arith),
+    )

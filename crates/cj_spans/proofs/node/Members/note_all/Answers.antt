@@ -23,15 +23,14 @@ overflow_cast-next c =
     let s = c.args.self.source in
     let i = c.loop-next.invariant in
     let whole = i.whole.0 in
-    let l = number_linked s.tokens.now c.loop-next.next s.linked (omega arith) in omega arith
+    let l = number_linked s c.loop-next.next (omega arith) in omega arith
 
 pub after-next-requires : goal.after-next-requires
 after-next-requires c =
     let s = c.args.self.source in
     let i = c.loop-next.invariant in
     let whole = i.whole.0 in
-    let a = at_name s.line.now s.tokens.now c.loop-next.next c.args.self.stop s.nested s.linked s.lone i.whole i.named
-    c.loop-next-test.true in
+    let a = at_name s c.loop-next.next c.args.self.stop i.whole i.named c.loop-next-test.true in
     let v = a.value in
     omega arith
 
@@ -44,24 +43,23 @@ loop-next-preserved c =
     let next = c.loop-next.next in
     let r = c.after-next.result in
     let order = c.after-next.ensures.order in
-    let m = member_on s.line.now s.tokens.now next w.stop r s.nested s.linked s.lone i.whole i.named
-    c.loop-next-test.true c.after-next.ensures.link in
+    let m = member_on s next w.stop r i.whole i.named c.loop-next-test.true c.after-next.ensures.link in
     let shown = tree_at s.line.now (spans_of s.tokens.now) in
     let member : Tree × Tree = (shown next, shown (next + 1)) in
     let ps = c.loop-next.places in
-    let noted = subst (λ all. AreNoted w all ps) m.shown i.noted in
+    let noted = rw m.shown_on at i.noted in
     let place : IsPlace w next = record { within = c.loop-next-test.true; whole = i.whole; named = i.named } in
     let code = sym c.first_code.ensures in
     record {
       begun = omega arith;
-      whole = whole_later s.tokens.now next r w.stop (omega arith) i.whole;
+      whole = whole_later s next r w.stop (omega arith) i.whole;
       named = m.named;
       noted = subst (AreNoted w (members_from w r)) (sym c.note_place.ensures.places)
-          (noted_on member (members_from w r) c.first_code.result noted code i.begun place m.shown);
+          (noted_on member (members_from w r) c.first_code.result noted code i.begun place m.shown_on);
       apart = λ h. elim c.if-not-note_place.branch [
         | then-not-note_place t ↦ absurd (false≢true (sym t.apart-is ∙ h))
         | else-not-note_place t ↦
-            i.apart (sym t.apart-is ∙ h) ∙ ap (are_apart (map is_noted ps)) m.shown
+            i.apart (sym t.apart-is ∙ h) ∙ ap (are_apart (map is_noted ps)) m.shown_on
             ∙ apart_on member (members_from w r) ps c.first_code.result next noted.count code i.begun
             (sym c.note_place.ensures.free ∙ t.if-not-note_place.false)
             ∙ ap (λ qs. are_apart (map is_noted qs) (members_from w r)) (sym c.note_place.ensures.places)
@@ -73,13 +71,11 @@ returns c = record {
   noted =
       let w = c.args.self in
       let s = w.source in
-      subst (λ all. AreNoted w all c.loop-next.places)
-      (ap pairs_of (shown_none s.line.now s.tokens.now c.loop-next.next w.stop (omega arith)))
-      c.loop-next.invariant.noted;
+      rw (← ap pairs_of (shown_none s c.loop-next.next w.stop (omega arith))) c.loop-next.invariant.noted;
   apart =
       λ h.
       let w = c.args.self in
       let s = w.source in
       c.loop-next.invariant.apart h ∙ ap (are_apart (map is_noted c.loop-next.places))
-      (ap pairs_of (shown_none s.line.now s.tokens.now c.loop-next.next w.stop (omega arith)));
+      (ap pairs_of (shown_none s c.loop-next.next w.stop (omega arith)));
 }

@@ -1,5 +1,4 @@
 use Rattle.cj_spans.proofs.Common.{arith, sym, ap, ◌∙◌, kind_by, tree, line_of}
-use Rattle.cj_spans.proofs.Sizes.{full_sized}
 use Rattle.cj_spans.proofs.Triples.{room_within, three_long, wholes, few_wholes}
 use Rattle.cj_spans.proofs.Views.{kind_shown}
 use Rattle.cj_spans.proofs.node.Node.is_short_triple.Goals as goal
@@ -24,13 +23,11 @@ returns-then-stop-start-le-FEW_BYTES c =
       array = λ so.
           sym (kind_shown s.line.now s.tokens.now n.index t here (sym (ap kind_by c.if-self-start-ne91.false)));
       three = λ so.
-          three_long s.line.now s.tokens.now s.within s.rising s.nested s.linked s.spelled
-          (full_sized s.line.now s.tokens.now s.nested s.linked s.full) n.index t here c.if-self-start-ne91.false
+          three_long s n.index t here c.if-self-start-ne91.false
           (sym (c.after.ensures.link t here) ∙ c.if-after-self.false)
           (c.are_whole_signs.ensures c.if-are_whole_signs.true);
       wholes = λ so.
-          few_wholes s.line.now s.tokens.now s.within s.rising s.nested s.linked s.spelled
-          (full_sized s.line.now s.tokens.now s.nested s.linked s.full) n.index t here c.if-self-start-ne91.false
+          few_wholes s n.index t here c.if-self-start-ne91.false
           (sym (c.after.ensures.link t here) ∙ c.if-after-self.false)
           (c.are_whole_signs.ensures c.if-are_whole_signs.true) (omega arith);
     }
@@ -46,13 +43,11 @@ returns-else-stop-start-le-FEW_BYTES c =
       array = λ so.
           sym (kind_shown s.line.now s.tokens.now n.index t here (sym (ap kind_by c.if-self-start-ne91.false)));
       three = λ so.
-          three_long s.line.now s.tokens.now s.within s.rising s.nested s.linked s.spelled
-          (full_sized s.line.now s.tokens.now s.nested s.linked s.full) n.index t here c.if-self-start-ne91.false
+          three_long s n.index t here c.if-self-start-ne91.false
           (sym (c.after.ensures.link t here) ∙ c.if-after-self.false)
           (c.are_whole_signs.ensures c.if-are_whole_signs.true);
       wholes = λ so.
-          wholes s.line.now s.tokens.now s.within s.rising s.nested s.linked s.spelled
-          (full_sized s.line.now s.tokens.now s.nested s.linked s.full) n.index t here c.if-self-start-ne91.false
+          wholes s n.index t here c.if-self-start-ne91.false
           (sym (c.after.ensures.link t here) ∙ c.if-after-self.false)
           (c.are_whole_signs.ensures c.if-are_whole_signs.true) (λ m u l h g. c.has_short_items.ensures so m u l h g);
     }

@@ -1,5 +1,4 @@
 use Rattle.cj_spans.proofs.Common.{refl, tree, line_of, source_of}
-use Rattle.cj_spans.proofs.Sizes.{full_sized}
 use Rattle.cj_spans.proofs.Walks.{item_behind_link}
 use Rattle.cj_spans.proofs.node.Node.item_behind.Goals as goal
 
@@ -7,9 +6,7 @@ pub invariant_of-result : goal.invariant_of-result
 unfolding tree
 invariant_of-result c =
     let n = c.args.self in
-    let w = item_behind_link n.source.line.now n.source.tokens.now n.index c.requires.0 n.source.nested
-    n.source.linked (full_sized n.source.line.now n.source.tokens.now n.source.nested n.source.linked n.source.full)
-    n.known c.requires.1 c.requires.2 in
+    let w = item_behind_link n.source n.index c.requires.0 n.known c.requires.1 c.requires.2 in
     record { known = w.inside }
 
 pub returns : goal.returns
@@ -18,9 +15,7 @@ returns c = record {
   tree =
       λ k few e.
       let n = c.args.self in
-      let w = item_behind_link n.source.line.now n.source.tokens.now n.index k n.source.nested
-      n.source.linked (full_sized n.source.line.now n.source.tokens.now n.source.nested n.source.linked n.source.full)
-      n.known few e in
+      let w = item_behind_link n.source n.index k n.known few e in
       (w.rest, w.first);
   line = refl;
   source = refl;

@@ -6,8 +6,8 @@ pub invariant_of-result : goal.invariant_of-result
 unfolding tree
 invariant_of-result c =
     let n = c.args.self in
-    let w = items_from_link n.source.line.now n.source.tokens.now n.index c.after.result
-    n.source.nested n.source.linked n.known c.after.ensures.link c.kind.ensures c.items_end-stop.ensures in
+    let w = items_from_link n.source n.index c.after.result n.known c.after.ensures.link c.kind.ensures
+    c.items_end-stop.ensures in
     record { whole = w.whole }
 
 pub returns : goal.returns
@@ -15,15 +15,13 @@ unfolding tree items_left line_of items_line source_of items_source
 returns c = record {
   items =
       let n = c.args.self in
-      (items_from_link n.source.line.now n.source.tokens.now n.index c.after.result
-      n.source.nested n.source.linked n.known c.after.ensures.link c.kind.ensures c.items_end-stop.ensures).shown;
+      (items_from_link n.source n.index c.after.result n.known c.after.ensures.link c.kind.ensures
+      c.items_end-stop.ensures).all;
   line = refl;
   source = refl;
   few =
-      let s = c.args.self.source in
-      let l = few_trees s.line.now s.tokens.now (c.args.self.index + 1) c.items_end-stop.result in omega arith;
+      omega (arith, few_trees c.args.self.source (c.args.self.index + 1) c.items_end-stop.result);
   sizes =
       let n = c.args.self in
-      small_items n.source.line.now n.source.tokens.now n.index c.after.result c.kind.result
-      n.source.linked n.known c.after.ensures.link c.items_end-stop.ensures;
+      small_items n.source n.index c.after.result c.kind.result n.known c.after.ensures.link c.items_end-stop.ensures;
 }

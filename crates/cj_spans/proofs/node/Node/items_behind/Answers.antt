@@ -1,5 +1,4 @@
 use Rattle.cj_spans.proofs.Common.{◌+◌, arith, refl, tree, line_of, source_of, items_line, items_source, items_left}
-use Rattle.cj_spans.proofs.Sizes.{full_sized}
 use Rattle.cj_spans.proofs.Walks.{items_from_link, whole_later, items_behind_link}
 use Rattle.cj_spans.proofs.node.Node.items_behind.Goals as goal
 
@@ -7,10 +6,10 @@ pub invariant_of-result : goal.invariant_of-result
 unfolding tree
 invariant_of-result c =
     let n = c.args.self in
-    let w = items_from_link n.source.line.now n.source.tokens.now n.index c.after.result
-    n.source.nested n.source.linked n.known c.after.ensures.link c.kind.ensures c.items_end-stop.ensures in
+    let w = items_from_link n.source n.index c.after.result n.known c.after.ensures.link c.kind.ensures
+    c.items_end-stop.ensures in
     record {
-      whole = whole_later n.source.tokens.now (n.index + 1) (n.index + 1 + c.args.size) c.items_end-stop.result
+      whole = whole_later n.source (n.index + 1) (n.index + 1 + c.args.size) c.items_end-stop.result
           (omega arith) w.whole;
     }
 
@@ -20,9 +19,8 @@ returns c = record {
   items =
       λ k few e.
       let n = c.args.self in
-      items_behind_link n.source.line.now n.source.tokens.now n.index c.after.result k n.source.nested n.source.linked
-      (full_sized n.source.line.now n.source.tokens.now n.source.nested n.source.linked n.source.full) n.known
-      c.after.ensures.link c.kind.ensures c.items_end-stop.ensures few e;
+      items_behind_link n.source n.index c.after.result k n.known c.after.ensures.link c.kind.ensures
+      c.items_end-stop.ensures few e;
   line = refl;
   source = refl;
 }

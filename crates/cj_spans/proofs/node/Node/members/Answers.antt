@@ -19,5 +19,5 @@ returns c = record {
   source = search rules;
   few =
       let w = c.walk.result in let s = w.source in
-      let l = few_pairs s.line.now s.tokens.now w.next w.stop in omega arith;
+      let l = few_pairs s w.next w.stop in omega arith;
 }

@@ -4,7 +4,7 @@ use Rattle.cj_spans.proofs.node.Node.number.Goals as goal
 
 pub overflow_cast-result : goal.overflow_cast-result
 overflow_cast-result c = let n = c.args.self in
-    let l = number_linked n.source.tokens.now n.index n.source.linked n.known in omega arith
+    let l = number_linked n.source n.index n.known in omega arith
 
 pub returns : goal.returns
 unfolding tree source_of tree_in line_of tokens_in

@@ -6,8 +6,7 @@ pub invariant_of-result : goal.invariant_of-result
 unfolding tree
 invariant_of-result c =
     let n = c.args.self in
-    let w = members_from_link n.source.line.now n.source.tokens.now n.index c.after.result
-    n.source.nested n.source.linked n.source.named n.known c.after.ensures.link c.kind.ensures
+    let w = members_from_link n.source n.index c.after.result n.known c.after.ensures.link c.kind.ensures
     c.members_end-stop.ensures in
     record { whole = w.whole; named = w.named }
 
@@ -17,8 +16,7 @@ returns c = record {
   begun = search rules;
   members =
       let n = c.args.self in
-      (members_from_link n.source.line.now n.source.tokens.now n.index c.after.result
-      n.source.nested n.source.linked n.source.named n.known c.after.ensures.link c.kind.ensures
-      c.members_end-stop.ensures).shown;
+      (members_from_link n.source n.index c.after.result n.known c.after.ensures.link c.kind.ensures
+      c.members_end-stop.ensures).all;
   source = refl;
 }
