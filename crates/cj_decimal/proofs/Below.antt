@@ -1,7 +1,7 @@
 -- Words of eight digits, from the first one on, have the order of their numbers.
 use Rattle.cj_decimal.proofs.Common.{◌≡◌, ℕ, zero, suc, ◌+◌, ◌*◌, ◌/◌, ◌%◌, ◌^◌, ◌<◌, ◌≤◌, List, [], ◌∷◌, length, map, get_or, refl, sym, ap, subst, arith, ◌∙◌, inl, inr, w64, le_bytes_8, pow-suc, cases_lt, mul-le-mul_left, Class, whole_answer, IsShort, IsInt, digits_value}
 use Rattle.std.proofs.Math.Nat.{pow-zero}
-use Rattle.std.specs.Int.{swap_bytes, from_le_bytes, from_be_bytes}
+use Rattle.std.specs.Int.{swap_bytes}
 use Rattle.std.specs.Prelude.{Option, None, Some, IfSome, IsSome, Ok, pos}
 use Rattle.cj_decimal.specs.Word.{little_endian, AllBelow, IsCountWord, IsWordOf, TellsBelow, weighed}
 use Rattle.cj_decimal.proofs.Wholes.{answer_digits, int_short}
@@ -54,21 +54,12 @@ bytes_of (b ∷ s) h (suc i) = bytes_of s h.1 i
 
 pub swapped : (s : List ℕ) → length s ≡ 8 → AllBelow 10 s → swap_bytes w64 (little_endian s) ≡ weighed 256 s
 unfolding weighed
-swapped (a ∷ b ∷ c ∷ d ∷ e ∷ f ∷ g ∷ h ∷ []) l z =
-    let s = a ∷ b ∷ c ∷ d ∷ e ∷ f ∷ g ∷ h ∷ [] in
-    let same : little_endian s ≡ from_le_bytes w64 s = omega arith in
-    ap (from_be_bytes w64) (le_bytes_8 s (little_endian s) refl (bytes_of s z) same) ∙ omega arith
+swapped (a ∷ b ∷ c ∷ d ∷ e ∷ f ∷ g ∷ h ∷ []) l z = search (arith, le_bytes_8, bytes_of)
 swapped _ l z = absurd (omega (arith, l))
 
 unswapped : (s : List ℕ) → length s ≡ 8 → AllBelow 10 s → swap_bytes w64 (weighed 256 s) ≡ little_endian s
 unfolding weighed
-unswapped (a ∷ b ∷ c ∷ d ∷ e ∷ f ∷ g ∷ h ∷ []) l z =
-    let s = a ∷ b ∷ c ∷ d ∷ e ∷ f ∷ g ∷ h ∷ [] in
-    let r = h ∷ g ∷ f ∷ e ∷ d ∷ c ∷ b ∷ a ∷ [] in
-    let digits : AllBelow 10 r = omega arith in
-    let turned : weighed 256 s ≡ little_endian r = omega arith in
-    let back : weighed 256 r ≡ little_endian s = omega arith in
-    ap (swap_bytes w64) turned ∙ swapped r refl digits ∙ back
+unswapped (a ∷ b ∷ c ∷ d ∷ e ∷ f ∷ g ∷ h ∷ []) l z = search (arith, swapped)
 unswapped _ l z = absurd (omega (arith, l))
 
 -- ---- words and their numbers
@@ -86,11 +77,11 @@ words_in_order v w a b x y h =
 -- eight digits as a word
 pub word_of_eight : (s : List ℕ) {m n : ℕ} → length s ≡ 8 → AllBelow 10 s → m ≡ little_endian s
     → digits_value (map (λ d. d + 48) s) ≡ n → IsWordOf (swap_bytes w64 m) n
-word_of_eight s l small is value = (s, l, small, ap (swap_bytes w64) is ∙ swapped s l small, sym value)
+word_of_eight s l small is value = search (arith, swapped)
 
 pub eight_of_word : (w n : ℕ) → IsWordOf w n → (s : List ℕ) × (length s ≡ 8) × AllBelow 10 s
     × (swap_bytes w64 w ≡ little_endian s) × (n ≡ digits_value (map (λ d. d + 48) s))
-eight_of_word w n h = (h.0, h.1, h.2, ap (swap_bytes w64) h.3 ∙ unswapped h.0 h.1 h.2, h.4)
+eight_of_word w n h = search (arith, unswapped)
 
 -- neither the word of a number nor its bytes in the other order are the greatest word
 room : (s : List ℕ) → length s ≡ 8 → AllBelow 10 s → (little_endian s < 2 ^ 60) × (weighed 256 s < 2 ^ 60)
@@ -127,17 +118,12 @@ word_short s w int word is =
 pub word_answer : (o : Option ℕ) (s : List ℕ) → (IsSome o → IsInt s) → IfSome o (λ w. IsWordOf w (digits_value s))
     → IfSome o (λ w. (n : ℕ) × IsWordOf w n × ((c : Class s) → whole_answer c ≡ Ok (Some (pos n))))
 word_answer None s int word = word
-word_answer (Some w) s int word = (
-  digits_value s,
-  word,
-  λ c. answer_digits s (digits_value s) c (word_short s w {n = digits_value s} (int refl) word refl),
-)
+word_answer (Some w) s int word = search (arith, answer_digits, word_short)
 
 -- ---- what a word of a count tells
 
 pub told_below : (w n word limit : ℕ) → IsWordOf w n → w < word → TellsBelow word limit → n < limit
-told_below w n word limit h less tells =
-    subst (λ k. k < limit) (sym h.4) (tells h.0 h.1 h.2 (subst (λ k. k < word) h.3 less))
+told_below w n word limit h less tells = search arith
 
 pub all_below : (n word : ℕ) → 100000000 ≤ n → TellsBelow word n
 unfolding weighed

@@ -1,5 +1,5 @@
 -- Each spelling has one of the four classes.
-use Rattle.cj_decimal.proofs.Common.{◌≡◌, ℕ, ◌^◌, ◌<◌, ◌≤◌, ◌*ℤ◌, List, Bool, true, false, Option, Some, None, ℤ, pos, negsuc, refl, sym, ap, ◌∙◌, arith, ints, nat_tests, unsigned_abs, Number, is_in_range, whole_by, as_whole, IsNormal, IsInRange, IsWhole, IsValue, is_number, written_of, Class, no_number, out_of_range, not_whole, whole}
+use Rattle.cj_decimal.proofs.Common.{◌≡◌, ℕ, ◌^◌, ◌<◌, List, Bool, true, false, Option, Some, None, ℤ, pos, negsuc, refl, arith, ints, nat_tests, unsigned_abs, Number, is_in_range, whole_by, as_whole, IsNormal, IsInRange, IsWhole, IsValue, is_number, written_of, Class, no_number, out_of_range, not_whole, whole}
 use Rattle.cj_decimal.specs.Meaning.Number.{small_whole}
 use Rattle.cj_decimal.proofs.Grammar.{spells_test, test_spells}
 use Rattle.cj_decimal.proofs.Law.{has_one_value}
@@ -8,15 +8,10 @@ use Rattle.cj_decimal.proofs.Scales.{units_below, units_are, units_same}
 -- ---- the range
 
 pub in_range_test : {n : Number} → IsInRange n → is_in_range n ≡ true
-in_range_test {n} r =
-    let short : unsigned_abs n.coefficient < 10 ^ 36 = r.digits in
-    let near : unsigned_abs n.power ≤ 1000000 = omega (arith, ints, r.power_low, r.power_high) in
-    grind (arith, nat_tests)
+in_range_test {n} r = search (arith, nat_tests, ints)
 
 pub test_in_range : (n : Number) → is_in_range n ≡ true → IsInRange n
-test_in_range n e =
-    let near : unsigned_abs n.power ≤ 1000000 = grind (arith, nat_tests) in
-    record { digits = grind (arith, nat_tests); power_low = omega (arith, ints); power_high = omega (arith, ints) }
+test_in_range n e = search (arith, nat_tests, ints)
 
 -- ---- as a whole number
 
@@ -28,15 +23,12 @@ is_small x w h = (grind (arith, nat_tests), grind (arith, nat_tests))
 
 module _ (v : Number) (normal : IsNormal v) where
   whole_at : (p : ℤ) → v.power ≡ p → {w : ℤ} → IsWhole v w → whole_by v.coefficient p ≡ Some w
-  whole_at (pos k) e {w} is =
-      ap small_whole (sym (units_are v w (pos 0) k (omega (arith, ints, e)) is.same)) ∙ small_is w is.small
+  whole_at (pos k) e {w} is = search (arith, ints, units_are, small_is)
   whole_at (negsuc k) e {w} is =
       absurd (units_below v w (pos 0) normal is.same (omega (arith, ints, e)) (omega (arith, ints)))
 
   at_whole : (p : ℤ) → v.power ≡ p → (w : ℤ) → whole_by v.coefficient p ≡ Some w → IsWhole v w
-  at_whole (pos k) e w h =
-      let small = is_small (v.coefficient *ℤ pos (10 ^ k)) w h in
-      record { same = units_same v w (pos 0) k (omega (arith, ints, e)) small.0; small = small.1 }
+  at_whole (pos k) e w h = search (arith, ints, is_small, units_same)
   at_whole (negsuc k) e w h = absurd (cc h)
 
   pub whole_is : {w : ℤ} → IsWhole v w → as_whole v ≡ Some w

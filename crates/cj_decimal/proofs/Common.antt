@@ -11,13 +11,13 @@ pub use Rattle.cj_decimal.specs.Meaning.Spelling.{AllDigits, ExpParts, HasOneVal
 pub use Rattle.cj_decimal.specs.declared.decimal.DecimalFault.TheVariants.{NotANumber, NumberRange}
 pub use Rattle.cj_decimal.specs.inner.Digits.{IsTooLong, IsTrimmed, StandsFor}
 pub use Rattle.cj_decimal.specs.inner.Reading.{Carries, IsReadOf, IsShort, Passes, Saturates, SaturatesSize, Stops}
-pub use Rattle.std.proofs.Common.{Bool, Err, IsTrue, List, None, Ok, Option, Result, Some, [], ap, arith, cond, drop, drop-cons, false, get_or, inl, inr, length, length-drop, ltb, map, nat_eq, nat_le, nat_lt, neg_ℤ, negsuc, not, of_z, pos, refl, rules, subst, suc, sym, take, to_z, true, w64, zero, ℕ, ℤ, ⊎_elim, ◌%◌, ◌&&◌, ◌*ℤ◌, ◌*◌, ◌++◌, ◌+ℤ◌, ◌+◌, ◌-ℤ◌, ◌-◌, ◌/◌, ◌<ℤ◌, ◌<◌, ◌^◌, ◌||◌, ◌∙◌, ◌∷◌, ◌≡◌, ◌≢◌, ◌≤ℤ◌, ◌≤◌}
-pub use Rattle.std.proofs.Math.Nat.{le-mul_of_pos_right, le_of_mul-le-mul_right, mul-le-mul_left, mul-le-mul_right, mul-lt-mul_of_pos_right, mul-mod_right, mul_assoc, mul_comm, one-le-pow, pow-le-pow_right, pow-suc}
+pub use Rattle.std.proofs.Common.{Bool, Err, IsTrue, List, None, Ok, Option, Result, Some, [], ap, arith, cond, drop, false, get_or, inl, inr, length, length-drop, map, nat_eq, nat_le, nat_lt, neg_ℤ, negsuc, not, of_z, pos, refl, rules, subst, suc, sym, take, to_z, true, w64, zero, ℕ, ℤ, ⊎_elim, ◌%◌, ◌&&◌, ◌*ℤ◌, ◌*◌, ◌++◌, ◌+ℤ◌, ◌+◌, ◌-ℤ◌, ◌-◌, ◌/◌, ◌<ℤ◌, ◌<◌, ◌^◌, ◌||◌, ◌∙◌, ◌∷◌, ◌≡◌, ◌≢◌, ◌≤ℤ◌, ◌≤◌}
+pub use Rattle.std.proofs.Math.Nat.{le-mul_of_pos_right, le_of_mul-le-mul_right, mul-le-mul_left, mul-le-mul_right, mul-lt-mul_of_pos_right, mul-mod_right, one-le-pow, pow-le-pow_right, pow-suc}
 pub use Rattle.std.proofs.lemmas.Bool.{and_from, and_parts, cases_Bool, cases_lt, cond-false, cond-true, false_from_ne_true, false≢true}
 pub use Rattle.std.proofs.lemmas.Bool.Decides.{nat_tests}
 pub use Rattle.std.proofs.lemmas.Int.{by_lt_z, clamps, fits_signed_from_abs, ints, to_z-of_z, unsigned_abs-mul}
 pub use Rattle.std.proofs.lemmas.List.{append-nil, drop_all, drop_more, length-append, length-map, length-replicate, nil_from_length}
-pub use Rattle.std.proofs.lemmas.Nat.{and_mask, le_bytes_8, pow-add, shr-shr, shr_le, xor_lt}
+pub use Rattle.std.proofs.lemmas.Nat.{and_mask, le_bytes_8, pow-add, shr-shr, xor_lt}
 pub use Rattle.std.specs.Char.{is_ascii_digit}
 pub use Rattle.std.specs.Int.Bits.{and_block, bit_and, bit_xor, xor_block}
-pub use Rattle.std.specs.Prelude.{FitsSigned, IfNone, IfOk, IfSome, IsSome, codes, slice_range, unsigned_abs, ◌↔◌, ◌⊎◌}
+pub use Rattle.std.specs.Prelude.{FitsSigned, IfOk, IfSome, IsSome, slice_range, unsigned_abs, ◌⊎◌}

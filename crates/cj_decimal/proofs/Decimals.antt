@@ -1,5 +1,5 @@
 -- The number of a spelling agrees with each class that the spelling has.
-use Rattle.cj_decimal.proofs.Common.{◌≡◌, ℕ, zero, suc, ◌+◌, ◌*◌, ◌^◌, ◌%◌, ◌<◌, ◌≤◌, ◌≢◌, List, [], ◌∷◌, ◌++◌, length, Bool, cond, Option, Some, None, Ok, Err, ℤ, pos, ◌+ℤ◌, ◌-ℤ◌, refl, sym, ap, ◌∙◌, subst, arith, pow-suc, inl, inr, ints, NotANumber, NumberRange, cond-true, cond-false, false_from_ne_true, length-append, length-replicate, Number, scaled, signed, is_in_range, as_whole, SameValue, IsNormal, IsInRange, IsWhole, Written, value_after, digits_value, is_number, written_of, AllDigits, IsFrac, Spells, IsValue, SpellsNumber, IsNumberOutOfRange, Class, no_number, out_of_range, not_whole, whole, whole_answer, value_answer, whole_answer_by}
+use Rattle.cj_decimal.proofs.Common.{◌≡◌, ℕ, zero, suc, ◌+◌, ◌*◌, ◌^◌, ◌%◌, ◌<◌, ◌≢◌, List, [], ◌∷◌, ◌++◌, length, Bool, cond, Option, Some, None, Ok, Err, ℤ, pos, ◌+ℤ◌, ◌-ℤ◌, refl, sym, ap, ◌∙◌, subst, arith, pow-suc, inl, inr, ints, NotANumber, NumberRange, cond-true, cond-false, false_from_ne_true, length-append, length-replicate, Number, scaled, signed, is_in_range, as_whole, SameValue, IsNormal, IsInRange, IsWhole, Written, value_after, digits_value, is_number, written_of, AllDigits, IsFrac, Spells, IsValue, SpellsNumber, IsNumberOutOfRange, Class, no_number, out_of_range, not_whole, whole, whole_answer, value_answer, whole_answer_by}
 use Rattle.std.proofs.lemmas.Bool.{cond_both, eqb-false, eqb-true}
 use Rattle.std.specs.Prelude.{nat_eq, ◌-◌, replicate}
 use Rattle.cj_decimal.specs.Meaning.Decimal.{put_before, without_zeros, number_after, normal_of, ranged, decimal_of}
@@ -57,22 +57,14 @@ digits_both (b ∷ xs) ys d e = (d.0, digits_both xs ys d.1 e)
 
 -- digits that do not end in 0 spell no multiple of 10
 ends_above : (n b : ℕ) (s : List ℕ) → AllDigits (b ∷ s) → EndsWell (b ∷ s) → 0 < value_after n (b ∷ s) % 10
-ends_above n b [] d e =
-    let low : 48 ≤ b = d.0.0 in
-    let high : b ≤ 57 = d.0.1 in
-    last n (b - 48) (omega (arith, low, e)) (omega (arith, high))
-  where
-    last : (n x : ℕ) → 0 < x → x < 10 → 0 < (10 * n + x) % 10
-    last n x p q = omega arith
+ends_above n b [] d e = search arith
 ends_above n b (c ∷ s) d e = ends_above (10 * n + (b - 48)) c s d.1 e
 
 cut_value : {s kept : List ℕ} → (h : IsCut s kept) → digits_value s ≡ digits_value kept * 10 ^ h.many
-cut_value {kept} h =
-    ap digits_value h.joined ∙ value_append 0 kept (zeros h.many) ∙ zeros_after (digits_value kept) h.many
+cut_value {kept} h = search (arith, value_append, zeros_after)
 
 cut_length : {s kept : List ℕ} → (h : IsCut s kept) → length s ≡ length kept + h.many
-cut_length {kept} h =
-    ap length h.joined ∙ length-append kept (zeros h.many) ∙ ap (λ k. length kept + k) (length-replicate h.many 48)
+cut_length {kept} h = search (arith, length-append, length-replicate)
 
 -- ---- the number in normal form
 
@@ -97,8 +89,7 @@ frac_digits_all digits s (inl none) = subst AllDigits (sym none.0) tt
 frac_digits_all digits s (inr some) = all_of digits some.0
 
 written_digits : {s : List ℕ} {n : Written} → Spells s n → AllDigits (n.int ++ n.frac)
-written_digits {n} h =
-    digits_both n.int n.frac (int_digits n.int h.int_is) (frac_digits_all n.frac h.fraction h.frac_is)
+written_digits {n} h = search (arith, digits_both, int_digits, frac_digits_all)
 
 -- a number of the grammar has the value that is read
 value_is : {s : List ℕ} {n : Written} → Spells s n → IsValue s (normal_of n)

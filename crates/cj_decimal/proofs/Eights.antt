@@ -114,20 +114,7 @@ of_pairs : {n : ℕ} (p q r s t u v w : ℕ) → n ≡ little_endian (p ∷ q �
     → (bit_and n 0x000000ff000000ff * 4294967296000100 % 2 ^ 64
     + bit_and (n / 2 ^ 16) 0x000000ff000000ff * 42949672960001 % 2 ^ 64) % 2 ^ 64 / 2 ^ 32
     ≡ p * 1000000 + r * 10000 + t * 100 + v
-of_pairs {n} p q r s t u v w e small =
-    let first = two_bytes n in
-    let second = two_bytes (n / 2 ^ 16) in
-    let p_is : n % 256 ≡ p = omega arith in
-    let t_is : n / 2 ^ 32 % 256 ≡ t = omega arith in
-    let r_is : n / 2 ^ 16 % 256 ≡ r = omega arith in
-    let v_is : n / 2 ^ 16 / 2 ^ 32 % 256 ≡ v = omega arith in
-    products _ _ p r t v (omega (arith, first, p_is, t_is)) (omega (arith, second, r_is, v_is))
-    (omega arith) (omega arith) (omega arith) (omega arith)
-  where
-    products : (x y p r t v : ℕ) → x ≡ t * 2 ^ 32 + p → y ≡ v * 2 ^ 32 + r → p < 100 → r < 100 → t < 100 → v < 100
-        → (x * 4294967296000100 % 2 ^ 64 + y * 42949672960001 % 2 ^ 64) % 2 ^ 64 / 2 ^ 32
-        ≡ p * 1000000 + r * 10000 + t * 100 + v
-    products x y p r t v ex ey lp lr lt lv = omega arith
+of_pairs {n} p q r s t u v w e small = search (arith, two_bytes)
 
 value_after_weighed : (n : ℕ) (s : List ℕ)
     → value_after n (map (λ d. d + 48) s) ≡ n * 10 ^ length s + weighed 10 s
@@ -268,22 +255,14 @@ module _ (j : ℕ) (s : List ℕ) {w : ℕ} (m : ℕ) (lj : j ≤ 8) (ls : lengt
       × ((t : List ℕ) × (length t ≡ 8) × AllBelow 10 t × (m ≡ little_endian t)
       × (digits_value (map (λ d. d + 48) t) ≡ digits_value (drop j s)))
   eight_at_end few each if_begun =
-      let t = clear j (without_zeros s) in
-      let low = each t tested_length (clear_below j (without_zeros s) (xor_below s h)) tested in
-      let first = first_begun j s (omega (arith, few, ls)) h low in
-      let number = if_begun first.0 first.1 in
-      let small = low_digits j s (number_bytes (drop j s) number) low in
-      let end = cleared j s h small in
-      (number, end.0, (t, tested_length, small, tested, end.1))
+      search (arith, tested_length, clear_below, xor_below, tested, first_begun, low_digits, number_bytes, cleared)
 
   -- and digits pass the test
   pub digits_pass : (b : Bool)
       → ((t : List ℕ) → length t ≡ 8 → AllBelow 256 t → m ≡ little_endian t → AllBelow 16 t → IsTrue b)
       → AllDigits (drop j s) → IsTrue b
   digits_pass b each d =
-      let t = clear j (without_zeros s) in
-      each t tested_length (clear_below j (without_zeros s) (xor_below s h)) tested
-      (below_more 10 16 (omega arith) t (digits_small j s d))
+      search (arith, tested_length, clear_below, xor_below, tested, below_more, digits_small)
 
 -- ---- in a line
 
@@ -304,37 +283,25 @@ pub bytes_below : (line : List ℕ) (i j : ℕ) → ((k : ℕ) → get_or line k
 bytes_below line i j each = below_front (j - i) (drop i line) (below_rest i line (all_bytes line each))
 
 pub length_slice : (line : List ℕ) (i j : ℕ) → j ≤ length line → length (slice_range line i j) ≡ j - i
-length_slice line i j h = let l = length-drop i line in length-take-le (j - i) (drop i line) (omega (arith, l))
+length_slice line i j h = search (arith, length-drop, length-take-le)
 
 -- the last of eight bytes
 pub end_of_eight : (line : List ℕ) (count stop : ℕ) → count ≤ 8 → 8 ≤ stop
     → drop (8 - count) (slice_range line (stop - 8) stop) ≡ slice_range line (stop - count) stop
-end_of_eight line count stop few room =
-    let n : stop - (stop - 8) ≡ 8 - count + count = omega arith in
-    let m : stop - (stop - count) ≡ count = omega arith in
-    let p : stop - 8 + (8 - count) ≡ stop - count = omega arith in
-    ap (λ k. drop (8 - count) (take k (drop (stop - 8) line))) n
-    ∙ drop-take (8 - count) count (drop (stop - 8) line)
-    ∙ ap (take count) (drop-drop (8 - count) (stop - 8) line ∙ ap (λ k. drop k line) p)
-    ∙ ap (λ k. take k (drop (stop - count) line)) (sym m)
+end_of_eight line count stop few room = search (arith, drop-take, drop-drop)
 
 -- the test of a word: no bit is set in a high half
 pub low_each : {w : ℕ} (s : List ℕ) → length s ≡ 8 → AllBelow 256 s → w ≡ little_endian s
     → IsTrue (nat_eq (bit_and w 0xf0f0f0f0f0f0f0f0) 0) → AllBelow 16 s
-low_each s e h is test = all_high s h (no_bit (sym (high_halves s e h)) (rw is at test))
-  where
-    no_bit : {m n : ℕ} → m ≡ n → IsTrue (nat_eq n 0) → m ≡ 0
-    no_bit e h = grind (arith, nat_tests)
+low_each s e h is test = search (arith, all_high, high_halves)
 
 pub passes_low : {w : ℕ} (s : List ℕ) → length s ≡ 8 → w ≡ little_endian s → AllBelow 16 s
     → IsTrue (nat_eq (bit_and w 0xf0f0f0f0f0f0f0f0) 0)
-passes_low s e is low =
-    let below = below_more 16 256 (omega arith) s low in rw (is, high_halves s e below, all_low s low) refl
+passes_low s e is low = search (arith, below_more, high_halves, all_low)
 
 pub first_is : (line : List ℕ) (start stop : ℕ) → start < stop
     → get_or (slice_range line start stop) 0 0 ≡ get_or line start 0
-first_is line start stop order = get_or-take (stop - start) (drop start line) 0 0 (omega arith)
-    ∙ get_or-drop start line 0 0 ∙ ap (λ k. get_or line k 0) (omega arith)
+first_is line start stop order = search (arith, get_or-take, get_or-drop)
 
 -- ---- behind a minus
 
@@ -345,9 +312,7 @@ begins_first (b ∷ t) l e = eq-eqb b _ e
 
 pub minus_first : (line : List ℕ) (start stop : ℕ) → start < stop → stop ≤ length line → get_or line start 0 ≡ 45
     → true ≡ begins 45 (slice_range line start stop)
-minus_first line start stop order within z =
-    let l = length_slice line start stop within in
-    sym (begins_first (slice_range line start stop) (omega (arith, l)) (first_is line start stop order ∙ z))
+minus_first line start stop order within z = search (arith, length_slice, begins_first, first_is)
 
 begins_not : (c : ℕ) (s : List ℕ) → (get_or s 0 0 ≡ c → ⊥) → begins c s ≡ false
 unfolding begins
@@ -356,8 +321,7 @@ begins_not c (b ∷ t) n = ne_eqb b c n
 
 pub body_plain : (line : List ℕ) (start stop : ℕ) → start < stop → (get_or line start 0 ≡ 45 → ⊥)
     → body (slice_range line start stop) ≡ slice_range line start stop
-body_plain line start stop order n = let s = slice_range line start stop in
-    no_minus s (begins_not 45 s (λ z. n (sym (first_is line start stop order) ∙ z)))
+body_plain line start stop order n = search (arith, no_minus, begins_not, first_is)
 
 pub body_behind : (line : List ℕ) (start stop : ℕ) → start < stop → true ≡ begins 45 (slice_range line start stop)
     → body (slice_range line start stop) ≡ slice_range line (start + 1) stop
@@ -375,14 +339,13 @@ short_behind line start stop order minus short = rw (body_behind line start stop
 -- few digits, as a body and where they stand
 pub few_in : (line : List ℕ) (start stop : ℕ) {s : List ℕ} → s ≡ slice_range line start stop → stop ≤ length line
     → stop ≤ start + 8 → IsInt (slice_range line start stop) → IsFewDigits s
-few_in line start stop e within near int =
-    let l = length_slice line start stop within in rw e (int, omega (arith, l))
+few_in line start stop e within near int = search (arith, length_slice)
 
 pub int_in : {s t : List ℕ} → s ≡ t → IsFewDigits s → IsInt t
 int_in e few = rw e at few.0
 
 pub no_int : (line : List ℕ) (start stop : ℕ) → stop ≤ start → IsInt (slice_range line start stop) → ⊥
-no_int line start stop h int = let n : stop - start ≡ 0 = omega arith in rw n at int
+no_int line start stop h int = search arith
 
 pub all_from_eight : (line : List ℕ) (count stop : ℕ) → count ≤ 8 → 8 ≤ stop
     → AllDigits (slice_range line (stop - count) stop) → AllDigits (drop (8 - count) (slice_range line (stop - 8) stop))
@@ -397,8 +360,8 @@ digits_unsigned (b ∷ t) all = digit_begins_alone 45 (b ∷ t) all (omega arith
 
 -- they are an int
 pub number_int : (s : List ℕ) → SpellsNumber s → AllDigits s → IsInt s
-number_int s number all = int_from_test s all (true_from_ne_false (is_int s) (λ e.
-    not_int s (ap is_int (ap digits_front (no_minus s (digits_unsigned s all)) ∙ front_alone s all) ∙ e) number))
+number_int s number all =
+    search (arith, int_from_test, true_from_ne_false, not_int, no_minus, digits_unsigned, front_alone)
 
 -- ---- and what stands behind the minus of a number is one
 

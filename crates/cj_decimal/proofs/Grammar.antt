@@ -4,7 +4,7 @@ use Rattle.std.proofs.lemmas.Bool.{cases_eq, cond_both, or_cases, or_from, or_le
 use Rattle.cj_decimal.proofs.Ways.{front_digit, rest_digit, digit_bounds, front_of_stop}
 
 digit_test : (b : ℕ) → IsDigit b → is_ascii_digit b ≡ true
-digit_test b h = let low : 48 ≤ b = h.0 in let high : b ≤ 57 = h.1 in grind (arith, nat_tests)
+digit_test b h = search (arith, nat_tests)
 
 -- ---- digits at the front
 pub front_all : (s : List ℕ) → AllDigits (digits_front s)
@@ -16,12 +16,7 @@ front_all (b ∷ s) =
 pub front_rest : (s : List ℕ) → s ≡ digits_front s ++ digits_rest s
 unfolding digits_front digits_rest
 front_rest [] = refl
-front_rest (b ∷ s) =
-    elim (is_ascii_digit b) as
-    (λ t. b ∷ s ≡ cond t (b ∷ digits_front s) [] ++ cond t (digits_rest s) (b ∷ s)) [
-      | true ↦ ap (λ r. b ∷ r) (front_rest s)
-      | false ↦ refl
-    ]
+front_rest (b ∷ s) = search (arith, front_rest s)
 
 -- digits, and then no digit: the front is those digits
 pub front_append : (ds t : List ℕ) → AllDigits ds → begins_digit t ≡ false → digits_front (ds ++ t) ≡ ds
@@ -47,7 +42,7 @@ front_is_all s none = sym (front_rest s ∙ ap (λ r. digits_front s ++ r) none 
 -- ---- the int part
 pub int_digits : (s : List ℕ) → IsInt s → AllDigits s
 int_digits [] h = absurd h
-int_digits (b ∷ s) (inl zero) = ((omega (arith, zero.0), omega (arith, zero.0)), rw zero.1 tt)
+int_digits (b ∷ s) (inl zero) = search arith
 int_digits (b ∷ s) (inr more) = ((omega (arith, more.0), more.1), more.2)
 
 pub int_test : (s : List ℕ) → IsInt s → is_int s ≡ true
@@ -64,16 +59,13 @@ empty_from_test (b ∷ s) h = absurd (cc h)
 pub int_from_test : (s : List ℕ) → AllDigits s → is_int s ≡ true → IsInt s
 unfolding is_int
 int_from_test [] d h = absurd (cc h)
-int_from_test (b ∷ s) d h = elim (cases_eq b 48) [
-  | inl zero ↦ inl (zero, empty_from_test s (grind (arith, nat_tests)))
-  | inr other ↦ inr (omega (arith, d.0, other), omega (arith, d.0), d.1)
-]
+int_from_test (b ∷ s) d h = search (arith, nat_tests, cases_eq, empty_from_test)
 
 -- ---- tests of the first byte
 pub begins_is : (c : ℕ) (s : List ℕ) → begins c s ≡ true → s ≡ c ∷ drop 1 s
 unfolding begins
 begins_is c [] h = absurd (cc h)
-begins_is c (b ∷ s) h = let same : b ≡ c = grind (arith, nat_tests) in ap (λ x. x ∷ s) same
+begins_is c (b ∷ s) h = search (arith, nat_tests)
 
 pub begins_own : (c : ℕ) (s : List ℕ) → begins c (c ∷ s) ≡ true
 unfolding begins
@@ -126,11 +118,9 @@ sign_split : (negative : Bool) (sign digits : List ℕ) → IsExpSign negative s
 unfolding exp_digits
 sign_split true sign digits s d =
     rw s (begins_own 45 digits, cond-true _ _ _ (or_left _ _ (begins_own 45 digits)))
-sign_split false sign digits (inl none) d =
-    let minus = digit_begins_alone 45 digits d (omega arith) in
-    rw none (minus, cond-false _ _ _ (or_from _ _ minus (digit_begins_alone 43 digits d (omega arith))))
+sign_split false sign digits (inl none) d = search (arith, digit_begins_alone, cond-false, or_from)
 sign_split false sign digits (inr plus) d =
-    rw plus (begins_other digits (λ e. omega (arith, e)), cond-true _ _ _ (or_right _ _ (begins_own 43 digits)))
+    search (arith, begins_other, cond-true, or_right, begins_own)
 
 abbrev IsMark : ℕ → Type 0
 IsMark b = (b ≡ 101) ⊎ (b ≡ 69)
@@ -140,10 +130,7 @@ mark_test b (inl e) = rw e
 mark_test b (inr e) = rw e
 
 mark_from_test : (b : ℕ) → (nat_eq b 101 || nat_eq b 69) ≡ true → IsMark b
-mark_from_test b h = elim (or_cases (nat_eq b 101) (nat_eq b 69) h) [
-  | inl e ↦ inl (grind (arith, nat_tests))
-  | inr e ↦ inr (grind (arith, nat_tests))
-]
+mark_from_test b h = search (arith, nat_tests, or_cases)
 
 mark_no_digit : (b : ℕ) → IsMark b → is_ascii_digit b ≡ false
 mark_no_digit b (inl e) = rw e
@@ -169,17 +156,7 @@ exp_test e t (inr p) =
 
 exp_parts : (b : ℕ) {t : List ℕ} (sign digits : List ℕ) (negative : Bool) → IsMark b → IsExpSign negative sign
     → IsDigits digits → t ≡ sign ++ digits → ExpParts (signed negative (digits_value digits)) (b ∷ t)
-exp_parts b sign digits negative mark s d e = record {
-  mark = b;
-  negative = negative;
-  sign = sign;
-  digits = digits;
-  mark_is = mark;
-  sign_is = s;
-  digits_are = d;
-  joined = ap (λ r. b ∷ r) e;
-  value = refl;
-}
+exp_parts b sign digits negative mark s d e = search arith
 
 parts_by_sign : (b : ℕ) (t : List ℕ) (minus plus : Bool) → IsMark b → begins 45 t ≡ minus → begins 43 t ≡ plus
     → IsDigits (cond (minus || plus) (drop 1 t) t)
@@ -191,10 +168,7 @@ parts_by_sign b t false false mark e f d = exp_parts b [] t false mark (inl refl
 pub exp_from_test : (t : List ℕ) → is_exp t ≡ true → IsExp (exp_value t) t
 unfolding is_exp exp_value exp_digits
 exp_from_test [] h = inl (refl, refl)
-exp_from_test (b ∷ t) h =
-    let tests = and_parts _ _ h in
-    inr (parts_by_sign b t (begins 45 t) (begins 43 t) (mark_from_test b tests.0) refl refl
-    (whole_from_test (exp_digits t) tests.1))
+exp_from_test (b ∷ t) h = search (arith, and_parts, parts_by_sign, mark_from_test, whole_from_test)
 
 -- ---- the fraction
 pub frac_bare : (r : List ℕ) → begins 46 r ≡ false → (is_frac r ≡ true) × (frac_digits r ≡ []) × (after_frac r ≡ r)

@@ -1,6 +1,6 @@
 -- The normal form of the number that was read.
 use Rattle.cj_decimal.proofs.Common.{◌≡◌, ℕ, zero, suc, ◌+◌, ◌*◌, ◌/◌, ◌%◌, ◌^◌, ◌<◌, ◌≤◌, Bool, true, false, ℤ, pos, neg_ℤ, ◌+ℤ◌, ◌-ℤ◌, ◌*ℤ◌, ◌≤ℤ◌, ◌<ℤ◌, refl, sym, ap, ◌∙◌, arith, ⊎_elim, ◌⊎◌, unsigned_abs, pow-add, ints, by_lt_z, to_z-of_z, fits_signed_from_abs, Number, scaled, signed, SameValue, IsNormal, IsInRange, IsOutOfRange, IsTooLong, StandsFor, IsTrimmed, Saturates}
-use Rattle.std.specs.Int.{int_gap, int_min, w32, w128, cast_signed, cast_unsigned}
+use Rattle.std.specs.Int.{w32, w128, cast_signed, cast_unsigned}
 use Rattle.cj_decimal.proofs.TenPowers.{ten_pow_suc, neg_times}
 use Rattle.cj_decimal.proofs.Trims.{trim_left, trimmed_le}
 use Rattle.cj_decimal.proofs.Values.{same_scaled}
@@ -22,12 +22,7 @@ zero_times k = omega (arith, ints)
 
 -- 0 at any power is the pair (0, 0)
 pub zero_same : (s : Bool) (n : ℕ) (q : ℤ) → n ≡ 0 → SameValue (scaled (signed s n) q) (scaled (pos 0) (pos 0))
-zero_same s n q e =
-    let none : signed s n ≡ pos 0 = ap (signed s) e ∙ signed_zero s in
-    record {
-      coefficients = ap (λ c. c *ℤ pos (10 ^ int_gap (int_min q (pos 0)) q)) none ∙ zero_times _
-          ∙ sym (zero_times _);
-    }
+zero_same s n q e = search (arith, signed_zero, zero_times)
 
 pub zero_normal : IsNormal (scaled (pos 0) (pos 0))
 zero_normal = record { normal = λ e. refl }
@@ -35,18 +30,17 @@ zero_normal = record { normal = λ e. refl }
 -- the number c with k zeros at its end is the number c at a power k higher
 pub trimmed_same : (s : Bool) {n : ℕ} (c k : ℕ) (p q : ℤ) → n ≡ c * 10 ^ k → q ≡ p +ℤ pos k
     → SameValue (scaled (signed s n) p) (scaled (signed s c) q)
-trimmed_same s {n} c k p q e f =
-    same_scaled (signed s n) (signed s c) p k (ap (signed s) e ∙ signed_times s c (10 ^ k)) f
+trimmed_same s {n} c k p q e f = search (arith, same_scaled, signed_times)
 
 pub trimmed_normal : (s : Bool) (c : ℕ) (q : ℤ) → 0 < c % 10 → IsNormal (scaled (signed s c) q)
-trimmed_normal s c q h = record { normal = λ e. absurd (omega (arith, h, e, ap (λ n. n % 10) (signed_size s c))) }
+trimmed_normal s c q h = search (arith, signed_size)
 
 -- ---- every number has a normal form
 abbrev Trimmed : ℕ → Type 0
 Trimmed n = (c : ℕ) × (k : ℕ) × IsTrimmed n c k
 
 trim_by_last : (n d : ℕ) → n % 10 ≡ d → 0 < n → (0 < n / 10 → n % 10 ≡ 0 → Trimmed (n / 10)) → Trimmed n
-trim_by_last n (suc d) e p more = (n, 0, record { whole = omega arith; last = omega (arith, e) })
+trim_by_last n (suc d) e p more = search arith
 trim_by_last n zero e p more =
     let less = more (trim_left n p e) e in (
       less.0,
@@ -111,19 +105,15 @@ stands_trimmed {extra} {c} {k} s e t = s.whole e ∙ ap (λ l. l * 10 ^ extra) t
 pub power_in : {e r : ℤ} (after_point up : ℕ) → Saturates e r → after_point < 2 ^ 64 → up < 2 ^ 65
     → neg_ℤ (pos 1000000) ≤ℤ (r -ℤ pos after_point +ℤ pos up) → (r -ℤ pos after_point +ℤ pos up) ≤ℤ pos 1000000
     → e -ℤ pos after_point +ℤ pos up ≡ r -ℤ pos after_point +ℤ pos up
-power_in {e} {r} after_point up s a b low high = let same : e ≡ r = s.same (omega (arith, ints)) in omega (arith, ints)
+power_in {e} {r} after_point up s a b low high = search (arith, ints)
 
 pub power_low_out : {e r : ℤ} (after_point up : ℕ) → Saturates e r → after_point < 2 ^ 64 → up < 2 ^ 65
     → (r -ℤ pos after_point +ℤ pos up) <ℤ neg_ℤ (pos 1000000) → (e -ℤ pos after_point +ℤ pos up) <ℤ neg_ℤ (pos 1000000)
-power_low_out {e} {r} after_point up s a b h = by_lt_z (neg_ℤ (pos (10 ^ 35))) r
-    (λ k. let same : e ≡ r = s.same (omega (arith, ints)) in omega (arith, ints))
-    (λ k. let far : e ≤ℤ neg_ℤ (pos (10 ^ 35)) = s.low k in omega (arith, ints))
+power_low_out {e} {r} after_point up s a b h = search (arith, ints, by_lt_z)
 
 pub power_high_out : {e r : ℤ} (after_point up : ℕ) → Saturates e r → after_point < 2 ^ 64 → up < 2 ^ 65
     → pos 1000000 <ℤ (r -ℤ pos after_point +ℤ pos up) → pos 1000000 <ℤ (e -ℤ pos after_point +ℤ pos up)
-power_high_out {e} {r} after_point up s a b h = by_lt_z r (pos (10 ^ 35))
-    (λ k. let same : e ≡ r = s.same (omega (arith, ints)) in omega (arith, ints))
-    (λ k. let far : pos (10 ^ 35) ≤ℤ e = s.high k in omega (arith, ints))
+power_high_out {e} {r} after_point up s a b h = search (arith, ints, by_lt_z)
 
 -- where the power is out of range, the normal form is
 pub power_out : (s : Bool) {n : ℕ} (c up : ℕ) (q : ℤ) → n ≡ c * 10 ^ up → 0 < c % 10
@@ -134,14 +124,12 @@ power_out s c up q whole last far = out_form s c up q whole last
 
 pub form_in_range : (s : Bool) (c : ℕ) (p : ℤ) → c < 10 ^ 36 → neg_ℤ (pos 1000000) ≤ℤ p → p ≤ℤ pos 1000000
     → IsInRange (scaled (signed s c) p)
-form_in_range s c p small low high =
-    record { digits = omega (arith, signed_size s c); power_low = low; power_high = high }
+form_in_range s c p small low high = search (arith, signed_size)
 
 -- the same at a coefficient and a power that equal these
 pub in_form : (s : Bool) {n c k : ℕ} {x p : ℤ} → IsTrimmed n c k → n < 10 ^ 36 → x ≡ signed s c
     → neg_ℤ (pos 1000000) ≤ℤ p → p ≤ℤ pos 1000000 → IsNormal (scaled x p) × IsInRange (scaled x p)
-in_form s {c} {p} t small e low high =
-    rw e (trimmed_normal s c p t.last, form_in_range s c p (omega (arith, trimmed_le t, small)) low high)
+in_form s {c} {p} t small e low high = search (arith, trimmed_normal, form_in_range, trimmed_le)
 
 pub same_form : (s : Bool) {n : ℕ} (c up : ℕ) (q : ℤ) {x p : ℤ} → n ≡ c * 10 ^ up → x ≡ signed s c → p ≡ q +ℤ pos up
     → SameValue (scaled (signed s n) q) (scaled x p)
@@ -150,8 +138,7 @@ same_form s c up q {p} whole e f = rw e (trimmed_same s c up q p whole f)
 -- a coefficient that went to bits and back
 pub sign_cast : (s : Bool) (c : ℕ) {x : ℤ} → x ≡ signed s c → c < 10 ^ 36
     → cast_signed w128 (cast_unsigned w128 x) ≡ signed s c
-sign_cast s c {x} e small =
-    to_z-of_z w128 x (fits_signed_from_abs w128 x (omega (arith, ap unsigned_abs e, signed_size s c))) ∙ e
+sign_cast s c {x} e small = search (arith, to_z-of_z, fits_signed_from_abs, signed_size)
 
 -- the power as the code computes it
 pub power_cast : (r : ℤ) (after_point extra more : ℕ) → unsigned_abs r < 10 ^ 36 → after_point < 2 ^ 64 → extra < 2 ^ 64

@@ -1,5 +1,5 @@
 -- The bytes of a number of JSON: digits, and others that are not below 16 without the bits of `0`.
-use Rattle.cj_decimal.proofs.Common.{◌≡◌, ℕ, ◌≤◌, List, [], ◌∷◌, ◌++◌, Bool, true, false, refl, ap, ◌∙◌, arith, nat_tests, inl, inr, ◌⊎◌, ℤ, nat_le, bit_xor, AllDigits, IsDigit, IsExp, IsExpSign, IsFrac, IsInt, IsMinus, SpellsNumber}
+use Rattle.cj_decimal.proofs.Common.{◌≡◌, ℕ, ◌≤◌, List, [], ◌∷◌, ◌++◌, Bool, true, false, refl, ap, ◌∙◌, arith, inl, inr, ◌⊎◌, ℤ, nat_le, bit_xor, AllDigits, IsDigit, IsExp, IsExpSign, IsFrac, IsInt, IsMinus, SpellsNumber}
 use Rattle.cj_decimal.proofs.Grammar.{all_of}
 
 abbrev pub NumberBytes : List ℕ → Type 0
@@ -17,10 +17,7 @@ of_digits (b ∷ s) h = (inl h.0, of_digits s h.1)
 -- a byte that is no digit, and others
 behind : (b : ℕ) (s : List ℕ) {t : List ℕ} → nat_le 16 (bit_xor b 48) ≡ true → NumberBytes s → t ≡ b ∷ s
     → NumberBytes t
-behind b s test h e = rw e (inr (high (bit_xor b 48) test), h)
-  where
-    high : (x : ℕ) → nat_le 16 x ≡ true → 16 ≤ x
-    high x test = grind (arith, nat_tests)
+behind b s test h e = search arith
 
 none : {s : List ℕ} → s ≡ [] → NumberBytes s
 none e = rw e tt
@@ -31,7 +28,7 @@ of_minus false s e = none e
 
 of_int : (s : List ℕ) → IsInt s → NumberBytes s
 of_int [] h = absurd h
-of_int (b ∷ s) (inl zero) = (inl (omega (arith, zero.0), omega (arith, zero.0)), none zero.1)
+of_int (b ∷ s) (inl zero) = search (arith, none)
 of_int (b ∷ s) (inr h) = (inl (omega (arith, h.0), h.1), of_digits s h.2)
 
 of_frac : (digits s : List ℕ) → IsFrac digits s → NumberBytes s
@@ -49,9 +46,7 @@ of_mark m s (inr e) h is = behind 69 s refl h (is ∙ ap (λ k. k ∷ s) e)
 
 of_exp : (e : ℤ) (s : List ℕ) → IsExp e s → NumberBytes s
 of_exp e s (inl nothing) = none nothing.1
-of_exp e s (inr p) =
-    of_mark p.mark (p.sign ++ p.digits) p.mark_is (both p.sign p.digits (of_sign p.negative p.sign p.sign_is)
-    (of_digits p.digits (all_of p.digits p.digits_are))) p.joined
+of_exp e s (inr p) = search (arith, of_mark, both, of_sign, of_digits, all_of)
 
 pub number_bytes : (s : List ℕ) → SpellsNumber s → NumberBytes s
 number_bytes s number =

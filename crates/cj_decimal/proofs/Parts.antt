@@ -1,6 +1,6 @@
 -- The parts of a spelling at their places.
-use Rattle.cj_decimal.proofs.Common.{◌≡◌, ℕ, ◌+◌, ◌-◌, ◌*◌, ◌^◌, ◌<◌, ◌≤◌, List, [], ◌∷◌, ◌++◌, append-nil, drop_all, drop_more, length, drop, get_or, nil_from_length, Bool, true, false, and_from, and_parts, cases_Bool, cases_lt, cond-false, cond-true, nat_eq, ◌&&◌, ◌||◌, not, inl, inr, refl, sym, ap, ◌∙◌, arith, Option, None, Some, IsSome, ℤ, pos, neg_ℤ, ints, le-mul_of_pos_right, signed, is_ascii_digit, StandsFor, value_after, digits_value, body, written_of, digits_front, digits_rest, begins, is_empty, begins_digit, is_int, is_frac, frac_digits, after_frac, exp_digits, is_whole_digits, is_exp, exp_value, SpellsNumber, Spells, IsReadOf, Passes, Stops, Saturates, SaturatesSize}
-use Rattle.std.proofs.lemmas.Bool.{and_left, and_right, false_from_ne_true, or_cases, or_right, true_from_ne_false}
+use Rattle.cj_decimal.proofs.Common.{◌≡◌, ℕ, ◌+◌, ◌-◌, ◌*◌, ◌^◌, ◌<◌, ◌≤◌, List, [], ◌∷◌, ◌++◌, append-nil, drop_all, drop_more, length, drop, get_or, nil_from_length, Bool, true, false, and_from, and_parts, cases_Bool, cases_lt, cond-false, cond-true, nat_eq, ◌||◌, not, refl, sym, ap, ◌∙◌, arith, Option, None, Some, IsSome, ℤ, pos, ints, le-mul_of_pos_right, signed, StandsFor, value_after, digits_value, body, written_of, digits_front, digits_rest, begins, is_empty, begins_digit, is_int, is_frac, frac_digits, after_frac, exp_digits, is_whole_digits, is_exp, exp_value, SpellsNumber, Spells, IsReadOf, Passes, Stops, Saturates, SaturatesSize}
+use Rattle.std.proofs.lemmas.Bool.{and_left, and_right, false_from_ne_true, or_cases, true_from_ne_false}
 use Rattle.cj_decimal.proofs.TenPowers.{ten_pow_pos}
 use Rattle.cj_decimal.proofs.Pushes.{stands_short, short_stands}
 use Rattle.cj_decimal.proofs.Grammar.{frac_bare, front_is_all, spells_test, test_spells}
@@ -17,20 +17,14 @@ begins_past c s at h = ap (begins c) (drop_all at s h)
 -- a byte that stands there is within
 pub begins_within : (c : ℕ) (s : List ℕ) (at : ℕ) → begins c (drop at s) ≡ true → at < length s
 unfolding begins
-begins_within c s at h = elim (cases_lt at (length s)) [
-  | inl within ↦ within
-  | inr past ↦ absurd (cc (h, begins_past c s at past))
-]
+begins_within c s at h = search (arith, cases_lt, begins_past)
 
 pub int_none : (t : List ℕ) → length (digits_front t) ≡ 0 → is_int (digits_front t) ≡ false
 unfolding is_int
 int_none t e = ap is_int (nil_from_length _ e)
 
 front_head : (b : ℕ) (t : List ℕ) → 0 < length (digits_front (b ∷ t)) → digits_front (b ∷ t) ≡ b ∷ digits_front t
-front_head b t h = elim (cases_Bool (is_ascii_digit b)) [
-  | inl e ↦ front_digit b t e
-  | inr e ↦ absurd (omega (arith, h, ap length (front_other b t e)))
-]
+front_head b t h = search (arith, cases_Bool, front_digit, front_other)
 
 not_empty : (f : List ℕ) → 0 < length f → is_empty f ≡ false
 unfolding is_empty
@@ -41,22 +35,11 @@ not_empty (b ∷ f) h = refl
 pub int_longer : (t : List ℕ) → 1 < length (digits_front t) → is_int (digits_front t) ≡ not (begins 48 t)
 unfolding is_int begins
 int_longer [] h = absurd (omega (arith, h, ap length front_end))
-int_longer (b ∷ t) h =
-    let head = front_head b t (omega arith) in
-    let longer : 0 < length (digits_front t) = omega (arith, h, ap length head) in
-    ap is_int head ∙ ap (λ e. not (nat_eq b 48) || e) (not_empty (digits_front t) longer) ∙ or_false _
-  where
-    or_false : (x : Bool) → (x || false) ≡ x
-    or_false true = refl
-    or_false false = refl
+int_longer (b ∷ t) h = search (arith, front_head, not_empty)
 
 pub int_alone : (t : List ℕ) → length (digits_front t) ≡ 1 → is_int (digits_front t) ≡ true
 unfolding is_int is_empty
-int_alone t h = at (digits_front t) h
-  where
-    at : (f : List ℕ) → length f ≡ 1 → is_int f ≡ true
-    at (b ∷ []) h = or_right _ _ refl
-    at _ h = absurd (omega (arith, h))
+int_alone t h = search arith
 
 pub drop_one : (s : List ℕ) (at : ℕ) → at < length s → drop 1 (drop at s) ≡ drop (at + 1) s
 drop_one s at h = ap (drop 1) (drop_more s at 0 h)
@@ -65,14 +48,12 @@ drop_one s at h = ap (drop 1) (drop_more s at 0 h)
 pub no_first_digit : (t : List ℕ) → length (digits_front t) ≡ 0 → begins_digit t ≡ false
 unfolding begins_digit
 no_first_digit [] h = refl
-no_first_digit (b ∷ t) h =
-    false_from_ne_true (is_ascii_digit b) (λ e. omega (arith, h, ap length (front_digit b t e)))
+no_first_digit (b ∷ t) h = search (arith, false_from_ne_true, front_digit)
 
 pub first_digit_there : (t : List ℕ) → 0 < length (digits_front t) → begins_digit t ≡ true
 unfolding begins_digit
 first_digit_there [] h = absurd (omega (arith, h, ap length front_end))
-first_digit_there (b ∷ t) h =
-    true_from_ne_false (is_ascii_digit b) (λ e. omega (arith, h, ap length (front_other b t e)))
+first_digit_there (b ∷ t) h = search (arith, true_from_ne_false, front_other)
 
 -- ---- the exponent
 pub no_whole_digits : (t : List ℕ) → length (digits_front t) ≡ 0 → is_whole_digits t ≡ false
@@ -104,20 +85,12 @@ saturates_size lead extra {lost} n full cut s = record {
 
 pub saturates_signed : (negative : Bool) {n r : ℕ} → SaturatesSize n r
     → Saturates (signed negative n) (signed negative r)
-saturates_signed false {n} s = record {
-  same = λ h. ap pos (s.same h);
-  high = λ h. let big : 10 ^ 35 ≤ n = s.high (omega (arith, ints)) in omega (arith, ints);
-  low = λ h. absurd (omega (arith, ints));
-}
-saturates_signed true {n} s = record {
-  same = λ h. ap (λ k. neg_ℤ (pos k)) (s.same (omega (arith, ints)));
-  high = λ h. absurd (omega (arith, ints));
-  low = λ h. let big : 10 ^ 35 ≤ n = s.high (omega (arith, ints)) in omega (arith, ints);
-}
+saturates_signed false {n} s = search (arith, ints)
+saturates_signed true {n} s = search (arith, ints)
 
 pub exp_none : {r : List ℕ} → r ≡ [] → (is_exp r ≡ true) × Saturates (exp_value r) (pos 0)
 unfolding is_exp exp_value
-exp_none e = rw e (refl, record { same = λ h. refl; high = λ h. h; low = λ h. h })
+exp_none e = search arith
 
 pub exp_unmarked : (r : List ℕ) → 0 < length r → (begins 101 r || begins 69 r) ≡ false → is_exp r ≡ false
 unfolding is_exp begins
@@ -129,7 +102,7 @@ pub exp_marked : (r : List ℕ) → (begins 101 r || begins 69 r) ≡ true
     × (exp_value r ≡ signed (begins 45 (drop 1 r)) (digits_value (exp_digits (drop 1 r))))
 unfolding is_exp exp_value begins
 exp_marked [] e = absurd (cc e)
-exp_marked (b ∷ t) e = (ap (λ m. m && is_whole_digits (exp_digits t)) e, refl)
+exp_marked (b ∷ t) e = search arith
 
 pub sign_there : (t : List ℕ) → (begins 45 t || begins 43 t) ≡ true → exp_digits t ≡ drop 1 t
 unfolding exp_digits
@@ -142,10 +115,7 @@ no_sign t e = cond-false _ _ _ e
 -- a byte of two that stands there is within
 pub one_of_within : (a b : ℕ) (s : List ℕ) (at : ℕ) → (begins a (drop at s) || begins b (drop at s)) ≡ true
     → at < length s
-one_of_within a b s at h = elim (or_cases _ _ h) [
-  | inl e ↦ begins_within a s at e
-  | inr e ↦ begins_within b s at e
-]
+one_of_within a b s at h = search (arith, or_cases, begins_within)
 
 -- an exponent's mark at a place, and its digits at another
 pub marked_at : (s : List ℕ) (from first : ℕ) → (begins 101 (drop from s) || begins 69 (drop from s)) ≡ true

@@ -6,7 +6,7 @@ no_gap : (x : ℕ) → x ≡ x * 10 ^ 0
 no_gap x = omega arith
 
 over_ten : (n d c p : ℕ) → d < 10 → 10 * n + d ≡ c * (p * 10) → (d ≡ 0) × (n ≡ c * p)
-over_ten n d c p h e = let f : 10 * n + d ≡ 10 * (c * p) = omega (arith, e) in (omega arith, omega arith)
+over_ten n d c p h e = search arith
 
 pub too_long_more : {n : ℕ} (d : ℕ) → d < 10 → IsTooLong n → IsTooLong (10 * n + d)
 too_long_more {n} d h t = record { too_long = λ c k e. at c k e }
@@ -37,11 +37,7 @@ pub push_short : {lead extra : ℕ} (lost : Bool) {n : ℕ} (d : ℕ) → lead <
     → (IsTrue lost → 10 ^ 35 ≤ lead) → d < 10 → StandsFor lead extra lost n
     → StandsFor (lead * 10 + d) extra lost (10 * n + d)
 push_short true d h full cut small s = absurd (omega (arith, cut (search rules)))
-push_short {lead} {extra} false {n} d h full cut small s =
-    let none : extra ≡ 0 = no_extra lead extra h full in
-    let same : n ≡ lead * 10 ^ 0 = s.whole refl ∙ ap (λ k. lead * 10 ^ k) none in
-    let next : 10 * n + d ≡ (lead * 10 + d) * 10 ^ 0 = omega (arith, same) in
-    record { whole = λ _. next ∙ ap (λ k. (lead * 10 + d) * 10 ^ k) (sym none); cut = λ e. absurd (cc e) }
+push_short {lead} {extra} false {n} d h full cut small s = search (arith, no_extra)
 
 pub push_zero : {lead extra : ℕ} {lost : Bool} {n : ℕ} → StandsFor lead extra lost n
     → StandsFor lead (extra + 1) lost (10 * n + 0)
@@ -55,8 +51,7 @@ push_zero {lead} {extra} {n} s = record {
 
 pub push_lost : {lead extra : ℕ} (lost : Bool) {n : ℕ} (d : ℕ) → 10 ^ 35 ≤ lead → (lost ≡ false → 0 < d) → d < 10
     → StandsFor lead extra lost n → StandsFor lead extra true (10 * n + d)
-push_lost true d full p h s =
-    record { whole = λ e. absurd (cc e); cut = λ _. too_long_more d h (s.cut refl) }
+push_lost true d full p h s = search (arith, too_long_more)
 push_lost {lead} {extra} false {n} d full p h s =
     record { whole = λ e. absurd (cc e); cut = λ _. too_long_new n d (p refl) h (big lead extra n full (s.whole refl)) }
   where
@@ -67,8 +62,7 @@ push_lost {lead} {extra} false {n} d full p h s =
 pub stands_short : {lead extra : ℕ} (lost : Bool) {n : ℕ} → lead < 10 ^ 35 → (0 < extra → 10 ^ 35 ≤ lead)
     → (IsTrue lost → 10 ^ 35 ≤ lead) → StandsFor lead extra lost n → n ≡ lead
 stands_short true small full cut s = absurd (omega (arith, cut refl))
-stands_short {lead} {extra} false small full cut s =
-    s.whole refl ∙ ap (λ k. lead * 10 ^ k) (no_extra lead extra small full) ∙ sym (no_gap lead)
+stands_short {lead} {extra} false small full cut s = search (arith, no_extra, no_gap)
 
 pub short_stands : (lead : ℕ) → StandsFor lead 0 false lead
 short_stands lead = record { whole = λ _. no_gap lead; cut = λ e. absurd (cc e) }

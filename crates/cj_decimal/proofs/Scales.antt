@@ -23,11 +23,7 @@ units_below v u t normal same low unit =
 -- the number of units, where the power is k above theirs
 pub units_are : (v : Number) (u t : ℤ) (k : ℕ) → v.power ≡ t +ℤ pos k → SameValue v (scaled u t)
     → u ≡ v.coefficient *ℤ pos (10 ^ k)
-units_are v u t k f same =
-    let low : t ≤ℤ v.power = omega (arith, ints, f) in
-    let gap : int_gap t v.power ≡ k = omega (arith, ints, gap_is t v.power low, f) in
-    scaled_same u v.coefficient t v.power (same_sym same) low
-    ∙ ap (λ g. v.coefficient *ℤ pos (10 ^ g)) gap
+units_are v u t k f same = search (arith, ints, gap_is, scaled_same, same_sym)
 
 pub units_same : (v : Number) (u t : ℤ) (k : ℕ) → v.power ≡ t +ℤ pos k → u ≡ v.coefficient *ℤ pos (10 ^ k)
     → SameValue v (scaled u t)
@@ -51,16 +47,11 @@ scaled_large c k digits h large =
 
 -- with as many zeros as the bound has, only 0 is below it
 pub zeros_large : (c k digits : ℕ) → 0 < c → digits ≤ k → 10 ^ digits ≤ c * 10 ^ k
-zeros_large c k digits some h =
-    let more : 10 ^ k ≤ c * 10 ^ k = at_least c (10 ^ k) some in
-    omega (arith, ten_pow_le digits k h, more)
-  where
-    at_least : (c p : ℕ) → 0 < c → p ≤ c * p
-    at_least c p h = grind arith
+zeros_large c k digits some h = search (arith, ten_pow_le)
 
 pub size_of_units : (v : Number) (u t : ℤ) (k : ℕ) → v.power ≡ t +ℤ pos k → SameValue v (scaled u t)
     → unsigned_abs u ≡ unsigned_abs v.coefficient * 10 ^ k
-size_of_units v u t k f same = ap unsigned_abs (units_are v u t k f same) ∙ abs_times v.coefficient (10 ^ k)
+size_of_units v u t k f same = search (arith, units_are, abs_times)
 
 -- where the zeros alone are as many as the bound has, the number is too large
 pub far_units : {v : Number} (u : ℤ) (after_point digits k : ℕ) → IsNormal v
@@ -85,7 +76,7 @@ large_units v u t digits k f large same = omega (arith, size_of_units v u t k f 
 -- a product of that size is small, and fits
 pub product_small : (c : ℤ) (k digits : ℕ) → k ≤ digits → unsigned_abs c < 10 ^ (digits - k)
     → unsigned_abs (c *ℤ pos (10 ^ k)) < 10 ^ digits
-product_small c k digits h small = omega (arith, abs_times c (10 ^ k), scaled_small (unsigned_abs c) k digits h small)
+product_small c k digits h small = search (arith, abs_times, scaled_small)
 
 pub product_fits : (c : ℤ) (k digits : ℕ) → k ≤ digits → digits ≤ 36 → unsigned_abs c < 10 ^ (digits - k)
     → unsigned_abs (c *ℤ pos (10 ^ k)) < 10 ^ 36
@@ -98,10 +89,7 @@ power_fits k h = ten_pow_le k 36 h
 factors_cast : (c : ℤ) (k : ℕ) {power : ℕ} → k ≤ 36 → unsigned_abs c < 10 ^ 36 → power ≡ 10 ^ k
     → cast_signed w128 (cast_unsigned w128 c) *ℤ cast_signed w128 power ≡ c *ℤ pos (10 ^ k)
 factors_cast c k {power} most fits e =
-    let low : power ≤ 10 ^ 36 = omega (arith, e, power_fits k most) in
-    let second : cast_signed w128 power ≡ pos (10 ^ k) = omega (arith, ints, e) in
-    ap (λ x. x *ℤ cast_signed w128 power) (to_z-of_z w128 c (fits_signed_from_abs w128 c (omega arith)))
-    ∙ ap (λ x. c *ℤ x) second
+    search (arith, ints, power_fits, to_z-of_z, fits_signed_from_abs)
 
 pub product_cast : (c : ℤ) (k digits : ℕ) {power : ℕ} → k ≤ digits → digits ≤ 36 → unsigned_abs c < 10 ^ 36
     → unsigned_abs c < 10 ^ (digits - k) → power ≡ 10 ^ k
@@ -124,8 +112,7 @@ pub value_in_units : (r : Option ℤ) {v w : Number} (t : ℤ) {x : ℤ} (digits
     → v.power ≡ t +ℤ pos k
     → IfSome r (λ u. SameValue w (scaled u t) × (unsigned_abs u < 10 ^ digits))
 value_in_units None t digits k h same e f = search rules
-value_in_units (Some u) {v} t digits k h same e f =
-    rw (← same) (units_same v u t k f (h.0 ∙ ap (λ c. c *ℤ pos (10 ^ k)) e), h.1)
+value_in_units (Some u) {v} t digits k h same e f = search (arith, units_same)
 
 pub none_in_units : (r : Option ℤ) {v w : Number} (t : ℤ) {x : ℤ} (digits k : ℕ)
     → IfNone r (10 ^ digits ≤ unsigned_abs x * 10 ^ k) → v ≡ w → x ≡ v.coefficient → v.power ≡ t +ℤ pos k

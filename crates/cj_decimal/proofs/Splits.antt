@@ -1,9 +1,7 @@
 -- Whole numbers of units, and what is left of them.
-use Rattle.cj_decimal.proofs.Common.{◌≡◌, ◌*◌, ◌^◌, ◌<◌, ◌≤◌, ℤ, pos, negsuc, ◌+ℤ◌, ◌-ℤ◌, ◌*ℤ◌, ◌≤ℤ◌, ◌<ℤ◌, sym, ap, ◌∙◌, arith, unsigned_abs, FitsSigned, ints, to_z-of_z, fits_signed_from_abs, value_order}
-use Rattle.std.specs.Ordering.{int_cmp, MatchOrdering}
+use Rattle.cj_decimal.proofs.Common.{◌≡◌, ◌*◌, ◌^◌, ◌<◌, ◌≤◌, ℤ, pos, negsuc, ◌+ℤ◌, ◌-ℤ◌, ◌*ℤ◌, ◌≤ℤ◌, ◌<ℤ◌, ap, ◌∙◌, arith, unsigned_abs, FitsSigned, ints, to_z-of_z, fits_signed_from_abs, value_order}
+use Rattle.std.specs.Ordering.{int_cmp}
 use Rattle.std.specs.declared.cmp.Ordering.{Ordering}
-use Rattle.std.specs.declared.cmp.Ordering.TheVariants.{Less, Equal, Greater}
-use Rattle.std.specs.Cmp.{int_cmp_is, int_ranked}
 use Rattle.std.specs.Int.{int_div_euclid, int_rem_euclid, w64, w128, cast_signed, cast_unsigned}
 use Rattle.cj_decimal.specs.Affine.{units}
 use Rattle.cj_decimal.proofs.TenPowers.{times_one, times_scaled}
@@ -35,13 +33,7 @@ times_sum v x y =
 
 -- ---- how a number compares with another, by the parts of their difference
 pub order_from_difference : (x q : ℤ) {d : ℤ} {r : Ordering} → x -ℤ q ≡ d → r ≡ int_cmp d (pos 0) → r ≡ int_cmp x q
-order_from_difference x q {d} {r} e f = int_cmp_is x q r (ranked r (int_ranked d (pos 0) r f))
-  where
-    ranked : (r : Ordering) → MatchOrdering r (d <ℤ pos 0) (d ≡ pos 0) (pos 0 <ℤ d)
-        → MatchOrdering r (x <ℤ q) (x ≡ q) (q <ℤ x)
-    ranked Less h = omega (arith, ints, h)
-    ranked Equal h = omega (arith, ints, h)
-    ranked Greater h = omega (arith, ints, h)
+order_from_difference x q {d} {r} e f = search arith
 
 -- the difference of the image and q, by the parts of the scale
 pub difference : (v whole part shift q : ℤ) → v *ℤ (whole *ℤ pos (10 ^ 18) +ℤ part) +ℤ shift -ℤ q
@@ -68,20 +60,16 @@ difference_by_parts v whole part shift q carry left e =
 
 -- at one power the order of numbers is that of their coefficients
 pub units_order : (x q : ℤ) → value_order (units x) (units q) ≡ int_cmp x q
-units_order x q = ap (λ a. int_cmp a (q *ℤ pos 1)) (times_one x) ∙ ap (λ b. int_cmp x b) (times_one q)
+units_order x q = search (arith, times_one)
 
 pub scale_joined : (scale : ℤ) {whole part : ℤ} → int_div_euclid scale (pos (10 ^ 18)) ≡ whole
     → int_rem_euclid scale (pos (10 ^ 18)) ≡ part → scale ≡ whole *ℤ pos (10 ^ 18) +ℤ part
-scale_joined scale {whole} e f = sym (euclid scale)
-    ∙ ap (λ w. w *ℤ pos (10 ^ 18) +ℤ int_rem_euclid scale (pos (10 ^ 18))) e ∙ ap (λ p. whole *ℤ pos (10 ^ 18) +ℤ p) f
+scale_joined scale {whole} e f = search (arith, euclid)
 
 -- a scale below 10^18 in size has a whole part of at most that size
 pub whole_small : (scale : ℤ) {whole part : ℤ} → int_div_euclid scale (pos (10 ^ 18)) ≡ whole
     → int_rem_euclid scale (pos (10 ^ 18)) ≡ part → unsigned_abs scale < 10 ^ 36 → unsigned_abs whole ≤ 10 ^ 18
-whole_small scale {part} e f small =
-    let joined = scale_joined scale e f in
-    let bounds = rw f at (euclid_part scale) in
-    omega (arith, ints)
+whole_small scale {part} e f small = search (arith, ints, scale_joined, euclid_part)
 
 -- what the steps of the comparison amount to
 pub compare_law : (v : ℤ) {scale : ℤ} (whole part shift q : ℤ) {first rest : ℤ} (carry : ℤ) {left second sum last : ℤ}
@@ -101,10 +89,7 @@ compare_law v {scale} whole part shift q carry {left} {sum} {last} e b joined a 
 -- ---- numbers that went to bits and back
 pub product_of_casts : (v p : ℤ) {r : ℤ} → unsigned_abs v ≤ 10 ^ 18 → unsigned_abs p ≤ 10 ^ 18
     → r ≡ cast_signed w64 (cast_unsigned w64 v) *ℤ cast_signed w64 (cast_unsigned w64 p) → r ≡ v *ℤ p
-product_of_casts v p a b e =
-    e ∙ ap (λ x. x *ℤ cast_signed w64 (cast_unsigned w64 p))
-    (to_z-of_z w64 v (fits_signed_from_abs w64 v (omega arith)))
-    ∙ ap (λ y. v *ℤ y) (to_z-of_z w64 p (fits_signed_from_abs w64 p (omega arith)))
+product_of_casts v p a b e = search (arith, to_z-of_z, fits_signed_from_abs)
 
 pub part_small : (scale : ℤ) {part : ℤ} → int_rem_euclid scale (pos (10 ^ 18)) ≡ part → unsigned_abs part ≤ 10 ^ 18
 part_small scale {part} f =
@@ -115,9 +100,7 @@ pub split_cast : (z : ℤ) {w : ℤ} → FitsSigned w128 z
     → w ≡ int_div_euclid (cast_signed w128 (cast_unsigned w128 z)) (pos (10 ^ 18))
     → (w *ℤ pos (10 ^ 18) +ℤ int_rem_euclid z (pos (10 ^ 18)) ≡ z) × (pos 0 ≤ℤ int_rem_euclid z (pos (10 ^ 18)))
     × (int_rem_euclid z (pos (10 ^ 18)) <ℤ pos (10 ^ 18))
-split_cast z {w} fits e =
-    let same = e ∙ ap (λ x. int_div_euclid x (pos (10 ^ 18))) (to_z-of_z w128 z fits) in
-    let part = euclid_part z in (rw same (euclid z), part.0, part.1)
+split_cast z {w} fits e = search (arith, to_z-of_z, euclid_part, euclid)
 
 pub rest_cast : (p s : ℤ) {u q : ℤ} → unsigned_abs p ≤ 10 ^ 36 → unsigned_abs s < 10 ^ 36 → unsigned_abs u < 10 ^ 36
     → u ≡ q

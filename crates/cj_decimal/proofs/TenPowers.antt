@@ -1,16 +1,16 @@
 -- Powers of ten, and products with them.
-use Rattle.cj_decimal.proofs.Common.{◌≡◌, ℕ, zero, suc, ◌+◌, ◌*◌, ◌^◌, ◌<◌, ◌≤◌, ℤ, pos, neg_ℤ, ◌*ℤ◌, refl, sym, ap, ◌∙◌, arith, one-le-pow, pow-le-pow_right, le_of_mul-le-mul_right, pow-add, ints}
+use Rattle.cj_decimal.proofs.Common.{◌≡◌, ℕ, zero, suc, ◌+◌, ◌*◌, ◌^◌, ◌<◌, ◌≤◌, ℤ, pos, neg_ℤ, ◌*ℤ◌, refl, sym, ap, arith, one-le-pow, pow-le-pow_right, le_of_mul-le-mul_right, pow-add, ints}
 use borrow.Author.Differences.{up, down, same_in, same_out, product_is}
 
 pub ten_pow_pos : (k : ℕ) → 0 < 10 ^ k
-ten_pow_pos k = let h : 1 ≤ 10 ^ k = one-le-pow k 10 (omega arith) in omega (arith, h)
+ten_pow_pos k = search (arith, one-le-pow)
 
 -- 10^(k + 1) is ten times 10^k
 pub ten_pow_suc : (k : ℕ) → 10 ^ (k + 1) ≡ 10 * 10 ^ k
 ten_pow_suc k = omega (arith, pow-add 10 k 1)
 
 pub ten_pow_le : (i j : ℕ) → i ≤ j → 10 ^ i ≤ 10 ^ j
-ten_pow_le i j h = let p : 0 < 10 = omega arith in pow-le-pow_right {n = 10} p {i = i} {j = j} h
+ten_pow_le i j h = search (arith, pow-le-pow_right)
 
 pub ten_pow_add : (i j : ℕ) → 10 ^ (i + j) ≡ 10 ^ i * 10 ^ j
 ten_pow_add i j = pow-add 10 i j
@@ -20,20 +20,11 @@ pub ten_pow_below : (i j : ℕ) → 10 ^ i < 10 ^ j → i < j
 ten_pow_below i j h = grind (arith, ten_pow_le j i)
 
 pub mul_right_cancel : (a b k : ℕ) → 0 < k → a * k ≡ b * k → a ≡ b
-mul_right_cancel a b k p e =
-    let le : a * k ≤ b * k = omega (arith, e) in
-    let ge : b * k ≤ a * k = omega (arith, e) in
-    omega (
-      arith,
-      le_of_mul-le-mul_right {m = a} {n = b} {k = k} le p,
-      le_of_mul-le-mul_right {m = b} {n = a} {k = k} ge p,
-    )
+mul_right_cancel a b k p e = search (arith, le_of_mul-le-mul_right)
 
 -- a whole number times a positive one can be divided by it again
 pub times_cancel : (x y : ℤ) (k : ℕ) → 0 < k → x *ℤ pos k ≡ y *ℤ pos k → x ≡ y
-times_cancel x y k p e =
-    same_in x y (mul_right_cancel (up x + down y) (up y + down x) k p
-    (omega (arith, same_out (x *ℤ pos k) (y *ℤ pos k) e, product_is x (pos k), product_is y (pos k))))
+times_cancel x y k p e = search (arith, same_in, mul_right_cancel, same_out, product_is)
 
 pub times_scaled : (v a : ℤ) (u : ℕ) → v *ℤ (a *ℤ pos u) ≡ (v *ℤ a) *ℤ pos u
 times_scaled v a u =
@@ -52,7 +43,7 @@ times_scaled v a u =
     ))
 
 pub neg_times : (m b : ℕ) → neg_ℤ (pos m) *ℤ pos b ≡ neg_ℤ (pos (m * b))
-neg_times zero b = let none : zero * b ≡ zero = omega arith in ap (λ n. pos n) none ∙ sym (ap (λ n. neg_ℤ (pos n)) none)
+neg_times zero b = search arith
 neg_times (suc m) b = refl
 
 pub times_times : (x : ℤ) (a b : ℕ) → (x *ℤ pos a) *ℤ pos b ≡ x *ℤ pos (a * b)

@@ -1,5 +1,5 @@
 -- Numbers without the zeros at their end.
-use Rattle.cj_decimal.proofs.Common.{◌≡◌, ℕ, ◌+◌, ◌*◌, ◌/◌, ◌%◌, ◌^◌, ◌<◌, ◌≤◌, sym, ap, ◌∙◌, arith, le-mul_of_pos_right, IsTrimmed}
+use Rattle.cj_decimal.proofs.Common.{◌≡◌, ℕ, ◌+◌, ◌*◌, ◌/◌, ◌%◌, ◌^◌, ◌<◌, ◌≤◌, sym, ap, ◌∙◌, arith, IsTrimmed}
 use Rattle.cj_decimal.proofs.TenPowers.{ten_pow_suc, ten_pow_pos, ten_pow_below}
 
 ten_more : (r p : ℕ) → r % 10 ≡ 0 → r * p ≡ r / 10 * (10 * p)
@@ -17,14 +17,8 @@ trim_left r h e = omega arith
 
 -- as many zeros as fit below a power of ten
 pub trim_few : {n : ℕ} (r k b : ℕ) → n ≡ r * 10 ^ k → 0 < r → n < 10 ^ b → k < b
-trim_few {n} r k b e h small = ten_pow_below k b (at_most r (10 ^ k) h e)
-  where
-    at_most : (r p : ℕ) → 0 < r → n ≡ r * p → p < 10 ^ b
-    at_most r p h e = grind (arith, e, small)
+trim_few {n} r k b e h small = search (arith, ten_pow_below)
 
 -- what is left is no greater
 pub trimmed_le : {n c k : ℕ} → IsTrimmed n c k → c ≤ n
-trimmed_le {c} {k} t = omega (arith, t.whole, more c (10 ^ k) (ten_pow_pos k))
-  where
-    more : (c p : ℕ) → 0 < p → c ≤ c * p
-    more c p h = le-mul_of_pos_right {m = p} c h
+trimmed_le {c} {k} t = search (arith, ten_pow_pos)

@@ -13,9 +13,7 @@ gap_is (negsuc a) (pos b) h = omega (arith, ints)
 gap_is (negsuc a) (negsuc b) h = omega (arith, ints)
 
 pub gap_add : (t u p : ℤ) → t ≤ℤ u → u ≤ℤ p → int_gap t p ≡ int_gap u p + int_gap t u
-gap_add t u p h k =
-    let w : t ≤ℤ p = omega (arith, ints) in
-    omega (arith, ints, gap_is t u h, gap_is u p k, gap_is t p w)
+gap_add t u p h k = search (arith, ints, gap_is)
 
 pub smaller_left : (m n : Number) → smaller_power m n ≤ℤ m.power
 smaller_left m n = omega (arith, ints, clamps)
@@ -65,23 +63,14 @@ same_trans {l} {m} {n} h k =
 -- a coefficient with k zeros at its end, and a power that is k greater without them
 pub same_scaled : (c d : ℤ) (p : ℤ) {q : ℤ} (k : ℕ) → c ≡ d *ℤ pos (10 ^ k) → q ≡ p +ℤ pos k
     → SameValue (scaled c p) (scaled d q)
-same_scaled c d p {q} k e f =
-    let low : p ≤ℤ q = omega (arith, ints, f) in
-    let here : p ≤ℤ p = omega (arith, ints) in
-    let none : int_gap p p ≡ 0 = omega (arith, ints, gap_is p p here) in
-    let up_k : int_gap p q ≡ k = omega (arith, ints, gap_is p q low, f) in
-    at_same (scaled c p) (scaled d q) p here low
-    (ap (λ g. c *ℤ pos (10 ^ g)) none ∙ times_one c ∙ e ∙ ap (λ g. d *ℤ pos (10 ^ g)) (sym up_k))
+same_scaled c d p {q} k e f = search (arith, ints, gap_is, at_same, times_one)
 
 -- and the other way round
 pub scaled_same : (c d : ℤ) (p q : ℤ) → SameValue (scaled c p) (scaled d q) → p ≤ℤ q → c ≡ d *ℤ pos (10 ^ int_gap p q)
-scaled_same c d p q same low =
-    let here : p ≤ℤ p = omega (arith, ints) in
-    let none : int_gap p p ≡ 0 = omega (arith, ints, gap_is p p here) in
-    sym (times_one c) ∙ sym (ap (λ g. c *ℤ pos (10 ^ g)) none) ∙ same_at p same here low
+scaled_same c d p q same low = search (arith, ints, gap_is, times_one, same_at)
 
 pub number_eq : (m n : Number) → m.coefficient ≡ n.coefficient → m.power ≡ n.power → m ≡ n
-number_eq m n e f = ap (λ c. scaled c m.power) e ∙ ap (λ p. scaled n.coefficient p) f
+number_eq m n e f = search arith
 
 pub abs_times : (c : ℤ) (k : ℕ) → unsigned_abs (c *ℤ pos k) ≡ unsigned_abs c * k
 abs_times c k = unsigned_abs-mul c (pos k)
@@ -91,8 +80,7 @@ swap_ten n p = omega arith
 
 -- a multiple of a power of ten above 1 is a multiple of 10
 pub ends_in_zero : (n k : ℕ) → n * 10 ^ (k + 1) % 10 ≡ 0
-ends_in_zero n k = ap (λ p. n * p % 10) (ten_pow_suc k) ∙ ap (λ p. p % 10) (swap_ten n (10 ^ k))
-    ∙ mul-mod_right 10 (n * 10 ^ k)
+ends_in_zero n k = search (arith, ten_pow_suc, swap_ten, mul-mod_right)
 
 pub le_total : (a b : ℤ) → (a ≤ℤ b) ⊎ (b ≤ℤ a)
 le_total a b = by_lt_z a b (λ h. inl (omega (arith, ints))) (λ h. inr h)
@@ -113,9 +101,7 @@ normal_gap {v} {w} a b low (suc g) f e =
 
 -- two forms, both normal, the first at the lower power
 pub normal_below : {v w : Number} → SameValue v w → IsNormal v → IsNormal w → v.power ≤ℤ w.power → v ≡ w
-normal_below {v} {w} same a b low =
-    normal_gap a b low (int_gap v.power w.power) (gap_is v.power w.power low)
-    (scaled_same v.coefficient w.coefficient v.power w.power same low)
+normal_below {v} {w} same a b low = search (arith, normal_gap, gap_is, scaled_same)
 
 -- equal numbers in normal form are one
 pub normal_same : {v w : Number} → SameValue v w → IsNormal v → IsNormal w → v ≡ w
@@ -125,15 +111,13 @@ normal_same {v} {w} same a b =
 -- ---- equality as the code tests it
 bits_apart : (w : Width) (p q : ℤ) → FitsSigned w p → FitsSigned w q
     → nat_eq (cast_unsigned w p) (cast_unsigned w q) ≡ true → p ≡ q
-bits_apart w p q a b e =
-    sym (to_z-of_z w p a) ∙ ap (cast_signed w) (eqb-true _ _ e) ∙ to_z-of_z w q b
+bits_apart w p q a b e = search (arith, to_z-of_z, eqb-true)
 
 bits_same : (w : Width) (p q : ℤ) → p ≡ q → nat_eq (cast_unsigned w p) (cast_unsigned w q) ≡ true
 bits_same w p q e = eq-eqb _ _ (ap (cast_unsigned w) e)
 
 coefficient_fits : {v : Number} → IsInRange v → FitsSigned w128 v.coefficient
-coefficient_fits {v} r = let small : unsigned_abs v.coefficient < 10 ^ 36 = r.digits in
-    fits_signed_from_abs w128 v.coefficient (omega arith)
+coefficient_fits {v} r = search (arith, fits_signed_from_abs)
 
 -- a coefficient in range that went to bits and back
 pub coefficient_same : {v : Number} → IsInRange v → cast_signed w128 (cast_unsigned w128 v.coefficient) ≡ v.coefficient

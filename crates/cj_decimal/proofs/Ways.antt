@@ -1,5 +1,5 @@
 -- The way through the digits of a spelling.
-use Rattle.cj_decimal.proofs.Common.{◌≡◌, ℕ, ◌+◌, ◌-◌, ◌*◌, ◌<◌, ◌≤◌, List, [], ◌∷◌, length, drop, drop_all, drop_more, get_or, Bool, true, false, cond-true, cond-false, refl, sym, ap, ◌∙◌, arith, inl, inr, cases_lt, nat_tests, is_ascii_digit, begins_digit, digits_front, digits_rest, value_after, Passes, Carries, Stops}
+use Rattle.cj_decimal.proofs.Common.{◌≡◌, ℕ, ◌+◌, ◌-◌, ◌*◌, ◌<◌, ◌≤◌, List, [], ◌∷◌, length, drop, drop_all, drop_more, get_or, Bool, true, false, cond-true, cond-false, refl, sym, ap, ◌∙◌, arith, cases_lt, nat_tests, is_ascii_digit, begins_digit, digits_front, digits_rest, value_after, Passes, Carries, Stops}
 
 pub front_digit : (b : ℕ) (s : List ℕ) → is_ascii_digit b ≡ true → digits_front (b ∷ s) ≡ b ∷ digits_front s
 unfolding digits_front
@@ -30,26 +30,21 @@ digit_bounds b h = (grind (arith, nat_tests), grind (arith, nat_tests))
 
 front_step : (s : List ℕ) (at : ℕ) → at < length s → is_ascii_digit (get_or s at 0) ≡ true
     → digits_front (drop at s) ≡ get_or s at 0 ∷ digits_front (drop (at + 1) s)
-front_step s at h d = ap digits_front (drop_more s at 0 h) ∙ front_digit (get_or s at 0) (drop (at + 1) s) d
+front_step s at h d = search (arith, drop_more, front_digit)
 
 pub passes_refl : (s : List ℕ) (from : ℕ) → from ≤ length s → Passes s from from
-passes_refl s from h = record { order = omega arith; within = h; rest = refl; count = refl }
+passes_refl s from h = search arith
 
 pub passes_step : (s : List ℕ) (from at : ℕ) → Passes s from at → at < length s → is_ascii_digit (get_or s at 0) ≡ true
     → Passes s from (at + 1)
-passes_step s from at c h d = record {
-  order = omega (arith, c.order);
-  within = omega arith;
-  rest = sym (ap digits_rest (drop_more s at 0 h) ∙ rest_digit (get_or s at 0) (drop (at + 1) s) d) ∙ c.rest;
-  count = omega (arith, c.count, ap length (front_step s at h d));
-}
+passes_step s from at c h d = search (arith, drop_more, rest_digit, front_step)
 
 pub carries_refl : (s : List ℕ) (from n : ℕ) → Carries s from n from n
 carries_refl s from n = record { value = refl }
 
 pub carries_step : (s : List ℕ) (from n at m : ℕ) → Carries s from n at m → at < length s
     → is_ascii_digit (get_or s at 0) ≡ true → Carries s from n (at + 1) (10 * m + (get_or s at 0 - 48))
-carries_step s from n at m c h d = record { value = sym (ap (value_after m) (front_step s at h d)) ∙ c.value }
+carries_step s from n at m c h d = search (arith, front_step)
 
 -- the first byte there, if there is one, is a digit
 pub digit_at : (s : List ℕ) (at : ℕ) → at < length s → begins_digit (drop at s) ≡ is_ascii_digit (get_or s at 0)
@@ -69,13 +64,7 @@ pub record IsDigitThere (s : List ℕ) (at : ℕ) : Type 0 where
 
 pub is_digit_at : (s : List ℕ) (at : ℕ) {test : Bool} → test ≡ begins_digit (drop at s) → test ≡ true
     → IsDigitThere s at
-is_digit_at s at e t = elim (cases_lt at (length s)) [
-  | inl within ↦
-      let digit = sym (digit_at s at within) ∙ sym e ∙ t in
-      let bounds = digit_bounds (get_or s at 0) digit in
-      record { within = within; digit = digit; low = bounds.0; high = bounds.1 }
-  | inr past ↦ absurd (cc (no_digit_past s at past, e, t))
-]
+is_digit_at s at e t = search (arith, cases_lt, digit_at, digit_bounds, no_digit_past)
 
 -- where no digit follows, the digits stop
 pub front_of_stop : (t : List ℕ) → begins_digit t ≡ false → (digits_front t ≡ []) × (digits_rest t ≡ t)
@@ -84,12 +73,7 @@ front_of_stop [] h = (front_end, rest_end)
 front_of_stop (b ∷ t) h = (front_other b t h, rest_other b t h)
 
 pub stops_here : (s : List ℕ) (from at : ℕ) → Passes s from at → begins_digit (drop at s) ≡ false → Stops s from at
-stops_here s from at c h = let stop = front_of_stop (drop at s) h in record {
-  order = c.order;
-  within = c.within;
-  rest = sym stop.1 ∙ c.rest;
-  count = omega (arith, c.count, ap length stop.0);
-}
+stops_here s from at c h = search (arith, front_of_stop)
 
 pub stops_at_other : (s : List ℕ) (from at : ℕ) → Passes s from at → at < length s
     → is_ascii_digit (get_or s at 0) ≡ false → Stops s from at
@@ -108,9 +92,4 @@ pub carried_at_end : (s : List ℕ) (from n at m : ℕ) → Carries s from n at 
 carried_at_end s from n at m c h = carried_here s from n at m c (no_digit_past s at h)
 
 pub stops_after : (s : List ℕ) (from at stop : ℕ) → Passes s from at → Stops s at stop → Stops s from stop
-stops_after s from at stop c r = record {
-  order = omega (arith, c.order, r.order);
-  within = r.within;
-  rest = r.rest ∙ c.rest;
-  count = r.count ∙ c.count;
-}
+stops_after s from at stop c r = search arith

@@ -1,5 +1,5 @@
 -- What reading a whole number answers.
-use Rattle.cj_decimal.proofs.Common.{◌≡◌, ℕ, ◌*◌, ◌^◌, ◌<◌, ◌≤◌, ◌++◌, List, [], ◌∷◌, length, drop, drop_more, get_or, Bool, true, false, false≢true, Option, Some, None, Result, Ok, Err, ℤ, pos, negsuc, inl, inr, cases_Bool, refl, sym, ap, ◌∙◌, arith, rules, IfOk, IfSome, IsSome, unsigned_abs, is_ascii_digit, le-mul_of_pos_right, ints, Number, signed, IsNormal, IsInRange, IsWhole, SpellsNumber, IsValue, IsNumberOutOfRange, IsInt, IsFewDigits, IsFewSigned, digits_value, digits_front, digits_rest, is_int, begins, body, Class, no_number, out_of_range, not_whole, whole, whole_answer, Passes, IsShort, NotANumber, NumberRange}
+use Rattle.cj_decimal.proofs.Common.{◌≡◌, ℕ, ◌*◌, ◌^◌, ◌<◌, ◌≤◌, ◌++◌, List, [], ◌∷◌, length, drop_more, get_or, Bool, true, false, false≢true, Option, Some, None, Result, Ok, Err, ℤ, pos, negsuc, inl, inr, cases_Bool, refl, sym, ap, ◌∙◌, arith, rules, IfOk, IfSome, IsSome, unsigned_abs, is_ascii_digit, le-mul_of_pos_right, ints, Number, signed, IsNormal, IsInRange, IsWhole, SpellsNumber, IsValue, IsNumberOutOfRange, IsInt, IsFewDigits, IsFewSigned, digits_value, digits_front, digits_rest, is_int, begins, body, Class, no_number, out_of_range, not_whole, whole, whole_answer, Passes, IsShort, NotANumber, NumberRange}
 use Rattle.cj_decimal.specs.declared.decimal.DecimalFault.{DecimalFault}
 use Rattle.cj_decimal.proofs.TenPowers.{ten_pow_pos}
 use Rattle.cj_decimal.proofs.Values.{same_sym}
@@ -47,10 +47,7 @@ int_alone_reads s int =
     let all = int_digits s int in (ap is_int (front_alone s all) ∙ int_test s int, rest_alone s all)
 
 pub int_short : (s : List ℕ) {n : ℕ} → IsInt s → n ≡ digits_value s → n < 10 ^ 18 → IsShort s n
-int_short s int value small =
-    let tests = int_alone_reads s int in
-    let front = front_alone s (int_digits s int) in
-    record { int = tests.0; rest = tests.1; value = value ∙ ap digits_value (sym front); small = small }
+int_short s int value small = search (arith, int_alone_reads, front_alone, int_digits)
 
 pub int_alone_read : (s : List ℕ) → is_int (digits_front s) ≡ true → digits_rest s ≡ [] → IsInt s
 int_alone_read s int rest = rw (front_is_all s rest) at (int_from_test (digits_front s) (front_all s) int)
@@ -58,8 +55,7 @@ int_alone_read s int rest = rw (front_is_all s rest) at (int_from_test (digits_f
 pub no_int_past_other : (s : List ℕ) (at : ℕ) → Passes s 0 at → at < length s → is_ascii_digit (get_or s at 0) ≡ false
     → ¬ IsInt s
 no_int_past_other s at passes here other int =
-    let none = (stops_at_other s 0 at passes here other).rest ∙ (int_alone_reads s int).1 in
-    absurd (cc (sym (drop_more s at 0 here) ∙ none))
+    search (arith, stops_at_other, int_alone_reads, drop_more)
 
 -- a whole number below 10^18 is in range
 whole_in_range : {v : Number} {w : ℤ} → IsNormal v → IsWhole v w → IsInRange v
@@ -120,10 +116,7 @@ answer_of_few s (Some n) short = λ c. answer_digits s n c short
 
 -- few digits after the sign, if there is one
 pub signed_from_body : (s : List ℕ) → IsFewDigits (body s) → IsFewSigned s
-signed_from_body s few = elim (cases_Bool (begins 45 s)) [
-  | inl e ↦ inr (drop 1 s, begins_is 45 s e, rw (minus_there s e) at few)
-  | inr e ↦ inl (rw (no_minus s e) at few)
-]
+signed_from_body s few = search (arith, cases_Bool, begins_is, minus_there, no_minus)
 
 pub body_of_signed : (s : List ℕ) → IsFewSigned s → IsFewDigits (body s)
 body_of_signed s (inl few) =

@@ -20,8 +20,7 @@ row {s} v test same last = record {
 
 zero_row : {s : List ℕ} → is_number s ≡ true → SameValue (number_of (written_of s)) (scaled (pos 0) (pos 0))
     → IsValue s (scaled (pos 0) (pos 0))
-zero_row {s} test same =
-    record { written = written_of s; spells = test_spells s test; same = same; normal = zero_normal }
+zero_row {s} test same = search (arith, test_spells, zero_normal)
 
 near : {s : List ℕ} (v : Number) → IsValue s v → is_in_range v ≡ true → IsNumberInRange s
 near v value range = (v, value, test_in_range v range)
@@ -63,13 +62,7 @@ no_number_rows = record {
 }
 
 unit_rows : UnitRows
-unit_rows = record {
-  twelve = record { same = record { coefficients = refl }; small = omega arith };
-  hundred = record { same = record { coefficients = refl }; small = omega arith };
-  greatest_whole = record { same = record { coefficients = refl }; small = omega arith };
-  thousandth = record { same = record { coefficients = refl }; small = omega arith };
-  least_fixed = record { same = record { coefficients = refl }; small = omega arith };
-}
+unit_rows = search arith
 
 pub worked_rows : WorkedRows
 worked_rows = (read_rows, no_number_rows, unit_rows)
