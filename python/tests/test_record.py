@@ -7,6 +7,8 @@ import unittest
 
 import cityseq
 from cityseq.cli.record import Record
+from cityseq.sources.parts import MANIFEST, ListedPart, manifest_of
+from cityseq.sources.regular import digest_of
 
 from .support import HEADER, PLAIN, command, feature
 from .test_json import COMMON, TABLES, Documented, fits_the_schema
@@ -33,8 +35,8 @@ class Checked(Documented):
             fits_the_schema(told)
         return lines
 
-    def run_again(self, *words):
-        return command("check", "--record", self.record, "--resume", *words)
+    def run_again(self, *words, given=b""):
+        return command("check", "--record", self.record, "--resume", *words, given=given)
 
     def test_what_is_recorded(self):
         _, _, status = command("check", "--record", self.record, *self.paths, self.folder / "none")
@@ -133,6 +135,30 @@ class Checked(Documented):
                 self.assertEqual((status, said), (2, f"{name}: a record is a regular file\n"))
         said, status = command("check", "--record", "-", self.paths[0])[1:]
         self.assertEqual((status, os.path.exists("-")), (2, False), said)
+
+    def test_a_pipe_is_read_once(self):
+        """Its bytes are not shared out between the judgement and a hash, and it is judged each
+        time."""
+        given = GOOD + PLAIN * 20_000
+        wanted = f"valid lines={given.count(10)} features={given.count(10) - 1}\n".encode()
+        for _ in range(2):
+            self.assertEqual(self.run_again("/dev/stdin", given=given), (wanted, "", 0))
+        told, _, status = command("check", "--json", "--sha256", "/dev/stdin", given=given)
+        self.assertEqual((json.loads(told)["verdict"], status), ("valid", 0))
+        for line in [json.loads(told), *self.recorded()]:
+            self.assertEqual((line["size"], line["sha256"]), (None, None))
+
+    def test_a_folder_is_judged_each_time(self):
+        """Its own time does not show whether one of its parts has changed."""
+        (self.folder / "parts").mkdir()
+        digest = digest_of(self.file(GOOD, "parts/part-0")).content
+        part = ListedPart("part-0", 3, 2, len(GOOD), digest)
+        (self.folder / "parts" / MANIFEST).write_bytes(manifest_of([part], "1"))
+        for _ in range(2):
+            said = self.run_again(self.folder / "parts")
+            self.assertEqual(said, (b"valid lines=3 features=2\n", "", 0))
+        self.file(GOOD + PLAIN, "parts/part-0")
+        self.assertEqual(self.run_again(self.folder / "parts")[2], 3)
 
     def test_it_is_read_only_to_resume(self):
         """A long record costs nothing to append to."""
@@ -233,6 +259,24 @@ class Filtered(Documented):
         self.paths[0].write_bytes(GOOD + PLAIN)
         self.assertEqual(self.skipped(), ["b"])
         self.assertEqual((self.output / "a.jsonl").read_bytes(), GOOD + PLAIN)
+
+    def test_another_folder(self):
+        """A whole output somewhere else is not the one that is asked for."""
+        self.assertEqual(self.skipped(), [])
+        first, self.output = self.output, self.folder / "other"
+        self.assertEqual(self.skipped(), [])
+        for name in ("a.jsonl", "b.jsonl.gz"):
+            self.assertEqual((self.output / name).read_bytes(), (first / name).read_bytes())
+        self.assertEqual(self.skipped(), ["a", "b"])
+        self.assertEqual(self.skipped("--keep-folders"), [])
+
+    def test_a_record_that_is_an_output(self):
+        """It would be replaced, and all its lines be lost."""
+        os.symlink("out/a.jsonl", self.folder / "link")
+        for name in ("out/a.jsonl", "out/b.jsonl.gz", "out/c.jsonl.part", "link"):
+            self.record = self.folder / name
+            self.assertEqual(self.skipped(), [])
+            self.assertFalse(self.record.exists() or self.output.exists(), name)
 
     def test_invalid_lines_that_are_left_out(self):
         self.assertEqual(self.skipped("--keep-going"), [])

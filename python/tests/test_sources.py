@@ -1,6 +1,7 @@
 """Where streams come from and go to, and what is said of those that cannot be read or asked for."""
 import gzip
 import io
+import mmap
 import os
 import socket
 import subprocess
@@ -22,6 +23,12 @@ from .support import HEADER, PLAIN, InFolder, command, feature, numbered
 
 GOOD = HEADER + feature("a") + feature("b", "Road")
 BROKEN = HEADER + feature("a") + feature("b", last=4) + feature("c")
+
+
+def closed_map(path):
+    """A mapped file that is closed."""
+    with open(path, "rb") as file, mmap.mmap(file.fileno(), 0, access=mmap.ACCESS_READ) as mapped:
+        return mapped
 
 
 class Sources(InFolder):
@@ -255,6 +262,8 @@ class Sources(InFolder):
                 (text, cityseq.ReadFault),
                 (3, cityseq.RequestError),
                 (None, cityseq.RequestError),
+                (closed_map(self.file(GOOD)), cityseq.ReadFault),
+                (self.folder / "a\ud800", cityseq.ReadFault),
             ):
                 with self.subTest(source=source), self.assertRaises(kind):
                     cityseq.check(source)
@@ -267,6 +276,8 @@ class Sources(InFolder):
             (io.StringIO(), cityseq.RequestError),
             (3, cityseq.RequestError),
             (path, cityseq.RequestError),
+            ("a\0b", cityseq.RequestError),
+            ("a\ud800", cityseq.RequestError),
         ):
             with self.subTest(output=output), self.assertRaises(kind):
                 cityseq.filter(path, output)

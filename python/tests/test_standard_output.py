@@ -1,5 +1,6 @@
 """Standard output that does not block, or is full: all is written, or the status is 4."""
 import fcntl
+import io
 import itertools
 import json
 import os
@@ -124,6 +125,24 @@ class Unblocked(InFolder):
         kept = Kept()
         write_all(kept, b"abc")
         self.assertEqual(kept.texts, [b"abc"])
+
+    def test_a_file_that_returns_what_is_no_count(self):
+        """It gets all once, or the call ends. No line is written again for ever."""
+        for returned, is_taken in ((True, True), (1.0, True), (0, False), (-1, False), (9, False)):
+            kept = io.BytesIO()
+
+            class Kept:
+                def write(self, text):
+                    kept.write(text)
+                    return returned
+
+            with self.subTest(returned=returned):
+                if is_taken:
+                    write_all(Kept(), b"abc")
+                else:
+                    with self.assertRaises(OSError):
+                        write_all(Kept(), b"abc")
+                self.assertEqual(kept.getvalue(), b"abc")
 
     def test_kept_lines_come_at_once_where_nothing_is_buffered(self):
         ran = subprocess.Popen(

@@ -11,14 +11,14 @@ from contextlib import suppress
 from typing import Any
 
 from ..engine import RequestError, write_fault
-from ..sources import is_path, write_all
+from ..sources import UNFINISHED, is_path, write_all
 from ..sources.regular import state_now
 from .options import Check, Filter
 
 Object = dict[str, Any]
 LONGEST = 1 << 20  # bytes of a line that is read
 BEGINNING = b'{"kind": "record", '  # of each line
-SAME = ("cityseq", "command", "options", "ids_sha256", "size", "mtime_ns")
+SAME = ("cityseq", "command", "options", "ids_sha256", "size", "mtime_ns", "output")
 
 
 def _object_of(line: bytes) -> Object | None:
@@ -59,8 +59,9 @@ class Record:
                     self._found[found["file"]] = found
 
     def find(self, path: str, state: Object) -> Object | None:
-        """Returns the result that the record has for a file, or None. The file must be unchanged,
-        and the program and the options the same. An output must be whole. A fault does not count.
+        """Returns the result that the record has for a file, or None. The file must be regular and
+        unchanged, and the program, the options and the output the same. An output must be whole. A
+        fault does not count.
 
         Args:
             path: The path of the file.
@@ -68,6 +69,8 @@ class Record:
         """
         found = self._found.get(os.path.abspath(path))
         if found is None or found.get("verdict") not in ("valid", "invalid"):
+            return None
+        if state["size"] is None:
             return None
         is_same = all(found.get(name) == state.get(name) for name in SAME)
         return found if is_same and _is_output_whole(found) else None
@@ -138,8 +141,10 @@ def output_state(output: str | None) -> Object:
     return {"output": path, "output_size": state["size"], "output_mtime_ns": state["mtime_ns"]}
 
 
-def refuse_unrecorded(request: Check | Filter, files: Iterable[str]) -> None:
-    """Refuses to record standard input, and to resume without a record."""
+def refuse_unrecorded(
+    request: Check | Filter, files: Iterable[str], outputs: Iterable[str]
+) -> None:
+    """Refuses to record standard input or to an output, and to resume without a record."""
     if request.resume and request.record is None:
         raise RequestError("--resume is for a --record")
     if isinstance(request, Filter) and request.record is not None and request.output_dir is None:
@@ -148,3 +153,11 @@ def refuse_unrecorded(request: Check | Filter, files: Iterable[str]) -> None:
         raise RequestError("a record is a file: name it by --record")
     if request.record is not None and not all(map(is_path, files)):
         raise RequestError("what is recorded are files: standard input has no name")
+    if request.record is not None and os.path.realpath(request.record) in _written(outputs):
+        raise RequestError("the record is an output: give it another name", None, request.record)
+
+
+def _written(outputs: Iterable[str]) -> set[str]:
+    """Returns the files that are written for outputs, also for one that is not whole."""
+    paths = [os.path.realpath(output) for output in outputs]
+    return {*paths, *(path + UNFINISHED for path in paths)}

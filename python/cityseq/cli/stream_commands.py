@@ -175,8 +175,8 @@ class Run:
         if not self._request.resume:
             return list(files), 0
         rest, worst = [], 0
-        for file in files:
-            recorded = self._record.find(file, self._state_of(file))
+        for file, output in zip(files, _outputs_of(self._request, files)):
+            recorded = self._record.find(file, self._state_of(file, output))
             if recorded is None:
                 rest.append(file)
             else:
@@ -184,12 +184,13 @@ class Run:
                 self._printer.skipped(file, recorded)
         return rest, worst
 
-    def _state_of(self, file: str) -> dict[str, Any]:
+    def _state_of(self, file: str, output: str | None) -> dict[str, Any]:
         """Returns what must be the same for a file to be skipped."""
         from ..sources.regular import state_now
 
         return {
             **state_now(file),
+            "output": None if output is None else os.path.abspath(output),
             "command": self._request.command,
             "cityseq": __version__,
             "options": self._request.options,
@@ -269,6 +270,15 @@ class Run:
         self._printer.close()
 
 
+def _outputs_of(request: Request, files: Sequence[str]) -> list[str | None]:
+    """Returns the output of each file. Only `filter` has outputs."""
+    if not isinstance(request, Filter):
+        return [None] * len(files)
+    from .filter_outputs import targets_of  # `check` and `info` do without
+
+    return [*targets_of(request, files)]
+
+
 def _writers(request: Request, files: Sequence[str], see: Any) -> list[Writer | None]:
     """Returns the writer of each file's output. Only `filter` has outputs."""
     if not isinstance(request, Filter):
@@ -313,7 +323,7 @@ def _checked_outputs(request: Request, files: Sequence[str]) -> list[str]:
             raise RequestError("with --limit an output depends on other files: leave --record out")
         from .record import refuse_unrecorded
 
-        refuse_unrecorded(request, files)
+        refuse_unrecorded(request, files, outputs)
     return outputs
 
 

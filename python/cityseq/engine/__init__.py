@@ -62,7 +62,7 @@ class CityseqError(Exception):
         self.words, self.result, self.file = words, result, file
 
     def __str__(self) -> str:
-        return self.words if self.file is None else f"{self.file}: {self.words}"
+        return shown(self.words if self.file is None else f"{self.file}: {self.words}")
 
     def __reduce__(self) -> Any:
         return type(self), (self.words, self.result, self.file), {"__cause__": self.__cause__}

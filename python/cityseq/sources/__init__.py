@@ -75,7 +75,7 @@ def bytes_of(source: Any) -> memoryview | None:
         return None
     try:
         return memoryview(source).cast("B")
-    except TypeError:
+    except (TypeError, ValueError):  # such as a mapped file that is closed
         return None
 
 
@@ -387,7 +387,8 @@ def _write_some(file: Any, text: memoryview) -> int:
     """Writes some of a text, and returns how many bytes the file took. Waits if it took none.
 
     A raw file that does not block returns None if it takes nothing, and a buffered one raises
-    `BlockingIOError`. Any other file that returns None has taken all."""
+    `BlockingIOError`. Any other file that returns no number has taken all. Raises `OSError` if the
+    number cannot be: with it, lines would be written again for ever."""
     try:
         written = file.write(text)
     except BlockingIOError as fault:
@@ -396,7 +397,11 @@ def _write_some(file: Any, text: memoryview) -> int:
     if written is None and isinstance(file, io.RawIOBase):
         wait_for(file)
         return 0
-    return written if isinstance(written, int) else len(text)
+    if isinstance(written, bool) or not isinstance(written, int):
+        return len(text)
+    if not 0 < written <= len(text):
+        raise OSError(f"the output says that it took {written} of {len(text)} bytes")
+    return written
 
 
 def write_all(file: Any, text: Text) -> None:
@@ -415,12 +420,18 @@ def write_all(file: Any, text: Text) -> None:
 
 def target_of(path: str) -> str | None:
     """Returns the file that an output replaces. If the path is a link, that is the file that it
-    leads to. Returns None for a device or a pipe, which is written directly."""
+    leads to. Returns None for a device or a pipe, which is written directly.
+
+    Raises:
+        RequestError: No file can have this name.
+    """
     try:
         if not stat.S_ISREG(os.stat(path).st_mode):
             return None
     except OSError:
         pass  # there is nothing yet
+    except ValueError as fault:
+        raise RequestError(f"no file can have this name: {fault}", None, path) from fault
     return os.path.realpath(path)
 
 

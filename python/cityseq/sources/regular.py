@@ -8,6 +8,7 @@ import stat
 import time
 from array import array
 from collections.abc import Callable, Iterable, Iterator
+from contextlib import suppress
 from dataclasses import dataclass
 from typing import TYPE_CHECKING, Any, NamedTuple
 from zlib import crc32
@@ -335,9 +336,11 @@ class HashedFile(RegularFile):
 
 def sha256_of(path: str, is_stopped: Callable[[], bool] = _never) -> str | None:
     """Returns the SHA-256 of a file, as sha256sum prints it. Returns None if the file cannot be
-    read, or as soon as `is_stopped` returns true."""
+    read, or as soon as `is_stopped` returns true, or for a pipe, whose bytes come only once."""
     from hashlib import sha256  # it takes long to load
 
+    if not os.path.isfile(path):
+        return None
     digest, room = sha256(), memoryview(bytearray(HASHED))
     try:
         with open(path, "rb", buffering=0) as file:
@@ -351,12 +354,13 @@ def sha256_of(path: str, is_stopped: Callable[[], bool] = _never) -> str | None:
 
 
 def state_now(path: str) -> dict[str, Any]:
-    """Returns the size of a file, and its time of change in nanoseconds since 1970."""
-    try:
+    """Returns the size of a regular file, and its time of change in nanoseconds since 1970. They
+    are None for anything else: those of a pipe or a folder do not show what is in it."""
+    with suppress(OSError):
         told = os.stat(path)
-    except OSError:
-        return {"size": None, "mtime_ns": None}
-    return {"size": told.st_size, "mtime_ns": told.st_mtime_ns}
+        if stat.S_ISREG(told.st_mode):
+            return {"size": told.st_size, "mtime_ns": told.st_mtime_ns}
+    return {"size": None, "mtime_ns": None}
 
 
 def time_now() -> str:
