@@ -127,6 +127,22 @@ class Checked(Documented):
         self.assertEqual(self.run_again(self.paths[0])[2], 0)
         self.assertEqual(self.run_again(self.paths[0])[0].count(b"as recorded"), 1)
 
+    def test_records_of_another_form(self):
+        """They are no reason to skip a file, and none to fail."""
+        self.run_again("--keep-going", example("delivery"))
+        (good,) = self.recorded()
+        wrong = (None, "x", -1, 1.0, [], {}, {"a": 1}, {"4": None}, True)
+        for name in ("time", "status", "verdict", "lines", "features", "refused", "codes"):
+            for value in wrong:
+                self.record.write_bytes(json.dumps({**good, name: value}).encode() + b"\n")
+                found, state = Record(str(self.record), True), {**good}
+                told = found.find(good["file"], state)
+                found.close()
+                is_right = (name, value) in (("time", "x"), ("codes", {}))
+                self.assertEqual(told is not None, is_right, (name, value))
+        self.record.write_bytes(json.dumps({**good, "status": 0}).encode() + b"\n")
+        self.assertEqual(self.run_again("--keep-going", example("delivery"))[2], 1)
+
     def test_what_is_no_file(self):
         os.mkfifo(self.folder / "pipe")
         for name in ("/dev/full", "/dev/zero", "/dev/null", self.folder / "pipe", self.folder):

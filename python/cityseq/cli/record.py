@@ -5,6 +5,7 @@ from __future__ import annotations
 import fcntl
 import json
 import os
+import re
 import stat
 from collections.abc import Iterable
 from contextlib import suppress
@@ -18,6 +19,8 @@ from .options import Check, Filter
 Object = dict[str, Any]
 LONGEST = 1 << 20  # bytes of a line that is read
 BEGINNING = b'{"kind": "record", '  # of each line
+VERDICTS = "valid", "invalid"  # by their statuses
+CODE = re.compile("[0-9]{1,3}")
 SAME = ("cityseq", "command", "options", "ids_sha256", "size", "mtime_ns", "output")
 
 
@@ -68,9 +71,7 @@ class Record:
             state: The members of the record that must be the same.
         """
         found = self._found.get(os.path.abspath(path))
-        if found is None or found.get("verdict") not in ("valid", "invalid"):
-            return None
-        if state["size"] is None:
+        if found is None or state["size"] is None or not _has_result(found):
             return None
         is_same = all(found.get(name) == state.get(name) for name in SAME)
         return found if is_same and _is_output_whole(found) else None
@@ -118,6 +119,21 @@ def _end_last_line(file: Any) -> None:
         pass  # another run has the lock
     with suppress(OSError):
         fcntl.flock(file, fcntl.LOCK_SH | fcntl.LOCK_NB)
+
+
+def _has_result(found: Object) -> bool:
+    """Whether a record has a verdict, and all that is told of a file that is skipped. Another
+    program may have written it."""
+    verdict, codes = found.get("verdict"), found.get("codes", {})
+    if verdict not in VERDICTS or not isinstance(codes, dict):
+        return False
+    counts = [found.get(name) for name in ("status", "lines", "features", "refused")]
+    return (
+        counts[0] == VERDICTS.index(verdict)
+        and all(type(count) is int and count >= 0 for count in (*counts, *codes.values()))
+        and all(map(CODE.fullmatch, codes))
+        and isinstance(found.get("time"), str)
+    )
 
 
 def _is_output_whole(found: Object) -> bool:
