@@ -2,6 +2,7 @@
 import gzip
 import io
 import itertools
+import os
 import random
 import re
 import threading
@@ -284,6 +285,16 @@ class Servers(InFolder):
         self.assertNotIn("secret", str(caught.exception))
         self.server.mode = ""
         self.assertEqual(cityseq.check(f"{self.url}?key=secret").file, self.url)
+
+    def test_a_key_in_a_query_is_in_no_name_of_an_output(self):
+        """So the end of the name also says whether the output is packed."""
+        words = ("filter", "--output-dir", self.folder / "out")
+        self.assertEqual(support.ran(*words, f"{self.url}?key=secret")[1:], ("", 0))
+        self.assertEqual(os.listdir(self.folder / "out"), [os.path.basename(self.url)])
+        for more in ((), ("--keep-folders",)):
+            urls = (f"{self.url}?key=secret", f"{self.url}?key=other")
+            said, status = support.ran(*words, *more, *urls)[1:]
+            self.assertEqual((status, "secret" in said), (2, False), said)
 
     def test_a_stream_that_changes(self):
         def change(_):

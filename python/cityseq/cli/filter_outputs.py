@@ -10,6 +10,7 @@ from typing import Any
 from ..engine import RequestError, Text, quoted, shown, write_fault
 from ..engine.records import unescaped
 from ..engine.reports import USUAL_BEGIN
+from ..sources import name_of
 from .options import Filter
 from .output import put_object, say
 
@@ -45,13 +46,14 @@ def targets_in(request: Filter, files: Sequence[str]) -> list[str]:
         raise RequestError("the name of the folder of --output-dir is empty")
     folder = request.output_dir
     targets: dict[str, str] = {}
-    for file in files:
-        target = os.path.realpath(_name_in(folder, file, request.keep_folders))
+    names = list(map(name_of, files))  # without the query of a URL, which may have a key in it
+    for name in names:
+        target = os.path.realpath(_name_in(folder, name, request.keep_folders))
         if target in targets:
             tip = "" if request.keep_folders else ": --keep-folders keeps their folders"
-            raise RequestError(f"{targets[target]} and {file} have the same output{tip}")
-        targets[target] = file
-    return [_name_in(folder, file, request.keep_folders) for file in files]
+            raise RequestError(f"{targets[target]} and {name} have the same output{tip}")
+        targets[target] = name
+    return [_name_in(folder, name, request.keep_folders) for name in names]
 
 
 def targets_of(request: Filter, files: Sequence[str]) -> list[str]:
