@@ -102,6 +102,15 @@ class Wholes(InFolder):
             sorted(path.name for path in folder.iterdir()), ["good.jsonl", "stream.city.jsonl"]
         )
 
+    def test_a_part_that_is_kept_replaces_no_other_output(self):
+        broken, good = self.file(BROKEN, "a.jsonl"), self.file(GOOD, "a.jsonl.part")
+        words = ("filter", "--output-dir", self.folder / "out", good, broken)
+        said, status = command(*words, "--keep-partial")[1:]
+        self.assertEqual((status, (self.folder / "out").exists()), (2, False))
+        self.assertIn(f"what is kept of {broken} would replace the output of {good}", said)
+        self.assertEqual(command(*words)[2], 1)
+        self.assertEqual(os.listdir(self.folder / "out"), [good.name])
+
     def test_a_run_that_is_interrupted_leaves_nothing(self):
         for signalled, status in ((signal.SIGINT, 130), (signal.SIGTERM, 143)):
             ran = subprocess.Popen(

@@ -10,7 +10,7 @@ from typing import Any
 from ..engine import RequestError, Text, quoted, shown, write_fault
 from ..engine.records import unescaped
 from ..engine.reports import USUAL_BEGIN
-from ..sources import name_of
+from ..sources import UNFINISHED, name_of
 from .options import Filter
 from .output import put_object, say
 
@@ -53,6 +53,10 @@ def targets_in(request: Filter, files: Sequence[str]) -> list[str]:
             tip = "" if request.keep_folders else ": --keep-folders keeps their folders"
             raise RequestError(f"{targets[target]} and {name} have the same output{tip}")
         targets[target] = name
+    for target, name in targets.items() if request.keep_partial else ():
+        if target + UNFINISHED in targets:
+            words = f"what is kept of {name} would replace the output of"
+            raise RequestError(f"{words} {targets[target + UNFINISHED]}: leave --keep-partial out")
     return [_name_in(folder, name, request.keep_folders) for name in names]
 
 
