@@ -342,6 +342,21 @@ class Shown(support.InFolder):
                 self.assertNotIn(sign, output.decode() + said if words[0] == "check" else said)
                 self.assertIn(f"\\u{ord(sign):04x}", said)
 
+    def test_faults_in_python(self):
+        """Python prints the text of one that nobody handles."""
+        name = self.folder / "n\x1b[2J\n\udcff.jsonl"
+        whole = b'{"type":"CityJSON","version":"2.0","CityObjects":{"\\u001b[2J":[1 2]}}'
+        for call in (
+            lambda: cityseq.check(name),
+            lambda: cityseq.filter(HEADER, name / "no"),
+            lambda: cityseq.split(whole, io.BytesIO()),
+        ):
+            with self.assertRaises(cityseq.CityseqError) as caught:
+                call()
+            self.assertIn("\\u001b[2J", str(caught.exception))
+            self.assertTrue(str(caught.exception).isprintable())
+            self.assertIn("\x1b[2J", f"{caught.exception.file}{caught.exception.words}")
+
     def test_an_encoding_that_lacks_letters(self):
         good = self.file(HEADER + PLAIN, "\u20ac.jsonl")
         broken = self.file(HEADER + feature("\u20ac", last=4), "\u20ac\u20ac.jsonl")
