@@ -320,6 +320,40 @@ class Writers(InFolder):
             f"{output}: write fault: No such file or directory\n",
         )
 
+    def test_a_working_folder_that_was_removed(self):
+        """A relative name leads nowhere then, and the others still do."""
+        script = """if True:
+            import os, sys
+            os.mkdir("gone"), os.chdir("gone"), os.rmdir("../gone")
+            import cityseq.cli
+            path, calls = sys.argv[1], []
+            for words in (
+                ("check", path),
+                ("filter", path, "--output", "out"),
+                ("filter", path, "--output-dir", "out"),
+                ("check", path, "--record", "record"),
+                ("check", "none", "--record", "record"),
+                ("collect", path, "--output", "out"),
+                ("index", path, "--output", "out.gpkg"),
+                ("pack", "none"),
+            ):
+                calls.append(cityseq.cli.main(words))
+            try:
+                cityseq.filter(path, "out")
+            except cityseq.RequestError:
+                calls.append("refused")
+            print(*calls)"""
+        ran = subprocess.run(
+            [sys.executable, "-c", script, self.file(GOOD)],
+            cwd=self.folder,
+            capture_output=True,
+            timeout=60,
+            env={**os.environ, "PYTHONPATH": os.path.join(support.ROOT, "python")},
+        )
+        self.assertEqual(
+            ran.stdout.splitlines()[1:], [b"0 2 2 2 2 2 2 2 refused"], ran.stderr.decode()
+        )
+
     def test_nothing_is_opened_before_it_is_used(self):
         Writer(self.folder / "out").discard()
         self.assertEqual(os.listdir(self.folder), [])

@@ -248,6 +248,15 @@ def _is_short_of_memory(fault: BaseException) -> bool:
     return isinstance(fault, ImportError) and any(each in words for each in SHORT_OF_MEMORY)
 
 
+def _lacks_folder() -> bool:
+    """Whether the working folder was removed, so that no relative name leads anywhere."""
+    try:
+        os.getcwd()
+    except FileNotFoundError:
+        return True
+    return False
+
+
 def _has_limit() -> bool:
     """Whether the memory of this process is limited."""
     import resource  # few faults need it
@@ -269,6 +278,9 @@ def _status_of(fault: BaseException, request: Request | None) -> int:
         case MemoryError():
             say("out of memory")
             return Status.NO_MEMORY
+        case FileNotFoundError() if _lacks_folder():
+            say("the working folder was removed: change to another one")
+            return Status.BAD_REQUEST
         case KeyboardInterrupt():
             say("interrupted")
             return STOPPED + signal.SIGINT

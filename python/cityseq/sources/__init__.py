@@ -423,7 +423,7 @@ def target_of(path: str) -> str | None:
     leads to. Returns None for a device or a pipe, which is written directly.
 
     Raises:
-        RequestError: No file can have this name.
+        RequestError: No file can have this name, or it is relative to a folder that was removed.
     """
     try:
         if not stat.S_ISREG(os.stat(path).st_mode):
@@ -432,7 +432,10 @@ def target_of(path: str) -> str | None:
         pass  # there is nothing yet
     except ValueError as fault:
         raise RequestError(f"no file can have this name: {fault}", None, path) from fault
-    return os.path.realpath(path)
+    try:
+        return os.path.realpath(path)
+    except FileNotFoundError as fault:
+        raise RequestError("the working folder was removed", None, path) from fault
 
 
 def part_of(path: str) -> str | None:
