@@ -1,6 +1,7 @@
 """The server: queryables, filters, and attributes of features (OGC API - Features, Part 3)."""
 import json
 import pathlib
+import re
 import sys
 import tempfile
 import unittest
@@ -155,6 +156,22 @@ class Documents(Asked):
             self.assertIn(f"<bdi>{text}</bdi>", page)
         page = self.server.ask("/collections/town/items?f=html&bbox=&limit=50&filter=").body
         self.assertIn(b"5 features", page)
+        page = self.server.ask("/api?f=html").body.decode()
+        self.assertNotIn("<script>alert", page)
+        self.assertNotIn("\u202e", page)
+        values = re.findall(
+            r'<bdi>(year|height|status|flat|limit)</bdi>.*\n.*\n.*"Values">([^<]*)<', page
+        )
+        self.assertEqual(
+            dict(values),
+            {
+                "year": "a whole number",
+                "height": "a number",
+                "status": "a text",
+                "flat": "true or false",
+                "limit": "1 to 100000, else 1000",
+            },
+        )
         page = self.server.ask(f"/collections/town/items?f=html&filter={quote('year > 1')}").body
         self.assertIn(b'name="filter" value="year &gt; 1"', page)
         self.assertIn(b"3 features", page)

@@ -15,7 +15,7 @@ from urllib.parse import unquote_to_bytes
 from aiohttp import web
 
 from ..attributes.cql2 import Comparison, Filter, Joined, Literal, parsed
-from ..engine import USUAL_DEPTH, USUAL_LINE
+from ..engine import USUAL_DEPTH, USUAL_LINE, shortened, shown
 from ..indexes.geopackage import Attribute
 from .answers import HTML, SCHEMA, Format, Problem
 from .settings import MOST_REPORTS, REPORTS, Limits
@@ -355,6 +355,7 @@ KINDS = {"INTEGER": "integer", "REAL": "number", "TEXT": "string"}
 BOOLEANS = {"true": True, "false": False}
 LITERAL = re.compile(r"[-+]?(?:\d+\.?\d*|\.\d+)(?:[eE][-+]?\d{1,9})?", re.ASCII)
 LONGEST_LITERAL = 1_000  # digits
+LONGEST_NAME = 100  # characters of a name in a description
 TOGETHER = 200  # parameters in the definition of the API
 
 
@@ -376,7 +377,11 @@ def of_attributes(attributes: Iterable[Attribute], known: Sequence[Parameter]) -
     its meaning."""
     names = {each.name for each in known}
     return [
-        Parameter(each.column, f"Features with this value of {each.name}.", schema_of(each))
+        Parameter(
+            each.column,
+            f"Features with this value of {shown(shortened(each.name, LONGEST_NAME))}.",
+            schema_of(each),
+        )
         for each in attributes
         if each.column not in names
     ]
