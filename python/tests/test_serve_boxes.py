@@ -8,8 +8,10 @@ import time
 import unittest
 from importlib.util import find_spec
 
-from .serving import MISSING, Serving
-from .support import HEADER, command, feature
+import cityseq
+
+from .serving import MISSING, Serving, Within
+from .support import HEADER, InFolder, command, feature
 
 WITHOUT = MISSING or ("" if find_spec("pyproj") else "pyproj is not there")
 if not WITHOUT:
@@ -453,6 +455,60 @@ class Anew(Asked):
                 return answer
             time.sleep(0.05)
         raise AssertionError(answer.body)
+
+
+@unittest.skipIf(WITHOUT, WITHOUT)
+class FarAway(InFolder):
+    """Streams with places that no query can have in its box."""
+
+    def served(self, transform, *features):
+        """A server of one stream. Its system is that of longitude and latitude."""
+        header = (
+            '{"type":"CityJSON","version":"2.0","transform":%s,"metadata":{"referenceSystem":'
+            '"https://www.opengis.net/def/crs/EPSG/0/4326"},"CityObjects":{},"vertices":[]}\n'
+        )
+        lines = [
+            f'{{"type":"CityJSONFeature","id":"{name}","CityObjects":{{"{name}":'
+            f'{{"type":"Building"}}}},"vertices":{vertices}}}\n'
+            for name, vertices in features
+        ]
+        path = self.file((header % transform + "".join(lines)).encode(), "far.city.jsonl")
+        cityseq.index(path, self.folder / "far.gpkg")
+        server = Within(self.folder / "far.gpkg")
+        self.addCleanup(server.stop)
+        return lambda query: server.ask(f"/collections/far/items?{query}")
+
+    def test_a_feature_beyond_all_boxes(self):
+        for scale in ("1e15", "1e17"):  # times 2,000 this is above 10^18, and above 10^19
+            with self.subTest(scale):
+                ask = self.served(
+                    f'{{"scale":[{scale},1,1],"translate":[0,0,0]}}',
+                    ("here", "[[0,1,0]]"),
+                    ("far", "[[2000,1,0]]"),
+                    ("none", "[]"),
+                )
+                for box, wanted in (
+                    ("-1,0,1,2", ["here"]),
+                    ("-180,-90,180,90", ["here"]),
+                    ("5,0,6,2", []),
+                ):
+                    answer = ask(f"bbox={box}")
+                    self.assertEqual(answer.status, 200, answer.body)
+                    found = [each["id"] for each in answer.json()["features"]]
+                    self.assertEqual(found, wanted, box)
+
+    def test_a_transform_that_no_box_takes(self):
+        """The same as of the stream itself, and not an answer without features."""
+        ask = self.served('{"scale":[1e30,1,1],"translate":[0,0,0]}', ("here", "[[0,1,0]]"))
+        self.assertEqual([each["id"] for each in ask("").json()["features"]], ["here"])
+        for query in (
+            "bbox=-1,0,1,2",
+            "bbox=-1,0,1,2&f=city-json-seq",
+            f"bbox=-1,0,1,2&bbox-crs={EPSG.format(4326)}",
+        ):
+            answer = ask(query)
+            self.assertEqual(answer.status, 400, query)
+            self.assertIn("30 transform not fixed", answer.json()["detail"])
 
 
 if __name__ == "__main__":

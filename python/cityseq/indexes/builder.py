@@ -104,6 +104,14 @@ class Entry:
         x, y, z = map(wider, self.ranges, ranges)
         self.ranges = x, y, z
 
+    def of_header(self) -> tuple[str, str, str | None]:
+        """Returns the columns that the header alone gives: scale, translate, reference system."""
+        scale, translate = (
+            json.dumps([str(number) for number in self.transform[name]])
+            for name in ("scale", "translate")
+        )
+        return scale, translate, None if self.reference is None else readable(self.reference)
+
     def extent(self) -> tuple[float | None, ...]:
         """Returns the least and greatest x, y and z of the stream, or None for each."""
         axes = (self.world.x, self.world.y, self.world.z)
@@ -378,10 +386,6 @@ class Builder:
             WriteFault: It cannot be written.
         """
         self._systems.add(entry.system)
-        texts = (
-            json.dumps([str(number) for number in entry.transform[name]])
-            for name in ("scale", "translate")
-        )
         row = (
             entry.number,
             *_path_columns(file.path, self.name),
@@ -390,8 +394,7 @@ class Builder:
             file.content,
             len(entry.header),
             hashlib.sha256(entry.header).hexdigest(),
-            *texts,
-            None if entry.reference is None else readable(entry.reference),
+            *entry.of_header(),
             result.lines,
             result.features,
             result.refused,

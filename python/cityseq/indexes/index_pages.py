@@ -22,7 +22,7 @@ from ..engine import OutOfDate, RawFeature, ReadFault
 from ..engine.judge import Work
 from ..engine.records import unescaped
 from ..engine.world import World
-from .builder import names_of_lods, names_of_types
+from .builder import Entry, names_of_lods, names_of_types
 from .database import INDEX_CHANGED
 from .footprints import Polygon, polygons_of
 from .geopackage import Attribute
@@ -115,6 +115,16 @@ class OpenStream:
         """The map from its vertices to world coordinates."""
         return self.stream.world()
 
+    def check(self, header: bytes) -> None:
+        """Checks once that the index has the transform and the system of the header, whose hash was
+        compared. Raises `OutOfDate` if it has others."""
+        stream = self.stream
+        if "is_checked" not in vars(self):
+            told = Entry(stream.number, header, stream.first_fid).of_header()
+            if told != (stream.scale, stream.translate, stream.reference_system):
+                raise OutOfDate.because(INDEX_CHANGED, stream.path)
+            vars(self)["is_checked"] = True
+
     @property
     def extent(self) -> Extent | None:
         """The least x and y and the greatest x and y of all features, if there are any."""
@@ -172,9 +182,9 @@ class Block:
         return b"".join(part[raw.begin : raw.begin + raw.length] + b"\n" for raw in self.raws)
 
     def within(self, reaches: Callable[[Extent], bool]) -> Block:
-        """Returns the features whose extent passes a test, and those without one."""
+        """Returns the features whose extent passes a test. No box reaches those without one."""
         extents = map(self._extent, self.raws)
-        kept = [raw for raw, extent in zip(self.raws, extents) if extent is None or reaches(extent)]
+        kept = [raw for raw, extent in zip(self.raws, extents) if extent and reaches(extent)]
         return replace(self, raws=kept)
 
     def features(self) -> list[Found]:
@@ -297,6 +307,9 @@ class Page:
         pool = self._source.pool
         with placed(stream, pool.base, pool.blocks) as place:
             self.header = header_of(stream, place)
+            self._source.check(self.header)
+            if self._work.box is not None and not stream.is_flat:
+                judged(self._work, stream.path, self.header, b"", 0)  # it takes no box
             is_empty, more = True, True
             while is_empty and more:
                 rows, more = self._candidates()

@@ -13,7 +13,7 @@ from typing import Any, NamedTuple
 from aiohttp import web
 
 from ..attributes import members
-from ..coordinates import Extent, System, edges, may_be_degrees, pieces, short
+from ..coordinates import FARTHEST, Extent, System, edges, may_be_degrees, pieces, short
 from ..engine import RequestError
 from ..engine.world import plain
 from ..indexes.footprints import Polygon
@@ -127,7 +127,8 @@ class Selected(NamedTuple):
     """What a box selects.
 
     Attributes:
-        text: The box around it in the coordinates of the stream. None if no box is asked for.
+        text: The box around it in the coordinates of the stream. None if no box is asked for, or if
+            no query has such a box.
         reaches: If that is a larger box, returns whether an extent reaches into the one asked for.
         is_none: Whether it selects nothing.
     """
@@ -161,6 +162,8 @@ def _selected(query: Query, collection: Collection) -> Selected:
         return Selected(",".join(map(plain, (west, south, east, north))))
     if reach.box is None:
         return Selected(A_BOX, is_none=True)
+    if max(map(abs, reach.box)) >= FARTHEST:  # no query has such a box: each feature is tested
+        return Selected(None, reach.reaches or (lambda extent: True))
     edges = (Decimal(edge).quantize(STEP, way) for edge, way in zip(reach.box, WAYS))
     return Selected(",".join(map(plain, edges)), reach.reaches)
 
