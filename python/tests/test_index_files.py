@@ -14,8 +14,9 @@ import cityseq
 from cityseq.indexes import builder
 from cityseq.indexes import database as replacement
 
-from . import support
+from . import serving, support
 from .support import HEADER, ROOT, InFolder, asked, command, feature
+from .test_attributes import line
 from .test_cut import SAMPLE, TOWN, cut
 from .test_index import NOBODY
 
@@ -289,8 +290,8 @@ class Hostile(InFolder):
             "features": ("'x'", "-1", "x'00'"),
             "refused": ("'x'", "x'00'"),
             "first_fid": ("'x'", "7"),
-            "xmin": ("'x'", "x'00'"),
-            "zmax": ("'x'", "x'00'"),
+            "xmin": ("'x'", "x'00'", "9e999", "-1e38"),
+            "zmax": ("'x'", "x'00'", "1e308"),
         }.items():
             for value in values:
                 with self.subTest(column=column, value=value[:40]):
@@ -365,6 +366,9 @@ class Hostile(InFolder):
             "length = x'00'",
             "begin = -1",
             "length = 1 << 62",
+            "line = 3",  # of all
+            "line = line - 1",
+            "line = line + 9",
         ):
             with self.subTest(change):
                 self.made(f"UPDATE features SET {change}")
@@ -375,6 +379,43 @@ class Hostile(InFolder):
         with self.assertRaises(cityseq.OutOfDate):
             with cityseq.Index(self.index) as index:
                 index.show()
+
+    def test_attributes_that_no_index_has(self):
+        path = self.file(HEADER + line("b", '{"year":1,"name":"x"}'))
+        cityseq.index(path, self.folder / "good.gpkg", attributes="all")
+        self.good = (self.folder / "good.gpkg").read_bytes()
+        for change in (
+            "name_exact = x'ff'",
+            "name_exact = x''",
+            "type = 'BLOB'",
+            "format = 'x'",
+            "first_fid = -1",
+            "column_name = 'no'",
+            "column_name = 'geom'",
+            "column_name = 'zmin'",
+            "column_name = 'name'",  # of both
+        ):
+            with self.subTest(change):
+                self.made(f"UPDATE cityseq_attributes SET {change}")
+                self.refused()
+
+    @unittest.skipIf(serving.MISSING, serving.MISSING)
+    def test_a_header_that_no_index_has(self):
+        """A server takes the transform and the system from the index."""
+        path = self.file(HEADER + feature("b"))
+        cityseq.index(path, self.folder / "good.gpkg")
+        self.good = (self.folder / "good.gpkg").read_bytes()
+        for change, status in (
+            ("lines = lines", 200),
+            ('scale = \'["1","1","1"]\'', 502),
+            ('translate = \'["1e999999999999999999999","1","1"]\'', 502),
+            ("reference_system = 'https://www.opengis.net/def/crs/EPSG/0/7415'", 502),
+        ):
+            self.made(f"UPDATE streams SET {change}")
+            with self.subTest(change), serving.Within(self.index) as server:
+                for name in ("items", "items?f=html", "items/b?f=city-json"):
+                    answer = server.ask(f"/collections/stream/{name}")
+                    self.assertEqual(answer.status, status, answer.body)
 
     def test_a_report_that_no_index_has(self):
         for values in (

@@ -39,6 +39,7 @@ READ_ONLY, MALFORMED = "readonly database", "malformed"
 R_TREE = re.compile(r"CREATE\s+VIRTUAL\s+TABLE\b.*\bUSING\s+rtree\s*\(", re.IGNORECASE | re.DOTALL)
 TABLES = ("cityseq_index", "features", "streams", "reports")
 LONGEST = 4_096  # bytes of a path that a system can open
+FARTHEST = 1e37  # vertices, scales and translates are below 10^18, so no coordinate is greater
 DECIMAL = re.compile(r"-?\d+(?:\.\d+)?(?:[eE][+-]?\d+)?")
 SHA256, CONTENT = re.compile(r"[0-9a-f]{64}"), re.compile(r"[0-9a-f]{32}")
 Test = Callable[[Any], bool]
@@ -336,8 +337,16 @@ def _is_path(kind: Any, nul: Any) -> Test:
     return lambda value: isinstance(value, kind) and 0 < len(value) <= LONGEST and nul not in value
 
 
-def _is_number(value: Any) -> bool:
-    return type(value) in (int, float)
+def _is_coordinate(value: Any) -> bool:
+    return type(value) in (int, float) and abs(value) <= FARTHEST
+
+
+def _is_exact(value: Any) -> bool:
+    """Whether a value is a text in UTF-8, with half of a surrogate pair as three bytes."""
+    try:
+        return isinstance(value, bytes) and value.decode("utf-8", "surrogatepass") != ""
+    except UnicodeDecodeError:
+        return False
 
 
 def _are_decimals(value: Any) -> bool:
@@ -383,7 +392,7 @@ STREAMS: dict[str, Test] = {
     "features": _is_count,
     "refused": _is_count,
     "first_fid": _is_count,
-    **{f"{axis}{edge}": _or_null(_is_number) for axis in "xyz" for edge in ("min", "max")},
+    **{f"{axis}{edge}": _or_null(_is_coordinate) for axis in "xyz" for edge in ("min", "max")},
 }
 REPORTS: dict[str, Test] = {
     "stream": _is_count,
@@ -395,7 +404,7 @@ REPORTS: dict[str, Test] = {
 }
 ATTRIBUTES: dict[str, Test] = {
     "name": _is_text,
-    "name_exact": _or_null(lambda value: isinstance(value, bytes)),
+    "name_exact": _or_null(_is_exact),
     "column_name": _is_text,
     "type": lambda value: value in ("INTEGER", "REAL", "TEXT"),
     "format": lambda value: value in (None, "boolean", "date", "date-time"),

@@ -94,6 +94,7 @@ UNIFORM = {
     "stream": "INTEGER NOT NULL",
     "id_exact": "BLOB",
 }
+OWN = {"fid", "geom", "line", "begin", "length", "id", *UNIFORM}  # no attribute has these
 NO_FEATURE = (None, None, "", "", 0, 0, 1, None)  # their values where there is no feature
 
 # They note that another program has changed what cuts rely on.

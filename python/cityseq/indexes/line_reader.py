@@ -369,12 +369,13 @@ def _groups(stream: IndexedStream, rows: Iterable[Row], near: int) -> Iterator[l
     """Yields the rows of lines that are read together: between two are at most `near` bytes. Each
     line begins after the one before."""
     group: list[Row] = []
-    end = 0  # of the line before
+    line, end = 1, 0  # the number and the end of the line before
     for row in rows:
         is_row = all(type(each) is int and each >= 0 for each in row)
-        if not is_row or row.begin <= end or row.length > LINE_LIMITS[1]:
+        is_later = is_row and row.begin > end and line < row.line <= stream.lines
+        if not is_later or row.length > LINE_LIMITS[1]:
             raise OutOfDate.because(INDEX_CHANGED, stream.path)
-        end = row.begin + row.length
+        line, end = row.line, row.begin + row.length
         if group and (
             row.begin - (group[-1].begin + group[-1].length) > near
             or row.begin + row.length - group[0].begin > MOST

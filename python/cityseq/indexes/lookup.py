@@ -183,7 +183,7 @@ class Index:
             select = f"SELECT {', '.join(ATTRIBUTE_ROWS)} FROM {ATTRIBUTES} ORDER BY fid"
             for row in self._base.execute(select):
                 name, exact, column, *others = checked(ATTRIBUTES, ATTRIBUTE_ROWS, row, self.path)
-                if column not in columns:
+                if column not in columns - geopackage.OWN or column in found:
                     raise OutOfDate.because(INDEX_CHANGED, self.path)
                 found[column] = Attribute(id_of(name, exact), column, *others)
         return found
