@@ -4,6 +4,7 @@ import http.client
 import json
 import os
 import pathlib
+import resource
 import shutil
 import signal
 import socket
@@ -12,6 +13,7 @@ import sys
 import tempfile
 import threading
 import unittest
+from functools import partial
 from importlib.util import find_spec
 
 from .support import HEADER, ROOT, command, feature
@@ -122,8 +124,10 @@ class Client:
 class Serving(Client):
     """The command `serve`, over some indexes."""
 
-    def __init__(self, *words, first_path=""):
-        """Starts it with these words. A folder that is given is where Python looks first for modules."""
+    def __init__(self, *words, first_path="", descriptors=None):
+        """Starts it with these words, and with at most so many descriptors. A folder that is given is
+        where Python looks first for modules."""
+        most = (descriptors, descriptors)
         port = () if "--port" in words else ("--port", "0")
         environment = {
             **os.environ,
@@ -136,6 +140,7 @@ class Serving(Client):
             stdout=subprocess.PIPE,
             stderr=subprocess.PIPE,
             env=environment,
+            preexec_fn=descriptors and partial(resource.setrlimit, resource.RLIMIT_NOFILE, most),
         )
         first = self.process.stderr.readline().decode()
         if not first.startswith("http://"):

@@ -1,5 +1,6 @@
 """The server: clients that send or read in unusual ways, and what one client leaves for others."""
 import asyncio
+import errno
 import gc
 import os
 import socket
@@ -9,11 +10,13 @@ import unittest
 from contextlib import ExitStack, suppress
 from http.client import HTTPException
 
+from cityseq.engine import read_fault
+
 from .serving import MISSING, Served, Serving, Within, rest_of
 from .support import HEADER, command, feature
 
 if not MISSING:
-    from cityseq.serve.answers import Problem
+    from cityseq.serve.answers import Problem, problem_of
     from cityseq.serve.bodies import Body, Fed, Judgement
     from cityseq.serve.sending import Pace, Places
     from cityseq.serve.settings import Limits
@@ -176,6 +179,27 @@ class Slow(Served):
             self.assertTrue(soon(lambda: rest_of_new(server) == b""))
             stack.close()
             self.assertTrue(soon(lambda: rest_of_new(server).startswith(b"HTTP/1.1 200 ")))
+
+    def test_few_descriptors(self):
+        """Connections that are too many are ended, without a line in the log for each attempt."""
+        request = b"GET %b HTTP/1.1\r\nHost: localhost\r\nConnection: close\r\n\r\n"
+        with Serving(self.folder / "all.gpkg", descriptors=40) as server, ExitStack() as stack:
+            begun = [stack.enter_context(server.socket()) for _ in range(40)]
+            for each in begun:
+                with suppress(ConnectionError):
+                    each.sendall(request % PATH.encode())
+            statuses = [rest_of(each)[9:12] for each in begun]
+            self.assertLessEqual(set(statuses), {b"", b"200", b"503"})
+            self.assertGreaterEqual(statuses.count(b"200"), 1)
+            self.assertEqual(server.ask(PATH).status, 200)
+            self.assertLess(len(server.said), 10, server.said[:10])
+
+    def test_no_descriptor(self):
+        """Any call of the system may miss it, and it is no fault of the server's code."""
+        none = OSError(errno.EMFILE, "x")
+        for fault in (none, read_fault(none, "x")):
+            self.assertEqual(problem_of(fault).status, 503)
+        self.assertEqual(problem_of(OSError(errno.EIO, "x")).status, 500)
 
     def test_aborted_uploads_are_freed(self):
         """The client resets the connection in the middle of a body, before and after the answer has begun."""

@@ -97,7 +97,7 @@ def problem_of(fault: BaseException) -> Problem:
             return Problem(503, fault.words, SOON)
         case InvalidStream() | RequestError() | BodyFault():
             return Problem(400, fault.words)
-        case ReadFault() if fault.errno in NO_DESCRIPTOR:
+        case OSError() if fault.errno in NO_DESCRIPTOR:
             return Problem(503, "the server has no descriptor left", SOON)
         case ReadFault():
             return Problem(502, "the stream or its index cannot be read")

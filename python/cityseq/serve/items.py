@@ -162,7 +162,7 @@ def _selected(query: Query, collection: Collection) -> Selected:
         return Selected(",".join(map(plain, (west, south, east, north))))
     if reach.box is None:
         return Selected(A_BOX, is_none=True)
-    if max(map(abs, reach.box)) >= FARTHEST:  # no query has such a box: each feature is tested
+    if any(abs(edge) >= FARTHEST for edge in reach.box):  # no query has it: each is tested
         return Selected(None, reach.reaches or (lambda extent: True))
     edges = (Decimal(edge).quantize(STEP, way) for edge, way in zip(reach.box, WAYS))
     return Selected(",".join(map(plain, edges)), reach.reaches)

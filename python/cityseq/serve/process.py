@@ -207,7 +207,9 @@ class Process:
         """
         await self._runner.setup()
         try:
-            found = await self._loop.create_server(self._connection, host, port, backlog=BACKLOG)
+            found = await self._loop.create_server(
+                self._connection, host, port, backlog=min(BACKLOG, self._limits.connections)
+            )
         except (OSError, UnicodeError) as fault:
             raise ReadFault(f"cannot listen at {host}, port {port}: {why(fault)}") from fault
         self.sockets = found.sockets
