@@ -102,6 +102,13 @@ EndsAt rules before pieces n ReadLimit = ⊥
 EndsAt rules before pieces n WriteFault = Unit {0}
 EndsAt rules before pieces n Memory = Unit {0}
 
+-- the bytes before, and those of the pieces that were wholly taken; and of these and the next piece
+abbrev pub taken_by : List ℕ → List (List ℕ) → PiecesOutcome → List ℕ
+taken_by before pieces outcome = before ++ joined (take outcome.taken pieces)
+
+abbrev pub given_to : List ℕ → List (List ℕ) → PiecesOutcome → List ℕ
+given_to before pieces outcome = before ++ joined (take (outcome.taken + 1) pieces)
+
 -- An engine that stood for the bytes before, and had not ended, was given these pieces and then the end, until it
 -- ended. So many of the pieces were wholly taken, of which nothing that could be judged was refused, and it counts
 -- their bytes. Its other counts are of the lines that it dealt with, of all bytes that were given. Memory is refused
@@ -113,19 +120,17 @@ pub record Fed (rules : Rules) (before : List ℕ) (pieces : List (List ℕ)) (o
   pub under : rules_of engine ≡ rules
   pub ended : engine.ended ≡ Some outcome.ended
   pub few : outcome.taken ≤ length pieces
-  pub good : refusal_in rules (judged rules.limits (before ++ joined (take outcome.taken pieces))) ≡ None
+  pub good : refusal_in rules (judged rules.limits (taken_by before pieces outcome)) ≡ None
   pub at : EndsAt rules before pieces outcome.taken outcome.ended
-  pub used : engine.taken ≡ length (before ++ joined (take outcome.taken pieces))
-  pub counts : Counts rules (before ++ joined (take (outcome.taken + 1) pieces)) (lines_of engine) engine.reading.kept
-      (refused_of engine)
-  pub memory : outcome.ended ≡ Memory
-      → LacksMemory rules (before ++ joined (take (outcome.taken + 1) pieces)) (lines_of engine)
+  pub used : engine.taken ≡ length (taken_by before pieces outcome)
+  pub counts :
+      Counts rules (given_to before pieces outcome) (lines_of engine) engine.reading.kept (refused_of engine)
+  pub memory : outcome.ended ≡ Memory → LacksMemory rules (given_to before pieces outcome) (lines_of engine)
   pub peaks : outcome.peaks ≡ peaks_of engine
   pub held : IsBelow (held_by engine) outcome.peaks
-  pub bounded : IsBounded rules.limits (before ++ joined (take (outcome.taken + 1) pieces)) outcome.peaks
-  pub least : IsBelow
-      (exact_peaks rules.limits (first_lines (lines_of engine) (before ++ joined (take (outcome.taken + 1) pieces))))
-      outcome.peaks
+  pub bounded : IsBounded rules.limits (given_to before pieces outcome) outcome.peaks
+  pub least :
+      IsBelow (exact_peaks rules.limits (first_lines (lines_of engine) (given_to before pieces outcome))) outcome.peaks
   pub exact : outcome.ended ≡ Complete → IsExact rules.limits (before ++ joined pieces) outcome.peaks
 
 -- Pieces that were given after the bytes before. These have this number of first lines of a stream. `lines` counts
