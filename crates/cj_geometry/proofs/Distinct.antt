@@ -1,5 +1,5 @@
 -- Distinct names, told by walks that each deal with the least names above the last ones.
-use Rattle.cj_geometry.proofs.Common.{All, AreNamesInOrder, Ascend, Bool, Contains, DuplicateName, Finding, IfSome, List, None, Option, Some, Tree, [], ap, are_same_texts, arith, cond, false, found_at, get_or, inl, inr, is_above, last_of, least, names_of, nat_lt, neighbours, one, refl, repeat_of, repeats, repeats_of, start_of, sym, text_of, true, ℕ, ◌&&◌, ◌++◌, ◌+◌, ◌<◌, ◌∙◌, ◌∷◌, ◌≡◌, ◌≤◌}
+use Rattle.cj_geometry.proofs.Common.{All, AreNamesInOrder, Ascend, Bool, Contains, DuplicateName, Finding, IfSome, List, None, Option, Some, Tree, [], ap, are_same_texts, arith, cond, false, found_at, get_or, inl, inr, is_above, last_of, least, names_of, neighbours, one, refl, repeat_of, repeats, repeats_of, start_of, sym, text_of, true, ℕ, ◌++◌, ◌+◌, ◌<◌, ◌∙◌, ◌∷◌, ◌≡◌, ◌≤◌}
 use Rattle.std.proofs.lemmas.Bool.{and_parts, cond_both, ltb-true}
 use Rattle.std.proofs.lemmas.List.Elements.{All-contains, All-head, All-tail, All-nil, All-cons, All-append, Contains-get_or, Contains-append_left, Contains-append_right, Contains-append_cases}
 use Rattle.cj_spans.proofs.Findings.{least-append}
@@ -23,14 +23,7 @@ told_if name t = cond (are_same_texts (text_of t) (text_of name)) (one Duplicate
 
 only_one : (b : Bool) (t : Tree) (f : Finding) → Contains (cond b (one DuplicateName t) []) f → (b ≡ true)
     × (f ≡ found_at (start_of t) DuplicateName)
-only_one true t f c = (
-  refl,
-  elim (contains_cases (found_at (start_of t) DuplicateName) [] f c) [
-    | inl e ↦ sym e
-    | inr d ↦
-        absurd (contains_none f d)
-  ],
-)
+only_one true t f c = search (arith, contains_cases, contains_none)
 only_one false t f c = absurd (contains_none f c)
 
 later_of : (name : Tree) (ms : List (Tree × Tree)) (f : Finding) → Contains (repeats_of name ms) f → (u : Tree)
@@ -129,11 +122,7 @@ repeat_among : (ms : List (Tree × Tree)) → AreNamesInOrder ms → (floor : Op
     → IfSome floor (Contains (names_of ms)) → Contains (names_of ms) t → All (Contains (repeats ms)) (repeat_of floor t)
 repeat_among ms o None t cf ct = All-nil (Contains (repeats ms))
 repeat_among ms o (Some u) t cf ct =
-    let P : List Finding → Type 0 = All (Contains (repeats ms)) in
-    cond_both (are_same_texts (text_of t) (text_of u) && nat_lt (start_of u) (start_of t)) (one DuplicateName t) [] P
-    (λ e. let parts = and_parts _ _ e in
-    All-cons (Contains (repeats ms)) _ [] (repeat_told ms o u t cf ct parts.0 (ltb-true _ _ parts.1))
-    (All-nil (Contains (repeats ms)))) (λ _. All-nil (Contains (repeats ms)))
+    search (arith, cond_both, and_parts, All-cons, repeat_told, ltb-true, All-nil)
 
 pub neighbours_among : (ms : List (Tree × Tree)) → AreNamesInOrder ms → (floor : Option Tree) (ts : List Tree)
     → IfSome floor (Contains (names_of ms)) → All (Contains (names_of ms)) ts

@@ -78,31 +78,10 @@ sign_back true s e = inr (inr e)
 
 exp_back : (e : ℤ) (s : List ℕ) → read.IsExp e s → scanned.IsExp s
 exp_back e s (inl (z, q)) = rw q tt
-exp_back e s (inr p) =
-    rw p.joined (
-      p.mark_is,
-      record {
-        sign = p.sign;
-        digits = p.digits;
-        sign_is = sign_back p.negative p.sign p.sign_is;
-        digits_are = p.digits_are;
-        joined = refl;
-      },
-    )
+exp_back e s (inr p) = search (arith, sign_back)
 
 pub scanned_number : (s : List ℕ) → SpellsNumber s → scanned.IsNumber s
-scanned_number s (w, n) =
-    record {
-      minus = n.minus;
-      int = w.int;
-      frac = n.fraction;
-      exp = n.exp;
-      minus_is = minus_back w.negative n.minus n.minus_is;
-      int_is = n.int_is;
-      frac_is = frac_back w.frac n.fraction n.frac_is;
-      exp_is = exp_back w.exponent n.exp n.exp_is;
-      joined = n.joined;
-    }
+scanned_number s (w, n) = search (arith, minus_back, frac_back, exp_back)
 
 pub one_grammar : (s : List ℕ) → IsScalar Number s ↔ SpellsNumber s
 one_grammar s = (read_number s, scanned_number s)

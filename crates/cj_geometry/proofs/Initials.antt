@@ -1,9 +1,9 @@
 -- Names whose first characters have different slots are distinct.
-use Rattle.cj_geometry.proofs.Common.{Bool, DuplicateName, List, None, Option, Some, Tree, [], ap, are_apart, are_same_texts, arith, cases_eq, cond, distinct, false, false≢true, get_or, inl, inr, length, length-set, members_of, one, option_and_then, refl, repeats, repeats_of, replicate, sym, text_of, true, ℕ, ◌%◌, ◌++◌, ◌<◌, ◌∙◌, ◌∷◌, ◌≡◌, ◌≤◌}
+use Rattle.cj_geometry.proofs.Common.{Bool, List, Some, Tree, [], ap, are_apart, are_same_texts, arith, cases_eq, distinct, false, get_or, inl, inr, length, length-set, members_of, refl, repeats, repeats_of, replicate, sym, text_of, true, ℕ, ◌%◌, ◌++◌, ◌<◌, ◌∙◌, ◌∷◌, ◌≡◌, ◌≤◌}
 use Rattle.std.proofs.Common.{◌≢◌, get_or-set_same, get_or-set_other}
 use Rattle.std.proofs.lemmas.Bool.{false_from_ne_true}
 use Rattle.std.specs.Prelude.{slice_set}
-use Rattle.cj_spans.specs.Initials.{begin_apart, then_apart, first_code_of, head}
+use Rattle.cj_spans.specs.Initials.{begin_apart, first_code_of}
 use Rattle.cj_geometry.proofs.Repeats.{same_texts}
 
 -- one name more
@@ -11,9 +11,7 @@ pub apart-on : (taken : List Bool) {all : List (Tree × Tree)} (rest : List (Tre
     → all ≡ m ∷ rest
     → first_code_of m.0 ≡ Some c → get_or taken (c % 32) false ≡ false
     → are_apart taken all ≡ are_apart (slice_set taken (c % 32) true) rest
-apart-on taken rest m c e code free =
-    ap (are_apart taken) e ∙ ap (λ o. then_apart o taken (λ more. are_apart more rest)) code
-    ∙ ap (λ b. cond b false (are_apart (slice_set taken (c % 32) true) rest)) free
+apart-on taken rest m c e code free = search arith
 
 -- ---- what it says
 
@@ -35,26 +33,13 @@ still_free taken s i below free =
 all_still_free : (taken : List Bool) (s : ℕ) → s < length taken → (ms : List (Tree × Tree))
     → AreFree (slice_set taken s true) ms → AreFree taken ms
 all_still_free taken s below [] free = tt
-all_still_free taken s below (m ∷ ms) free = (
-  (free.0.0, free.0.1, (still_free taken s (free.0.0 % 32) below free.0.2).1),
-  all_still_free taken s below ms free.1,
-)
+all_still_free taken s below (m ∷ ms) free = search (arith, all_still_free taken s below ms free.1, still_free)
 
 -- the first of names that are apart has a free slot, and the others are apart once that is taken
-free_slot : (b x : Bool) → cond b false x ≡ true → (b ≡ false) × (x ≡ true)
-free_slot true x h = absurd (false≢true h)
-free_slot false x h = (refl, h)
-
 apart_parts : (taken : List Bool) (m : Tree × Tree) (ms : List (Tree × Tree)) → are_apart taken (m ∷ ms) ≡ true
     → (c : ℕ) × (first_code_of m.0 ≡ Some c) × (get_or taken (c % 32) false ≡ false)
     × (are_apart (slice_set taken (c % 32) true) ms ≡ true)
-apart_parts taken m ms h = by_code (first_code_of m.0) h refl
-  where
-    by_code : (o : Option ℕ) → then_apart o taken (λ more. are_apart more ms) ≡ true → first_code_of m.0 ≡ o
-        → (c : ℕ) × (first_code_of m.0 ≡ Some c) × (get_or taken (c % 32) false ≡ false)
-        × (are_apart (slice_set taken (c % 32) true) ms ≡ true)
-    by_code None h is = absurd (false≢true h)
-    by_code (Some c) h is = let parts = free_slot (get_or taken (c % 32) false) _ h in (c, is, parts.0, parts.1)
+apart_parts taken m ms h = search arith
 
 -- what are apart are free
 all_free : (taken : List Bool) (ms : List (Tree × Tree)) → 32 ≤ length taken → are_apart taken ms ≡ true
@@ -72,20 +57,14 @@ all_free taken (m ∷ ms) room h =
 -- texts of different first characters differ
 others : (t u : Tree) (c d : ℕ) → first_code_of t ≡ Some c → first_code_of u ≡ Some d → d % 32 ≢ c % 32
     → are_same_texts (text_of u) (text_of t) ≡ false
-others t u c d is other apart = false_from_ne_true (are_same_texts (text_of u) (text_of t)) (λ e.
-    let same : first_code_of u ≡ first_code_of t =
-    ap (λ o. option_and_then head o) (same_texts (text_of u) (text_of t) e) in
-    let codes : d ≡ c = cc (sym other ∙ same ∙ is) in
-    apart (ap (λ k. k % 32) codes))
+others t u c d is other apart = search (arith, false_from_ne_true, same_texts)
 
 -- none of the names repeats one whose slot was taken before
 none_repeats : (t : Tree) (c : ℕ) → first_code_of t ≡ Some c → (taken : List Bool) → c % 32 < length taken
     → (ms : List (Tree × Tree)) → AreFree (slice_set taken (c % 32) true) ms → repeats_of t ms ≡ []
 none_repeats t c is taken below [] free = refl
 none_repeats t c is taken below (m ∷ ms) free =
-    let apart = (still_free taken (c % 32) (free.0.0 % 32) below free.0.2).0 in
-    ap (λ b. cond b (one DuplicateName m.0) [] ++ repeats_of t ms) (others t m.0 c free.0.0 is free.0.1 apart)
-    ∙ none_repeats t c is taken below ms free.1
+    search (arith, none_repeats t c is taken below ms free.1, still_free, others)
 
 -- names that are apart are distinct
 pub distinct_apart : (taken : List Bool) (ms : List (Tree × Tree)) → 32 ≤ length taken → are_apart taken ms ≡ true

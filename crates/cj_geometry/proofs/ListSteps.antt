@@ -1,6 +1,6 @@
 -- What is kept of a list at even steps.
 use Rattle.cj_geometry.proofs.Common.{AreSizesAt, List, Tree, [], ap, arith, cases_lt, drop, get_or, inl, inr, length, length-set, refl, set, size, slice_get, suc, sym, take, total_size, zero, ℕ, ◌%◌, ◌++◌, ◌+◌, ◌-◌, ◌<◌, ◌∙◌, ◌∷◌, ◌≡◌, ◌≤◌}
-use Rattle.std.proofs.Common.{◌*◌, ◌/◌, mul-zero, get_or-set_same, get_or-set_other, take-append-drop, div-add-mod'}
+use Rattle.std.proofs.Common.{◌*◌, ◌/◌, mul-zero, get_or-set_same, get_or-set_other, take-append-drop}
 use Rattle.std.proofs.lemmas.Nat.{mul-le, div_below}
 
 -- of a walk over a list: what is left, and what was noted before it
@@ -29,31 +29,13 @@ passed_is n ts passed e h =
 -- before the walk
 pub begins : {places : ℕ} (step : ℕ) {ts left : List Tree} (sizes : List ℕ) → length sizes ≡ places
     → length ts < places * step → left ≡ ts → total_size left < 2147483648 → IsNoted places step ts left sizes 0 0 0
-begins step {ts} {left} sizes room below same small =
-    let count = ap length same in let sum = ap total_size same in
-    let none : 0 ≡ length ts - length left = omega arith in
-    record {
-      room = room;
-      below = below;
-      small = omega arith;
-      few = omega arith;
-      rest = same ∙ ap (λ n. drop n ts) none;
-      passed = omega arith;
-      next = omega arith;
-      noted = λ n h. absurd (omega arith);
-    }
+begins step {ts} {left} sizes room below same small = search arith
 
 -- a step is due: there is a place for it
 pub has_place : {places step : ℕ} {ts left : List Tree} (t : Tree) (rest : List Tree) {sizes : List ℕ}
     {place until passed : ℕ} → IsNoted places step ts left sizes place until passed → left ≡ t ∷ rest → until ≡ 0
     → place < places
-has_place {places} {step} t rest {place} w e z =
-    let more = ap length e in
-    elim (cases_lt place places) [
-      | inl l ↦ l
-      | inr g ↦ let high = mul-le places step place step g (omega arith) in
-          absurd (omega arith)
-    ]
+has_place {places} {step} t rest {place} w e z = search (arith, cases_lt, mul-le)
 
 -- it is noted
 pub noted_one : {places step : ℕ} {ts left : List Tree} (t : Tree) (rest : List Tree) {sizes : List ℕ}
@@ -139,8 +121,7 @@ finer_step_of count number h = div_below number (count / 1024 + 1) 1024 (omega a
 item_dropped : (n m : ℕ) (ts : List Tree) → slice_get (drop n ts) m ≡ slice_get ts (n + m)
 item_dropped zero m ts = ap (slice_get ts) (omega arith)
 item_dropped (suc n) m [] = refl
-item_dropped (suc n) m (t ∷ ts) = let on : suc (n + m) ≡ suc n + m = omega arith in
-    item_dropped n m ts ∙ ap (slice_get (t ∷ ts)) on
+item_dropped (suc n) m (t ∷ ts) = search (arith, item_dropped n m ts)
 
 -- the item of a number is so far behind the step before it
 pub found_item : (ts : List Tree) {left : List Tree} (sizes : List ℕ) (step number : ℕ) {size : ℕ}
@@ -148,9 +129,4 @@ pub found_item : (ts : List Tree) {left : List Tree} (sizes : List ℕ) (step nu
     → number < length ts → size ≡ get_or sizes (number / step) 0
     → ((k : ℕ) → k ≤ length ts → total_size (take k ts) ≡ size → left ≡ drop k ts)
     → slice_get left (number % step) ≡ slice_get ts number
-found_item ts sizes step number noted h s finds =
-    let n = number / step in
-    let whole : n * step + number % step ≡ number = div-add-mod' number step in
-    let low : n * step < length ts = omega arith in
-    let rest = finds (n * step) (omega arith) (sym (noted n low) ∙ sym s) in
-    ap (λ us. slice_get us (number % step)) rest ∙ item_dropped (n * step) (number % step) ts ∙ ap (slice_get ts) whole
+found_item ts sizes step number noted h s finds = search (arith, item_dropped)

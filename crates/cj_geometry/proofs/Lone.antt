@@ -1,5 +1,5 @@
 -- Items at the front of an array that hold nothing, and have no finding.
-use Rattle.cj_geometry.proofs.Common.{AreLone, Finding, IfSome, IsSome, List, None, Option, Reason, Some, Tree, [], ap, arith, drop, false, flat_map, index, is_outside, length, length-drop, nat_lt, nat_tests, not, pos, refl, scalar, size, suc, sym, take, total_size, whole_number, whole_of, zero, ℕ, ℤ, ◌++◌, ◌+◌, ◌<◌, ◌∙◌, ◌∷◌, ◌≡◌, ◌≤◌}
+use Rattle.cj_geometry.proofs.Common.{AreLone, Finding, IfSome, IsSome, List, None, Option, Reason, Some, Tree, [], ap, arith, drop, flat_map, index, is_outside, length, length-drop, nat_lt, nat_tests, not, pos, refl, scalar, size, suc, sym, take, total_size, whole_number, whole_of, zero, ℕ, ℤ, ◌++◌, ◌+◌, ◌<◌, ◌∙◌, ◌∷◌, ◌≡◌, ◌≤◌}
 use Rattle.std.proofs.Common.{get_or, take-append-drop}
 use Rattle.std.proofs.lemmas.List.{drop_more, take_more}
 use Rattle.std.proofs.lemmas.List.Concat.{flat_map-append}
@@ -18,16 +18,11 @@ module _ (n : ℕ) (ts : List Tree) (t : Tree) (rest : List Tree) (next : drop n
       take_more ts n t there ∙ ap (λ x. take n ts ++ x ∷ []) same
 
   pub lone-more : size t ≡ 1 → AreLone n ts → AreLone (n + 1) ts
-  lone-more one_is h =
-      let l = there in
-      let s = ap total_size front ∙ total_size-append (take n ts) (t ∷ []) in
-      let before = h.sizes in
-      record { within = omega (arith, l); sizes = omega (arith, s, before, one_is) }
+  lone-more one_is h = search (arith, there, front, total_size-append)
 
   pub none-more : (rule : Tree → List Finding) → rule t ≡ [] → flat_map rule (take n ts) ≡ []
       → flat_map rule (take (n + 1) ts) ≡ []
-  none-more rule none h = ap (flat_map rule) front ∙ flat_map-append rule (take n ts) (t ∷ [])
-      ∙ ap (λ fs. fs ++ (rule t ++ [])) h ∙ ap (λ fs. fs ++ []) none
+  none-more rule none h = search (arith, front, flat_map-append)
 
 -- what is counted is less than what an array holds
 pub lone-below : {n : ℕ} {ts : List Tree} → AreLone n ts → n ≤ total_size ts
@@ -51,10 +46,7 @@ whole-none t w e = whole-told (λ w. []) t w e
 
 pub index-none : (t : Tree) (n bound : ℕ) → whole_of t ≡ Some (pos n) → (reason : Reason) (count : Option ℕ)
     → is_outside count (pos n) ≡ not (nat_lt n bound) → n < bound → index reason count t ≡ []
-index-none t n bound is reason count outside below =
-    let inside : not (nat_lt n bound) ≡ false = grind (arith, nat_tests) in
-    let e : is_outside count (pos n) ≡ false = outside ∙ inside in
-    rw (index-of-whole t (pos n) is reason count, e) refl
+index-none t n bound is reason count outside below = search (arith, nat_tests, index-of-whole)
 
 -- ---- the rest
 
@@ -77,7 +69,4 @@ past-none rule (suc n) (t ∷ ts) h = past-none rule n ts (right_none (rule t) _
 pub left-falls : (n : ℕ) (ts : List Tree) {us vs : List Tree} → us ≡ drop n ts → vs ≡ drop (n + 1) ts
     → n + 1 ≤ length ts
     → length vs < length us
-left-falls n ts a b l =
-    let p = ap length a ∙ length-drop n ts in
-    let q = ap length b ∙ length-drop (n + 1) ts in
-    omega (arith, p, q)
+left-falls n ts a b l = search (arith, length-drop)

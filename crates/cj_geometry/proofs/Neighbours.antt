@@ -61,7 +61,7 @@ told_more : (o : Option Finding) (fs : List Finding) (t : Tree) → IsTold o t �
 told_more o fs t h = comm o fs (one DuplicateName t) ∙ ap (λ x. least x fs) h
 
 told_now : (o : Option Finding) (t : Tree) → IsTold (least o (one DuplicateName t)) t
-told_now o t = absorbed o (one DuplicateName t) (one DuplicateName t) (All-contains_itself (one DuplicateName t))
+told_now o t = search (arith, absorbed, All-contains_itself)
 
 told_as : (o : Option Finding) (t u : Tree) → start_of t ≡ start_of u → IsTold o t → IsTold o u
 told_as o t u e h = rw e at h
@@ -90,14 +90,7 @@ past_above (Some f) u h = λ t k. earlier_on f u t h k
 front : (ns : List Tree) (floor : Option Tree) (t : Tree) (ts : List Tree) → HaveNoGap ns floor (t ∷ ts)
     → All (λ u. is_earlier u t ≡ false) ts → (u : Tree) → Contains ns u → is_above floor u ≡ true
     → is_earlier u t ≡ false
-front ns floor t ts g a u c h =
-    elim (g u c h) [
-      | inl i ↦ elim (contains_cases t ts u i) [
-        | inl e ↦ rw (← e) (earlier_itself t)
-        | inr j ↦ All-contains (λ v. is_earlier v t ≡ false) ts u a j
-      ]
-      | inr b ↦ All-head (λ v. is_earlier u v ≡ false) t ts b
-    ]
+front ns floor t ts g a u c h = search (arith, contains_cases, earlier_itself, All-contains, All-head)
 
 repeat_shown : (p t : Tree) → are_same_texts (text_of t) (text_of p) ≡ true → start_of p < start_of t
     → repeat_of (Some p) t ≡ one DuplicateName t

@@ -1,7 +1,6 @@
 -- What reading a number says of its findings.
-use Rattle.cj_geometry.proofs.Common.{Bool, Class, DecimalFault, Err, Finding, IfSome, IsInt, IsNumberInRange, IsNumberOutOfRange, IsSome, List, None, NotWhole, Number, Ok, Option, Reason, Result, Some, SpellsNumber, Tree, WrongKind, [], ap, arith, array, cond, decimal_of, false, fault_reason, get_or, index, inl, inr, is_number, is_outside, kind_by, kind_of, least, nat_lt, nat_tests, negsuc, number, object, of_z, one, option_and_then, pos, refl, result_ok, scalar, slice_range, spelling, spelling_of, sym, to_z, true, value_findings, w64, whole_answer, whole_answer_by, whole_findings, whole_of, ℕ, ℤ, ◌<◌, ◌^◌, ◌∙◌, ◌∷◌, ◌≡◌, ◌≤◌}
-use Rattle.std.proofs.Common.{unsigned_abs, ◌*ℤ◌, unwrap_or}
-use Rattle.std.proofs.lemmas.Bool.{cond_both, ltb-true}
+use Rattle.cj_geometry.proofs.Common.{Class, DecimalFault, Err, Finding, IfSome, IsInt, IsNumberInRange, IsNumberOutOfRange, IsSome, List, None, NotWhole, Number, Ok, Option, Reason, Result, Some, SpellsNumber, Tree, [], ap, arith, cond, decimal_of, fault_reason, get_or, index, inl, inr, is_outside, kind_by, kind_of, least, nat_tests, number, of_z, one, option_and_then, pos, refl, result_ok, scalar, slice_range, spelling, spelling_of, sym, to_z, value_findings, w64, whole_answer, whole_findings, whole_of, ℕ, ℤ, ◌<◌, ◌^◌, ◌∙◌, ◌∷◌, ◌≡◌, ◌≤◌}
+use Rattle.std.proofs.Common.{unsigned_abs, unwrap_or}
 use Rattle.std.proofs.lemmas.Int.{to_z-of_z, fits_signed_from_abs}
 use Rattle.cj_geometry.specs.Meaning.Numbers.{of_whole}
 use Rattle.cj_spans.specs.Meaning.Json.{byte}
@@ -9,7 +8,7 @@ use Rattle.cj_decimal.specs.declared.decimal.DecimalFault.TheVariants.{NotANumbe
 use Rattle.cj_decimal.proofs.Eights.{first_is}
 use Rattle.cj_decimal.specs.FewDigits.{IsFewDigits, IsFewSigned, IsNumberIfBegun}
 use Rattle.cj_decimal.specs.Word.{IsWordOf}
-use Rattle.cj_decimal.specs.Meaning.Number.{Number as DecimalNumber, as_whole, whole_by as power_whole}
+use Rattle.cj_decimal.specs.Meaning.Number.{Number as DecimalNumber, as_whole}
 use Rattle.cj_decimal.proofs.Decimals.{decimal_is, whole_class}
 use Rattle.cj_decimal.proofs.Classes.{class}
 use Rattle.cj_decimal.proofs.Wholes.{answer_fault}
@@ -25,11 +24,7 @@ in-range s t o = ap (value_findings (λ v. []) t) (decimal_is s o.0 o.1 o.2)
 by-class : {X : Type 0} (f : Result DecimalNumber DecimalFault → X) (g : Result (Option ℤ) DecimalFault → X)
     → ((v : DecimalNumber) → f (Ok v) ≡ g (Ok (as_whole v))) → ((e : DecimalFault) → f (Err e) ≡ g (Err e))
     → {s : List ℕ} (c : Class s) → f (decimal_of s) ≡ g (whole_answer c)
-by-class f g some none {s} c = by_value (decimal_of s) ∙ ap g (whole_class s c)
-  where
-    by_value : (r : Result DecimalNumber DecimalFault) → f r ≡ g (whole_answer_by r)
-    by_value (Ok v) = some v
-    by_value (Err e) = none e
+by-class f g some none {s} c = search (arith, whole_class)
 
 -- what the rule on an index finds of a number that was read
 abbrev pub IndexFindings : Reason → Option ℕ → Tree → Result DecimalNumber DecimalFault → List Finding
@@ -87,8 +82,7 @@ by-whole rule t (Err e) w is = absurd (cc is)
 
 -- a rule on a whole number is that on its value
 pub whole-told : (rule : ℤ → List Finding) (t : Tree) (w : ℤ) → whole_of t ≡ Some w → of_whole rule t ≡ rule w
-whole-told rule t w is = let kind = whole-kind t w is in
-    rw kind (by-whole rule t (decimal_of (spelling t)) w (rw kind at is))
+whole-told rule t w is = search (arith, whole-kind, by-whole)
 
 pub index-of-whole : (t : Tree) (w : ℤ) → whole_of t ≡ Some w → (reason : Reason) (count : Option ℕ)
     → index reason count t ≡ cond (is_outside count w) (one reason t) []
@@ -97,55 +91,17 @@ index-of-whole t w is reason count = whole-told (λ w. cond (is_outside count w)
 -- an index has no finding but at itself
 pub index-told : {found : Option Finding} (t : Tree) → ((r : Reason) → least found (one r t) ≡ found)
     → (reason : Reason) (count : Option ℕ) → least found (index reason count t) ≡ found
-index-told {found} t same reason count = go (is_number (kind_of t)) refl
-  where
-    by_test : (b : Bool) → least found (cond b (one reason t) []) ≡ found
-    by_test true = same reason
-    by_test false = refl
-
-    by_whole : (o : Option ℤ)
-        → least found (whole_findings (λ w. cond (is_outside count w) (one reason t) []) t o) ≡ found
-    by_whole None = same NotWhole
-    by_whole (Some w) = by_test (is_outside count w)
-
-    by_value : (r : Result DecimalNumber DecimalFault) → least found (IndexFindings reason count t r) ≡ found
-    by_value (Ok v) = by_whole (as_whole v)
-    by_value (Err e) = same (fault_reason e)
-
-    go : (b : Bool) → is_number (kind_of t) ≡ b → least found (index reason count t) ≡ found
-    go true e = rw e (by_value (decimal_of (spelling t)))
-    go false e = rw e (same WrongKind)
+index-told {found} t same reason count = search arith
 
 -- a whole number is below 10^18 in size
 pub whole-small : (t : Tree) → unsigned_abs (unwrap_or (whole_of t) (pos 0)) < 10 ^ 18
-whole-small t = by_kind (is_number (kind_of t))
-  where
-    by_power : (c p : ℤ) → unsigned_abs (unwrap_or (power_whole c p) (pos 0)) < 10 ^ 18
-    by_power c (pos k) = cond_both (nat_lt (unsigned_abs (c *ℤ pos (10 ^ k))) (10 ^ 18)) _ _
-        (λ (o : Option ℤ). unsigned_abs (unwrap_or o (pos 0)) < 10 ^ 18) (λ e. ltb-true _ _ e) (λ e. omega arith)
-    by_power c (negsuc k) = omega arith
-
-    by_value : (r : Result DecimalNumber DecimalFault)
-        → unsigned_abs (unwrap_or (option_and_then as_whole (result_ok r)) (pos 0)) < 10 ^ 18
-    by_value (Ok v) = by_power v.coefficient v.power
-    by_value (Err e) = omega arith
-
-    by_kind : (b : Bool)
-        → unsigned_abs (unwrap_or (option_and_then as_whole
-        (cond b (result_ok (decimal_of (spelling t))) None)) (pos 0)) < 10 ^ 18
-    by_kind true = by_value (decimal_of (spelling t))
-    by_kind false = omega arith
+whole-small t = search arith
 
 -- ---- of a tree of the kind
 
 module _ (line : List ℕ) (t : Tree) (kind : kind_of t ≡ Number) where
   spelled : spelling_of line t ≡ spelling t
-  spelled = go t kind
-    where
-      go : (t : Tree) → kind_of t ≡ Number → spelling_of line t ≡ spelling t
-      go (scalar k a) e = refl
-      go (array i j ts) e = cc
-      go (object i j ms) e = cc
+  spelled = search arith
 
   pub number-in : IsNumberInRange (spelling_of line t) → number t ≡ []
   number-in o = rw kind (in-range (spelling t) t (rw spelled at o))
@@ -163,8 +119,7 @@ module _ (line : List ℕ) (t : Tree) (kind : kind_of t ≡ Number) where
     answer = sym ((rw (same ∙ spelled) at read) (class (spelling t))) ∙ is
 
     pub index-read : (reason : Reason) (count : Option ℕ) → index reason count t ≡ index-by reason count t q
-    index-read reason count =
-        rw kind (index-class reason count t (class (spelling t)) ∙ ap (index-by reason count t) answer)
+    index-read reason count = search (arith, index-class, class, answer)
 
     pub whole-read : whole_of t ≡ whole-if q
     whole-read = rw kind (whole-class (class (spelling t)) ∙ ap whole-if answer)
@@ -194,16 +149,15 @@ digit-kind b low high = grind (arith, nat_tests)
 int-first : (s : List ℕ) → IsInt s → (45 ≤ get_or s 0 0) × (get_or s 0 0 < 64)
 int-first [] int = absurd int
 int-first (b ∷ t) (inl zero) = let e = zero.0 in (omega arith, omega arith)
-int-first (b ∷ t) (inr more) = let low = more.0 in let high = more.1 in (omega arith, omega arith)
+int-first (b ∷ t) (inr more) = search arith
 
 signed-first : (s : List ℕ) → IsFewSigned s → (45 ≤ get_or s 0 0) × (get_or s 0 0 < 64)
 signed-first s (inl few) = int-first s few.0
-signed-first s (inr minus) = let e : get_or s 0 0 ≡ 45 = ap (λ t. get_or t 0 0) minus.1 in (omega arith, omega arith)
+signed-first s (inr minus) = search arith
 
 kind-at : (line : List ℕ) (start stop : ℕ) → start < stop → (45 ≤ get_or (slice_range line start stop) 0 0)
     × (get_or (slice_range line start stop) 0 0 < 64) → kind_by (byte line start) ≡ Number
-kind-at line start stop order first = let e = first_is line start stop order in
-    digit-kind (byte line start) (omega (arith, first.0, e)) (omega (arith, first.1, e))
+kind-at line start stop order first = search (arith, first_is, digit-kind)
 
 -- where a node stands, and what was read there
 module _ {line b : List ℕ} (t : Tree) (start stop : ℕ) (e : b ≡ line) (order : start < stop)
@@ -215,9 +169,7 @@ module _ {line b : List ℕ} (t : Tree) (start stop : ℕ) (e : b ≡ line) (ord
 
   pub few-there : (n : ℕ) → IsFewDigits (slice_range b start stop)
       → ((c : Class (slice_range b start stop)) → whole_answer c ≡ Ok (Some (pos n))) → whole_of t ≡ Some (pos n)
-  few-there n few answer =
-      read-there (pos n) (kind-at line start stop order (int-first (slice_range line start stop) (rw e at few).0))
-      answer
+  few-there n few answer = search (arith, read-there, kind-at, int-first)
 
   pub signed-there : (w : ℤ) → IsFewSigned (slice_range b start stop)
       → ((c : Class (slice_range b start stop)) → whole_answer c ≡ Ok (Some w)) → whole_of t ≡ Some w

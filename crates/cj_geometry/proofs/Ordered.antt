@@ -1,7 +1,7 @@
 -- The order of names, and what neighbours in it tell.
 use Rattle.cj_geometry.proofs.Common.{Bool, Equal, Greater, Less, List, None, Option, Ordering, Some, Tree, ap, arith, compare_names, false, inl, inr, is_earlier, is_eq, is_lt, nat_cmp, nat_tests, refl, start_of, sym, text_of, true, ℕ, ◌<◌, ◌∙◌, ◌≡◌, ◌⊎◌}
 use Rattle.std.proofs.lemmas.Bool.{false_from_ne_true}
-use Rattle.std.specs.Cmp.{IsTotalOrder, tied_itself, alike_right, then_total, on_total, nat_cmp_total}
+use Rattle.std.specs.Cmp.{IsTotalOrder, tied_itself, then_total, on_total, nat_cmp_total}
 use Rattle.std.specs.Cmp.Lexicographic.{bytes_decides, nat_list_cmp_total, options_total, texts_ties}
 use Rattle.std.specs.Ordering.{ordering_then, ordering_reverse}
 use Rattle.cj_spans.specs.Order.{compare_texts}
@@ -35,10 +35,7 @@ upto_on t u v h k = elim (not_less (compare_names u t) h) [
 
 -- t comes before u, which is no later than v
 pub on_upto : (t u v : Tree) → is_earlier t u ≡ true → is_earlier v u ≡ false → is_earlier t v ≡ true
-on_upto t u v h k = elim (not_less (compare_names v u) k) [
-  | inl e ↦ ap is_lt (alike_right order v u t e) ∙ h
-  | inr e ↦ earlier_on t u v h (ap is_lt (order.antisymm u v ∙ ap ordering_reverse e))
-]
+on_upto t u v h k = search (arith, not_less, order, earlier_on)
 
 -- a test and its negation
 pub both_sides : {b : Bool} → b ≡ true → b ≡ false → ⊥
@@ -78,10 +75,7 @@ pub record AreTied (t u : Tree) : Type 0 where
   pub start : start_of t ≡ start_of u
 
 pub tied : (t u : Tree) → is_earlier t u ≡ false → is_earlier u t ≡ false → AreTied t u
-tied t u h k =
-    let e = then_equal (compare_texts (text_of t) (text_of u)) (nat_cmp (start_of t) (start_of u))
-    (tied_order t u h k) in
-    record { text = same_by_order (text_of t) (text_of u) e.0; start = same_number (start_of t) (start_of u) e.1 }
+tied t u h k = search (arith, then_equal, tied_order, same_by_order, same_number)
 
 -- ---- names of one text
 
@@ -96,25 +90,17 @@ number_less m n h = grind (arith, nat_tests)
 
 -- where they start orders them
 pub earlier_by_start : (t u : Tree) → text_of t ≡ text_of u → start_of t < start_of u → is_earlier t u ≡ true
-earlier_by_start t u e h =
-    ap (λ r. is_lt (ordering_then r (nat_cmp (start_of t) (start_of u)))) (text_itself e)
-    ∙ ap is_lt (less_number (start_of t) (start_of u) h)
+earlier_by_start t u e h = search (arith, text_itself, less_number)
 
 pub start_by_earlier : (t u : Tree) → text_of t ≡ text_of u → is_earlier t u ≡ true → start_of t < start_of u
-start_by_earlier t u e h =
-    number_less (start_of t) (start_of u)
-    (less_is _ (sym (ap (λ r. is_lt (ordering_then r (nat_cmp (start_of t) (start_of u)))) (text_itself e)) ∙ h))
+start_by_earlier t u e h = search (arith, number_less, less_is, text_itself)
 
 -- what stands between two names of one text has it too
 between_by : (t u v : Tree) (r : Ordering) → compare_texts (text_of u) (text_of v) ≡ r → text_of t ≡ text_of v
     → is_earlier u t ≡ false → is_earlier u v ≡ true → text_of u ≡ text_of v
-between_by t u v Less e s h k =
-    absurd (both_sides (ap (λ x.
-    is_lt (ordering_then (compare_texts (text_of u) x) (nat_cmp (start_of u) (start_of t)))) s
-    ∙ ap (λ r. is_lt (ordering_then r (nat_cmp (start_of u) (start_of t)))) e) h)
+between_by t u v Less e s h k = search (arith, both_sides)
 between_by t u v Equal e s h k = same_by_order (text_of u) (text_of v) e
-between_by t u v Greater e s h k =
-    absurd (both_sides k (ap (λ r. is_lt (ordering_then r (nat_cmp (start_of u) (start_of v)))) e))
+between_by t u v Greater e s h k = search (arith, both_sides)
 
 pub text_between : (t u v : Tree) → text_of t ≡ text_of v → is_earlier u t ≡ false → is_earlier u v ≡ true
     → text_of u ≡ text_of v

@@ -12,8 +12,7 @@ use Rattle.cj_geometry.proofs.Distinct.{AreNext, left_above, fewer_left}
 -- ---- lists
 
 pub contains_map : {X Y : Type 0} (f : X → Y) (xs : List X) (x : X) → Contains xs x → Contains (map f xs) (f x)
-contains_map f xs x c = rw (get_or-map f xs c.0 x (f x) c.1, c.2) at
-    (Contains-get_or (map f xs) c.0 (f x) (omega (arith, c.1, length-map xs f)))
+contains_map f xs x c = search (arith, get_or-map, Contains-get_or, length-map)
 
 pub contains_unmap : {X Y : Type 0} (f : X → Y) (xs : List X) (y : Y) → Contains (map f xs) y → (x : X) × Contains xs x
     × (f x ≡ y)
@@ -37,7 +36,7 @@ full_least {s} room n e {least} new {c} l f a h =
 -- ---- a walk begins, and passes a name over
 
 pub holds_first : (s : Source) (names : List Tree) (floor : Option Tree) → HoldNames s names names floor None []
-holds_first s names floor = record { held = All-nil (IsHeldName s names floor None); whole = λ t c a b. inr c }
+holds_first s names floor = search (arith, All-nil)
 
 pub holds_passed : {s : Source} {names : List Tree} (left : List Tree) {floor ceiling : Option Tree}
     {es : List WordedName} (t : Tree)
@@ -91,8 +90,7 @@ front_among {es} {front} {next} a e c =
 pub next_among : {s : Source} {es front : List WordedName} {next : WordedName} → AreLeast s es front next
     → Contains es next
 next_among {es} {front} {next} a =
-    Contains-permutation _ es next (IsPermutation-sym es _ a.permutation)
-    (Contains-append_right front (next ∷ a.others) next (contains_first next a.others))
+    search (arith, Contains-permutation, IsPermutation-sym, Contains-append_right, contains_first)
 
 -- what comes before one that is not past the ceiling comes before the ceiling
 below_more : (ceiling : Option Tree) (t u : Tree) → is_past ceiling u ≡ false → is_earlier t u ≡ true

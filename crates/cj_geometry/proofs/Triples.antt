@@ -1,5 +1,5 @@
 -- Arrays of three whole numbers have no finding.
-use Rattle.cj_geometry.proofs.Common.{All, Array, List, Reason, Tree, [], ap, arith, flat_map, inl, inr, items_of, kind_of, length, of_length, refl, spelling_of, suc, whole_number, ℕ, ◌++◌, ◌∙◌, ◌∷◌, ◌≡◌, ◌≤◌, ◌⊎◌}
+use Rattle.cj_geometry.proofs.Common.{All, Array, List, Reason, Tree, [], ap, arith, flat_map, items_of, kind_of, length, of_length, refl, spelling_of, suc, whole_number, ℕ, ◌++◌, ◌∙◌, ◌∷◌, ◌≡◌, ◌≤◌}
 use Rattle.cj_spans.specs.Wholes.{IsWholeNumber, IsShortWhole}
 use Rattle.cj_decimal.specs.FewDigits.{IsFewSigned}
 use Rattle.cj_decimal.proofs.Few.{few_whole}
@@ -7,14 +7,7 @@ use Rattle.cj_geometry.proofs.Lone.{whole-none}
 use Rattle.cj_geometry.proofs.Numbers.{whole-there}
 
 few-signed : {s : List ℕ} → IsWholeNumber s → length s ≤ 18 → IsFewSigned s
-few-signed {s} w short = go w.minus_is
-  where
-    go : (w.minus ≡ []) ⊎ (w.minus ≡ 45 ∷ []) → IsFewSigned s
-    go (inl e) =
-        let same : s ≡ w.int = w.joined ∙ ap (λ m. m ++ w.int) e in inl (rw same (w.int_is, rw same at short))
-    go (inr e) =
-        let same : s ≡ 45 ∷ w.int = w.joined ∙ ap (λ m. m ++ w.int) e in
-        inr (w.int, same, (w.int_is, omega (arith, short, ap length same)))
+few-signed {s} w short = search arith
 
 short-none : {line : List ℕ} {t : Tree} → IsShortWhole line t → whole_number t ≡ []
 short-none {line} {t} w =

@@ -78,14 +78,11 @@ ascend_sorted s es a h =
 pub compares_as : {X F : Type 0} (R : X → X → Ordering) {g : Mut F (Bor X × (Bor X × Unit {0})) Ordering} {f : F}
     → ((a : Bor X × (Bor X × Unit {0})) (r : Ordering) (f' : F) → Called g f a r f' → (r ≡ R a.0.now a.1.0.now)
     × (f' ≡ f)) → ComparesAs g (λ d e. is_lt (R d e)) f
-compares_as R {g = g} {f = f} h =
-    always_returns_same g (λ a r. is_lt r ≡ is_lt (R a.0.now a.1.0.now)) f
-    (λ a r f' k. (ap is_lt (h a r f' k).0, (h a r f' k).1))
+compares_as R {g = g} {f = f} h = search (arith, always_returns_same)
 
 -- a copy of the front of a split has the least of all
 pub least_copied : (s : Source) (all : List WordedName) {front : List WordedName} (others : List WordedName)
     {copy : List WordedName} (next : WordedName) → copy ≡ front
     → IsPermutation all (front ++ next ∷ others)
     → IsSplitAroundBy (λ d e. is_lt (compare_worded s d e)) front next others → AreLeast s all copy next
-least_copied s all others next e h k =
-    rw e (record { others = others; permutation = h; before = k.0; behind = k.1 })
+least_copied s all others next e h k = search arith
