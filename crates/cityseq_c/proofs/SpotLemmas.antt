@@ -27,18 +27,7 @@ module _ (rules : Rules) (h : Line) where
       → is_kept (verdict rules (h ∷ bs) x.line.content) ≡ true
   kept-verdict bs ys [] x xs e = absurd (cc e)
   kept-verdict bs ys (l ∷ ls) x xs e =
-      go (kept-verdict bs (ys ++ l ∷ []) ls x xs) (is_kept (verdict rules (h ∷ ys) l.content)) refl e
-    where
-      go : (kept_from rules (h ∷ ys ++ l ∷ []) ls ≡ x ∷ xs → is_kept (verdict rules (h ∷ bs) x.line.content) ≡ true)
-          → (k : Bool) → is_kept (verdict rules (h ∷ ys) l.content) ≡ k
-          → cond k (item_after rules (h ∷ ys) l ∷ kept_from rules (h ∷ ys ++ l ∷ []) ls)
-          (kept_from rules (h ∷ ys ++ l ∷ []) ls) ≡ x ∷ xs
-          → is_kept (verdict rules (h ∷ bs) x.line.content) ≡ true
-      go later true is f =
-          let first : item_after rules (h ∷ ys) l ≡ x = cc in
-          let content : l.content ≡ x.line.content = ap (λ i. i.line.content) first in
-          ap is_kept (ap (λ c. verdict rules (h ∷ bs) c) (sym content) ∙ after-same rules h bs ys l.content) ∙ is
-      go later false is f = later f
+      grind (arith, kept-verdict bs (ys ++ l ∷ []) ls x xs, after-same rules h bs ys l.content)
 
   -- and each item is a feature
   later-feature : (ys : List Line) (l : Line) → is_feature (item_after rules (h ∷ ys) l) ≡ true
@@ -49,30 +38,14 @@ module _ (rules : Rules) (h : Line) where
   kept-feature : (ys ls : List Line) (x : Item) (xs : List Item) → kept_from rules (h ∷ ys) ls ≡ x ∷ xs
       → is_feature x ≡ true
   kept-feature ys [] x xs e = absurd (cc e)
-  kept-feature ys (l ∷ ls) x xs e =
-      go (kept-feature (ys ++ l ∷ []) ls x xs) (is_kept (verdict rules (h ∷ ys) l.content)) e
-    where
-      go : (kept_from rules (h ∷ ys ++ l ∷ []) ls ≡ x ∷ xs → is_feature x ≡ true) → (k : Bool)
-          → cond k (item_after rules (h ∷ ys) l ∷ kept_from rules (h ∷ ys ++ l ∷ []) ls)
-          (kept_from rules (h ∷ ys ++ l ∷ []) ls) ≡ x ∷ xs → is_feature x ≡ true
-      go later true f =
-          let first : item_after rules (h ∷ ys) l ≡ x = cc in
-          ap is_feature (sym first) ∙ later-feature ys l
-      go later false f = later f
+  kept-feature ys (l ∷ ls) x xs e = grind (arith, kept-feature (ys ++ l ∷ []) ls x xs, later-feature ys l)
 
   -- a line that is not kept has the content of no later one that is
   not-same : (bs : List Line) (l : Line) (ys ls : List Line) (x : Item) (xs : List Item)
       → is_kept (verdict rules (h ∷ bs) l.content) ≡ false → kept_from rules (h ∷ ys) ls ≡ x ∷ xs
       → bytes_eq l.content x.line.content ≡ false
-  not-same bs l ys ls x xs dropped e = go (bytes_eq l.content x.line.content) refl
-    where
-      go : (k : Bool) → bytes_eq l.content x.line.content ≡ k → k ≡ false
-      go false is = refl
-      go true is =
-          let same : l.content ≡ x.line.content = (bytes_eq-Decides l.content x.line.content).0 is in
-          let kept : is_kept (verdict rules (h ∷ bs) l.content) ≡ true =
-          ap (λ c. is_kept (verdict rules (h ∷ bs) c)) same ∙ kept-verdict bs ys ls x xs e in
-          cc (dropped, kept)
+  not-same bs l ys ls x xs dropped e =
+      grind (arith, kept-verdict bs ys ls x xs e, bytes_eq-Decides l.content x.line.content)
 
   -- so the search passes it over
   found-skip : (n b : ℕ) (bs : List Line) (l : Line) (ys ls zs : List Line) (is : List Item)
@@ -94,29 +67,15 @@ module _ (rules : Rules) (h : Line) where
       ≡ filter is_feature_spot (spots_from rules (h ∷ bs) ls)
   found-kept bs [] more n b number begin = refl
   found-kept bs (l ∷ ls) more n b number begin =
-      go (found-kept (bs ++ l ∷ []) ls more (n + 1) (b + length (raw l))
-      (omega (arith, number, length-append bs (l ∷ []))) (omega (arith, begin, raw-more bs l)))
-      (is_kept (verdict rules (h ∷ bs) l.content)) refl
-    where
-      go : found_from (record { line = n + 1; begin = b + length (raw l); left = ls ++ more })
-          (kept_from rules (h ∷ bs ++ l ∷ []) ls) ≡ filter is_feature_spot (spots_from rules (h ∷ bs ++ l ∷ []) ls)
-          → (k : Bool) → is_kept (verdict rules (h ∷ bs) l.content) ≡ k
-          → found_from (record { line = n; begin = b; left = l ∷ ls ++ more })
-          (cond k (item_after rules (h ∷ bs) l ∷ kept_from rules (h ∷ bs ++ l ∷ []) ls)
-          (kept_from rules (h ∷ bs ++ l ∷ []) ls))
-          ≡ filter is_feature_spot
-          (cond k (spot_after rules (h ∷ bs) l ∷ spots_from rules (h ∷ bs ++ l ∷ []) ls)
-          (spots_from rules (h ∷ bs ++ l ∷ []) ls))
-      go later true is =
-          let same : bytes_eq l.content l.content ≡ true = (bytes_eq-Decides l.content l.content).1 refl in
-          let x = item_after rules (h ∷ bs) l in
-          let spot : (record { line = n; begin = b; item = x }) ≡ spot_after rules (h ∷ bs) l =
-          rw (number, begin) refl in
-          rw (later-feature bs l, same)
-          (ap (λ s. s ∷ found_from (record { line = n + 1; begin = b + length (raw l); left = ls ++ more })
-          (kept_from rules (h ∷ bs ++ l ∷ []) ls)) spot ∙ ap (λ z. spot_after rules (h ∷ bs) l ∷ z) later)
-      go later false is =
-          found-skip n b bs l (bs ++ l ∷ []) ls (ls ++ more) (kept_from rules (h ∷ bs ++ l ∷ []) ls) is refl ∙ later
+      grind (
+        arith,
+        found-kept (bs ++ l ∷ []) ls more (n + 1) (b + length (raw l)),
+        found-skip n b bs l (bs ++ l ∷ []) ls (ls ++ more) (kept_from rules (h ∷ bs ++ l ∷ []) ls),
+        bytes_eq-Decides l.content l.content,
+        later-feature bs l,
+        length-append bs (l ∷ []),
+        raw-more bs l,
+      )
 
 -- the features that are kept of the good lines of a stream, whose first line is e
 module _ (rules : Rules) (e : Line) (left : List Line) where
