@@ -75,7 +75,14 @@ def check(
         RequestError: An argument has a value that it may not have.
         LibraryMissing: The library is not there, or it is another version.
     """
-    made = Options(Limits(line_limit, depth), keep_going, tree, jobs, part_size, extensions)
+    made = Options(
+        Limits(line_limit, depth),
+        keep_going=keep_going,
+        tree=tree,
+        jobs=jobs,
+        part_size=part_size,
+        extensions=extensions,
+    )
     how = one_options(options, made)
     work = work_of("check", how)
     with watched(progress, [source]) as done:
@@ -112,7 +119,14 @@ def check_files(
         RequestError: An argument has a value that it may not have.
         LibraryMissing: The library is not there, or it is another version.
     """
-    made = Options(Limits(line_limit, depth), keep_going, tree, jobs, part_size, extensions)
+    made = Options(
+        Limits(line_limit, depth),
+        keep_going=keep_going,
+        tree=tree,
+        jobs=jobs,
+        part_size=part_size,
+        extensions=extensions,
+    )
     how = one_options(options, made)
     listed = list(sources) if progress is True else sources
     return _checked(listed, whole, work_of("check", how), how, on_report, progress)
@@ -190,7 +204,14 @@ def filter(
         RequestError: An argument has a value that it may not have, or the output is the source.
         LibraryMissing: The library is not there, or it is another version.
     """
-    made = Options(Limits(line_limit, depth), keep_going, tree, jobs, part_size, extensions)
+    made = Options(
+        Limits(line_limit, depth),
+        keep_going=keep_going,
+        tree=tree,
+        jobs=jobs,
+        part_size=part_size,
+        extensions=extensions,
+    )
     how = one_options(options, made)
     work = work_of("filter", how, one_query(query, Query(ids, types, lods, box, exclude)))
     refuse_same([source], [output])
@@ -235,7 +256,13 @@ def info(
         RequestError: An argument has a value that it may not have.
         LibraryMissing: The library is not there, or it is another version.
     """
-    made = Options(Limits(line_limit, depth), False, tree, jobs, part_size, extensions)
+    made = Options(
+        Limits(line_limit, depth),
+        tree=tree,
+        jobs=jobs,
+        part_size=part_size,
+        extensions=extensions,
+    )
     how = one_options(options, made)
     work = work_of("info", how, exact_lods=exact_lods)
     with watched(progress, [source]) as done:
@@ -278,7 +305,8 @@ def features(
     from .run.features import features as listed  # few runs need it
 
     how = one_options(
-        options, Options(Limits(line_limit, depth), keep_going, tree, extensions=extensions)
+        options,
+        Options(Limits(line_limit, depth), keep_going=keep_going, tree=tree, extensions=extensions),
     )
     work = work_of("filter", how, one_query(query, Query(ids, types, lods, box, exclude)))
     return listed(source, work)
@@ -321,7 +349,8 @@ def table(
     from .run.features import table as tabled  # few runs need it
 
     how = one_options(
-        options, Options(Limits(line_limit, depth), keep_going, tree, extensions=extensions)
+        options,
+        Options(Limits(line_limit, depth), keep_going=keep_going, tree=tree, extensions=extensions),
     )
     work = work_of("filter", how, one_query(query, Query(ids, types, lods, box, exclude)))
     if attributes is None:
@@ -380,7 +409,14 @@ def index(
     from .indexes.index_run import checked
     from .indexes.index_run import index as indexed
 
-    made = Options(Limits(line_limit, depth), keep_going, tree, jobs, part_size, extensions)
+    made = Options(
+        Limits(line_limit, depth),
+        keep_going=keep_going,
+        tree=tree,
+        jobs=jobs,
+        part_size=part_size,
+        extensions=extensions,
+    )
     how = one_options(options, made)
     work, named = work_of("check", how), checked(paths, output)
     wanted = Wanted(footprints, None if attributes is None else checked_names(attributes))

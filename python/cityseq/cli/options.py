@@ -77,7 +77,8 @@ def _format(text: str) -> str:
 
 
 class Option(Generic[T]):
-    """An option. As an attribute of a request it is its usual value, or the one that is given.
+    """An option. As an attribute of a request it is its usual value. A given value stands in
+    the `__dict__` of the request, which hides the usual one, since there is no `__set__`.
 
     Attributes:
         field: The name of the attribute.
@@ -190,7 +191,7 @@ SUMMARY = flag("Count how often each reason occurs, and write no reports")
 PROGRESS = flag("Show the progress on standard error")
 QUIET = flag("Write only faults; the status gives the result", "q")
 RECORD = wanted("Append the state and the result of each FILE to this file", "RECORD", str)
-LACKING = flag("")  # an option that a command lacks
+LACKING = flag("")  # of a base class: a command that has no such option takes it as false
 RUNS = FILES_FROM, NULL, JOBS, PART_SIZE
 PRINTING = JSON, SHA256, MAX_REPORTS, SUMMARY, PROGRESS, QUIET
 
@@ -222,7 +223,12 @@ class Request:
         """How lines are judged."""
         given: Any = self  # not each command has all of these
         limits = Limits(given.line_limit, given.depth)
-        return Options(limits, given.keep_going, given.tree, extensions=given.extensions)
+        return Options(
+            limits,
+            keep_going=given.keep_going,
+            tree=given.tree,
+            extensions=given.extensions,
+        )
 
     @property
     def options(self) -> dict[str, Any]:

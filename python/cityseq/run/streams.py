@@ -294,7 +294,7 @@ class _Run:
 
     Attributes:
         stream: The stream.
-        is_sliced: Whether threads read it: one call at a time reads and judges some chunks.
+        is_read_by_pool: Whether threads read it: one call at a time reads and judges some chunks.
         chunks: The chunks that no call has.
         calls: The calls whose answers have not been joined, in order.
         held: Answers that wait until the results of the streams before were given.
@@ -304,7 +304,7 @@ class _Run:
     """
 
     stream: Stream
-    is_sliced: bool
+    is_read_by_pool: bool
     chunks: Generator[Chunk, None, None]
     calls: deque[Any] = field(default_factory=deque)
     held: deque[list[Answer]] = field(default_factory=deque)
@@ -354,8 +354,9 @@ class _Order:
     """The runs that have begun, in order.
 
     A thread that judges a chunk of a file also reads it. The thread that asks for the results reads
-    all pipes and sockets, since a read may wait for ever. Packed files are read in pool threads if
-    there are several, or only one thread."""
+    all pipes and sockets, since a read may wait for ever. It also reads a packed file that is the
+    only stream. If there are more streams, or the pool has one thread, the pool reads packed files.
+    """
 
     def __init__(
         self, submit: Callable[[Callable[[], Answers]], Any], ahead: Callable[[], int]
@@ -368,10 +369,10 @@ class _Order:
     def results(self, streams: Iterable[tuple[Stream, bool]]) -> Results:
         """Yields the result of each stream. Takes with each whether threads read it."""
         try:
-            for stream, is_sliced in streams:
-                run = _Run(stream, is_sliced, iter(stream.chunks))
+            for stream, is_read_by_pool in streams:
+                run = _Run(stream, is_read_by_pool, iter(stream.chunks))
                 self._runs.append(run)
-                if not is_sliced:
+                if not is_read_by_pool:
                     yield from self._read(run)
                 yield from self._taken(self._ahead())
             yield from self._taken(0)
@@ -395,7 +396,7 @@ class _Order:
         while self._runs:
             run = self._runs[0]
             run.release()  # first: a stream that holds answers begins no call
-            self._begin_slices()
+            self._begin_reads()
             if run.calls:
                 are_many = sum(len(each.calls) + len(each.held) for each in self._runs) > most
                 if not run.calls[0].done() and not are_many and len(self._runs) < MOST_RUNS:
@@ -412,11 +413,11 @@ class _Order:
         self._runs.popleft()
         return result
 
-    def _begin_slices(self) -> None:
+    def _begin_reads(self) -> None:
         """Takes the answers of calls that have ended, and begins the next calls of streams that
         threads read."""
         for number, run in enumerate(self._runs):
-            if not run.is_sliced:
+            if not run.is_read_by_pool:
                 continue
             if number and run.calls and run.calls[0].done():
                 run.take(False)
