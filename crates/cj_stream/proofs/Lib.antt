@@ -60,5 +60,6 @@ pub mod TallyLemmas
 pub mod TallyPartsLemmas
 pub mod TallySinkLemmas
 pub mod TookLemmas
+pub mod OldRecords
 pub mod VerdictLemmas
 pub mod WholeCounts
