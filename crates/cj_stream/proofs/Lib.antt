@@ -60,6 +60,5 @@ pub mod TallyLemmas
 pub mod TallyPartsLemmas
 pub mod TallySinkLemmas
 pub mod TookLemmas
-pub mod OldRecords
 pub mod VerdictLemmas
 pub mod WholeCounts
