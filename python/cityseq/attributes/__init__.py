@@ -345,7 +345,7 @@ def columns_of(texts: Sequence[bytes], names: Asked) -> Columns:
     return _some(texts, names)
 
 
-def _number_told(value: Any) -> Any:
+def _number_told(value: object) -> Any:
     """Returns a value as Python reads JSON."""
     return _TOLD.decode(value) if isinstance(value, Spelled) else value
 

@@ -79,7 +79,7 @@ class ColumnNames:
         return made
 
 
-def _kind(value: Any) -> int:
+def _kind(value: object) -> int:
     """Returns the kind of a value that is not None."""
     if isinstance(value, Spelled):
         number = number_of(value)
@@ -106,7 +106,7 @@ def _kinds(values: Sequence[Any]) -> int:
     return found
 
 
-def _spelling(value: Any) -> str | None:
+def _spelling(value: object) -> str | None:
     """Returns a value as it is spelled."""
     if value is None or isinstance(value, str):
         return value

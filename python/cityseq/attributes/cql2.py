@@ -256,7 +256,7 @@ def parsed(text: str) -> Filter:
         raise RequestError(words) from None
 
 
-def _is_end(fault: Any) -> bool:
+def _is_end(fault: object) -> bool:
     return getattr(getattr(fault, "token", None), "type", "") == "$END"
 
 
@@ -354,7 +354,7 @@ class Pattern:
         return -1
 
 
-def is_like(pattern: Any, text: Any, look: Callable[[], object]) -> bool | None:
+def is_like(pattern: object, text: object, look: Callable[[], object]) -> bool | None:
     """Returns whether a text is like a pattern. None for other values."""
     if not isinstance(text, str) or not isinstance(pattern, str):
         return None
@@ -364,7 +364,7 @@ def is_like(pattern: Any, text: Any, look: Callable[[], object]) -> bool | None:
 _pattern_of = lru_cache(maxsize=256)(Pattern)
 
 
-def instant(text: Any) -> str | None:
+def instant(text: object) -> str | None:
     """Returns a date and a time in UTC, so that texts have the order of the times. None for other
     values."""
     if not isinstance(text, str) or FORMATS["date-time"].fullmatch(text) is None:

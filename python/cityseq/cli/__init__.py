@@ -187,7 +187,7 @@ class Stopped(BaseException):
         self.name, self.value = signal.Signals(number).name, number
 
 
-def _stop(number: int, _frame: Any) -> NoReturn:
+def _stop(number: int, _frame: object) -> NoReturn:
     raise Stopped(number)
 
 

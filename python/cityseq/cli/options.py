@@ -97,10 +97,10 @@ class Option(Generic[T]):
     ) -> None:
         self.help, self.value, self.read, self.usual, self.short = help, value, read, usual, short
 
-    def __set_name__(self, _: Any, field: str) -> None:
+    def __set_name__(self, _: object, field: str) -> None:
         self.field = field
 
-    def __get__(self, request: Any, command: Any = None) -> T:
+    def __get__(self, request: object, command: object = None) -> T:
         return self.usual
 
     @property
@@ -214,7 +214,7 @@ class Request:
     recorded: ClassVar[tuple[str, ...]] = RULES
     files_from, null, keep_going = FILES_FROM, NULL, LACKING
 
-    def __init__(self, files: Iterable[str] = (), **fields: Any) -> None:
+    def __init__(self, files: Iterable[str] = (), **fields: object) -> None:
         self.files = list(files)
         vars(self).update(fields)
 

@@ -162,7 +162,7 @@ class Run:
     def __enter__(self) -> Run:
         return self
 
-    def __exit__(self, kind: Any, *_: Any) -> None:
+    def __exit__(self, kind: object, *_: object) -> None:
         if self._hashes is not None and kind is None:
             # after a fault the process ends without the digest of a long file
             self._hashes.__exit__()

@@ -78,7 +78,7 @@ class _Output:
         self._packer = None if packing is None else Packer(to, packing, LEVEL)
         self.put: Callable[[Any], Any] = self.write if self._packer is None else self._packer.write
 
-    def write(self, text: Any) -> None:
+    def write(self, text: object) -> None:
         """Writes bytes as they are."""
         self.digest.add(text)
         self._file.write(text)
@@ -141,7 +141,7 @@ def write_part(chunk: RangeChunk, folder: Folder, work: Work) -> Answer:
     return PartAnswer(**vars(joined), part=part)
 
 
-def _checked(call: Callable[..., Any], name: str, *given: Any) -> Any:
+def _checked(call: Callable[..., Any], name: str, *given: object) -> Any:
     """Makes a call that writes. Raises `WriteFault` if it fails, in words that have no URL."""
     try:
         return call(*given)

@@ -135,7 +135,7 @@ def data_of(reports: Sequence[Report], files: Sequence[File], room: int) -> tupl
     return f'{told[:-1]},"rows":[{",".join(rows)}]}}', len(rows)
 
 
-def _json(told: Any) -> str:
+def _json(told: object) -> str:
     """Returns JSON that no reader of HTML takes for a tag or the end of a script."""
     text = json.dumps(told, ensure_ascii=False, separators=(",", ":"))
     for sign in "<>&\u2028\u2029":

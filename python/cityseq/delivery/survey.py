@@ -223,7 +223,7 @@ class Ids:
     def __enter__(self) -> Ids:
         return self
 
-    def __exit__(self, *_: Any) -> None:
+    def __exit__(self, *_: object) -> None:
         self._base.close()
 
     def add(self, file: int, lines: Any, ids: list[bytes]) -> None:
@@ -284,7 +284,7 @@ class Survey:
     def __enter__(self) -> Survey:
         return self
 
-    def __exit__(self, *_: Any) -> None:
+    def __exit__(self, *_: object) -> None:
         self._ids.__exit__()
 
     def begin(self, number: int, header: bytes) -> Entry:

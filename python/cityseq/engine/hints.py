@@ -107,15 +107,15 @@ def _word_at(line: bytes, place: int) -> str | None:
     return found.group().decode("ascii") if found else None
 
 
-def _list(value: Any) -> list[Any]:
+def _list(value: object) -> list[Any]:
     return value if isinstance(value, list) else []
 
 
-def _members(value: Any) -> dict[str, Any]:
+def _members(value: object) -> dict[str, Any]:
     return value if isinstance(value, dict) else {}
 
 
-def _of_geometry(geometry: Any) -> Iterator[Needs]:
+def _of_geometry(geometry: object) -> Iterator[Needs]:
     told = _members(geometry)
     if told.get("type") == "GeometryInstance":
         yield "the instance", told, ("type", "template", "boundaries", "transformationMatrix")

@@ -175,7 +175,7 @@ class Database:
         """Gives SQL the functions that filters call."""
         from ..attributes.cql2 import INSTANT, LIKE, instant, is_like  # few runs need it
 
-        def is_like_soon(pattern: Any, text: Any) -> bool | None:
+        def is_like_soon(pattern: object, text: object) -> bool | None:
             try:
                 return is_like(pattern, text, self._look)
             except BaseException as stop:
@@ -329,7 +329,7 @@ def _is_within(limits: tuple[int, float]) -> Test:
 _is_count, _is_flag = _is_within((0, inf)), _is_within((0, 1))
 
 
-def _is_text(value: Any) -> bool:
+def _is_text(value: object) -> bool:
     return isinstance(value, str)
 
 
@@ -341,7 +341,7 @@ def _is_coordinate(value: Any) -> bool:
     return type(value) in (int, float) and abs(value) <= FARTHEST
 
 
-def _is_exact(value: Any) -> bool:
+def _is_exact(value: object) -> bool:
     """Whether a value is a text in UTF-8, with half of a surrogate pair as three bytes."""
     try:
         return isinstance(value, bytes) and value.decode("utf-8", "surrogatepass") != ""
@@ -349,7 +349,7 @@ def _is_exact(value: Any) -> bool:
         return False
 
 
-def _are_decimals(value: Any) -> bool:
+def _are_decimals(value: object) -> bool:
     """Whether a text is an array of three decimals, as JSON strings."""
     if not isinstance(value, str):
         return False

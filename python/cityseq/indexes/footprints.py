@@ -96,7 +96,7 @@ class _Line:
         texts = None if isinstance(value, list) else _nested(self._arrays[-value - FIRST], levels)
         return self._array(value, levels + 3) if texts is None else texts
 
-    def _items(self, value: Any) -> list[Any]:
+    def _items(self, value: object) -> list[Any]:
         """Returns the items of an array that are not numbers."""
         return value if isinstance(value, list) else []
 

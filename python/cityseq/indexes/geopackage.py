@@ -190,7 +190,7 @@ def quoted(name: str) -> str:
     return f'"{escaped}"'
 
 
-def system_of(metadata: Any) -> tuple[str | None, int]:
+def system_of(metadata: object) -> tuple[str | None, int]:
     """Returns the reference system of a header's metadata, and its EPSG code or -1."""
     name = metadata.get("referenceSystem") if isinstance(metadata, dict) else None
     if not isinstance(name, str):
@@ -236,7 +236,7 @@ def create(base: sqlite3.Connection) -> None:
     base.execute(f"CREATE VIRTUAL TABLE {TREE} USING rtree(id, minx, maxx, miny, maxy)")
 
 
-def _literal(value: Any) -> str:
+def _literal(value: object) -> str:
     """Returns a number or a name as SQL. SQLite keeps up to 19 digits when it reads a float."""
     return f"{value:.20g}" if isinstance(value, float) else repr(value)
 

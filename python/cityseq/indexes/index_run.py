@@ -53,7 +53,7 @@ class Hashes:
     def __enter__(self) -> Hashes:
         return self
 
-    def __exit__(self, *given: Any) -> None:
+    def __exit__(self, *given: object) -> None:
         self._is_stopped = True
         self._pool.__exit__(*given)
 

@@ -65,7 +65,7 @@ class AnswerWatch:
         _current.watch = self
         return self
 
-    def __exit__(self, *_: Any) -> None:
+    def __exit__(self, *_: object) -> None:
         _current.watch = None
         self._is_ended.set()
         self._thread.join()
@@ -100,7 +100,7 @@ class _Noted:
         _current.watch.note(self)
         super().connect()  # type: ignore[misc]
 
-    def request(self, *given: Any, **named: Any) -> None:
+    def request(self, *given: object, **named: object) -> None:
         _current.watch.note(self)
         super().request(*given, **named)  # type: ignore[misc]
         _current.watch.note_socket()
@@ -246,7 +246,7 @@ class WebPlace(RangePlace):
     def __enter__(self) -> WebPlace:
         return self
 
-    def __exit__(self, *_: Any) -> None:
+    def __exit__(self, *_: object) -> None:
         pass
 
     def asked(self, begin: int, end: int) -> bytes:

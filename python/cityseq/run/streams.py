@@ -38,7 +38,7 @@ Results = Generator[Result, None, None]
 Judge = Callable[[Chunk], Answer]
 
 
-def _start(call: Callable[..., None], *given: Any) -> None:
+def _start(call: Callable[..., None], *given: object) -> None:
     """Starts a thread with a stack of `STACK` bytes. Raises `RuntimeError` or `MemoryError` if the
     system refuses that."""
     with _starting:
@@ -127,7 +127,7 @@ class Pool:
     def __enter__(self) -> Pool:
         return self
 
-    def __exit__(self, *_: Any) -> None:
+    def __exit__(self, *_: object) -> None:
         """Ends the threads, after all calls that were submitted and not cancelled. A process that
         was forked has none of them, and so it waits for none."""
         atexit.unregister(self.__exit__)

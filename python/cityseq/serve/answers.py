@@ -191,7 +191,7 @@ ALIASES = {
 }
 
 
-def dumped(told: Any) -> bytes:
+def dumped(told: object) -> bytes:
     """Returns JSON in ASCII, so that a lone surrogate in an id is an escape."""
     return deep(partial(json.dumps, told, separators=(",", ":"))).encode("ascii")
 
@@ -297,7 +297,7 @@ def segment(text: str) -> str | None:
         return None
 
 
-def _value(told: Any) -> str:
+def _value(told: object) -> str:
     """Returns the value of a parameter. A list of texts has commas between them, and a comma in a
     text is escaped."""
     if isinstance(told, list):
@@ -312,7 +312,7 @@ class Links:
         """Takes the beginning of all links."""
         self.base = base
 
-    def url(self, path: str, **parameters: Any) -> str:
+    def url(self, path: str, **parameters: object) -> str:
         """Returns the URL of a path, with parameters. Those that are None are left out."""
         given = {name: value for name, value in parameters.items() if value is not None}
         text = "&".join(f"{quote_plus(name)}={_value(value)}" for name, value in given.items())
@@ -322,7 +322,7 @@ class Links:
         """Returns the URL of a path without a host, for what a page loads from where it came."""
         return f"{urlsplit(self.base).path}{path}"
 
-    def to(self, path: str, rel: str, title: str, form: Format, **parameters: Any) -> Link:
+    def to(self, path: str, rel: str, title: str, form: Format, **parameters: object) -> Link:
         """Returns a link to a path, whose answer has a format."""
         href = self.url(path, **parameters)
         return {"href": href, "rel": rel, "type": form.media_type, "title": title}

@@ -11,7 +11,6 @@ import struct
 from collections.abc import Awaitable, Callable, Iterator, Sequence
 from contextlib import contextmanager, suppress
 from functools import partial
-from typing import Any
 from urllib.parse import urlsplit
 
 import jinja2
@@ -78,7 +77,7 @@ def brief(text: str) -> str:
     return shown(shortened(text, LONGEST))
 
 
-def told(value: Any) -> str:
+def told(value: object) -> str:
     """Returns a value of an attribute as a page shows it: a text, or JSON."""
     if isinstance(value, str):
         return value
@@ -144,7 +143,7 @@ class Pages:
         kinds = {name: TYPES.get(os.path.splitext(name)[1]) for name in names}
         self._static = {name: (kind, _read(name)) for name, kind in kinds.items() if kind}
 
-    def render(self, name: str, **given: Any) -> str:
+    def render(self, name: str, **given: object) -> str:
         """Returns a page."""
         return self._templates.get_template(name).render(**given)
 

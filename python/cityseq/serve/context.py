@@ -208,7 +208,7 @@ class Context:
         """Returns the links from a document to itself, and to its other formats."""
         return self.links.formats(path, self.resource.formats, self.chosen)
 
-    def page(self, name: str, system: str | None = None, **given: Any) -> web.Response:
+    def page(self, name: str, system: str | None = None, **given: object) -> web.Response:
         """Returns an answer for people, from a template. Its coordinates are in a system."""
         headers = None if system is None else {"Content-Crs": f"<{system}>"}
         text = self.server.pages.render(name, links=self.links, **given)

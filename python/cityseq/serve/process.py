@@ -57,7 +57,7 @@ def request_logger(is_quiet: bool) -> logging.Logger:
     return _logger("requests", logging.INFO, _Output(sys.stdout) if has_output else None)
 
 
-def _quoted(text: Any) -> str:
+def _quoted(text: object) -> str:
     """Returns a client's text in quotes. No character of it ends the quotes or the line."""
     told = "-" if text is None else str(text)[:LONGEST].encode("utf-8", "replace").decode("utf-8")
     return '"' + shown(told.replace("\\", "\\\\").replace('"', '\\"')) + '"'

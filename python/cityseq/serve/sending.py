@@ -132,7 +132,7 @@ class Calls:
         self._ending = None
         self._crew.submit(give_back)
 
-    async def call(self, function: Callable[..., T], *given: Any) -> T:
+    async def call(self, function: Callable[..., T], *given: object) -> T:
         """Makes a call in a thread, and returns or raises what it does. A task that is cancelled
         in the meantime does not wait for it."""
         loop = asyncio.get_running_loop()
@@ -157,7 +157,7 @@ def _told(
         loop.call_soon_threadsafe(_set, future.set_result, future, value)
 
 
-def _set(setter: Callable[[Any], None], future: asyncio.Future[Any], value: Any) -> None:
+def _set(setter: Callable[[Any], None], future: asyncio.Future[Any], value: object) -> None:
     if not future.done():
         setter(value)
 

@@ -121,7 +121,7 @@ class RemoteFile:
         return len(piece)
 
     @staticmethod
-    def _call(call: Callable[..., Any], *given: Any, **named: Any) -> Any:
+    def _call(call: Callable[..., Any], *given: object, **named: object) -> Any:
         """Makes a call of a file system. Raises `OSError` with words that have no URL."""
         try:
             return call(*given, **named)
