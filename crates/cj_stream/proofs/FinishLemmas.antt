@@ -151,7 +151,8 @@ module _ {S : Type 0} (law : SinkLaw S) (f g : Reading) (s t : S) (p : List ℕ)
 
   -- the end, where there is a last line
   ending-verdict : 0 < length (begun p)
-      → ending f.rules p ≡ unwrap_or (refusal_from f.rules (map ended_line (closed p)) (unended (begun p) ∷ [])) Complete
+      → ending f.rules p
+      ≡ unwrap_or (refusal_from f.rules (map ended_line (closed p)) (unended (begun p) ∷ [])) Complete
   ending-verdict some =
       rw (
         lines-last p some,

@@ -34,8 +34,8 @@ leave_arrays-requires-clause-stands c =
     let n = c.read_numbers-numbers in
     let end = n.ensures.ended c.if-numbers.true in
     stands_on r.stands (flat_left r.stands r.begins r.within r.bracket r.shallow c.open_array.ensures n.ensures.leads
-    c.close_token.new.tokens c.len-index.ensures.value c.close_token.ensures.closed c.push_and_pop.ensures.peak end.after end.within end.bracket
-    c.push_and_pop.ensures.within c.close_token.ensures.tokens)
+    c.close_token.new.tokens c.len-index.ensures.value c.close_token.ensures.closed c.push_and_pop.ensures.peak
+    end.after end.within end.bracket c.push_and_pop.ensures.within c.close_token.ensures.tokens)
 
 pub leave_arrays-requires-clause-array : goal.leave_arrays-requires-clause-array
 leave_arrays-requires-clause-array c =
@@ -51,8 +51,9 @@ returns-then-numbers-clause-answer c = λ t0 s0 z.
     let n = c.read_numbers-numbers in
     let end = n.ensures.ended c.if-numbers.true in
     c.leave_arrays.ensures.answer t0 s0 (flat_left r.stands r.begins r.within r.bracket r.shallow c.open_array.ensures
-    n.ensures.leads c.close_token.new.tokens c.len-index.ensures.value c.close_token.ensures.closed c.push_and_pop.ensures.peak end.after
-    end.within end.bracket c.push_and_pop.ensures.within c.close_token.ensures.tokens t0 s0 z)
+    n.ensures.leads c.close_token.new.tokens c.len-index.ensures.value c.close_token.ensures.closed
+    c.push_and_pop.ensures.peak end.after end.within end.bracket c.push_and_pop.ensures.within
+    c.close_token.ensures.tokens t0 s0 z)
 
 pub overflow_cast-index : goal.overflow_cast-index
 overflow_cast-index c =
