@@ -100,8 +100,12 @@ returns-in-Err-feed-clause-runs g c =
     (feeds.memory r i.5.2 i.2 (ap Err h)).0 in
     let same = first-same (rules_of c.args.engine.now) (lines_of e) r piece (i.5.2.going i.2).0.lines in
     let run : Run =
-    record { rules = rules_of c.args.engine.now; read = r ++ piece; outcome = outcome_of c.feed.new.self
-        c.in-Err-feed.end } in
+    record {
+      rules = rules_of c.args.engine.now;
+      read = r ++ piece;
+      outcome = outcome_of c.feed.new.self
+          c.in-Err-feed.end;
+    } in
     let both = Both-told g.S.LineSink.law g.N.ReportSink.notes run
     (IsAtEnd (g.R.Read.remaining (source_reader c.read.new.self))) c.args.sink.now c.feed.new.sink c.args.reports.now
     c.feed.new.reports
