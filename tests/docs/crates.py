@@ -21,7 +21,7 @@ class Use(NamedTuple):
 
 
 USES = (
-    Use("memchr", "cj_stream", "framer.rt", "memchr(b'\\n', "),
+    Use("memchr", "cj_stream", "line_splitter.rt", "memchr(b'\\n', "),
     Use("simdutf8", "cj_spans", "utf8.rt", "from_utf8("),
     Use("smallvec", "cj_budget", "stack.rt", "places: SmallVec<u32, INLINE>,"),
     Use("itoa", "cityseq_command", "summary.rt", ".format("),

@@ -5,7 +5,7 @@
 mod process;
 
 use cityseq_command::command::{OUTPUT_BUFFER, command};
-use cityseq_command::decline::tell_no_memory;
+use cityseq_command::decline::write_no_memory;
 use cityseq_command::fault_lines::{WRONG_WORDS, status, write_text};
 use cityseq_command::read_ask;
 use cj_stream::{End, Output};
@@ -61,14 +61,14 @@ fn run_program(rt: &HostRuntime, alloc: Global) -> u8 {
     let words = match take_words(rt) {
         Ok(words) => words,
         Err(WordsFault::NoWords) => return WRONG_WORDS,
-        Err(WordsFault::Memory) => return tell_no_memory(&mut err),
+        Err(WordsFault::Memory) => return write_no_memory(&mut err),
     };
     if let Some(hindrance) = hindrance(rt, alloc, &words) {
         let _ = write_text(&mut err, hindrance.text());
         return status_of(&hindrance);
     }
     let Ok(buffer) = BufWriter::with_capacity(alloc, OUTPUT_BUFFER, rt.stdout()) else {
-        return tell_no_memory(&mut err);
+        return write_no_memory(&mut err);
     };
     let mut out = Output::new(buffer);
     command(alloc, &words, &mut rt.stdin(), &mut out, &mut err)

@@ -2,6 +2,7 @@
 //! output.
 
 use cityseq_command::ask::Ask;
+use cityseq_command::stack_limit::stack_limit_in;
 use std::fs;
 use std::fs::File;
 use std::io::Read;
@@ -22,9 +23,6 @@ const STACK_OF_TREES: u64 = 3_145_728;
 
 /// The file in which the system lists the limits of the process.
 const LIMITS: &str = "/proc/self/limits";
-
-/// The begin of that file's line for the stack.
-const STACK_LINE: &str = "Max stack size";
 
 /// The bytes of that file that are read. The line of the stack ends after 395 bytes.
 const LIMITS_READ: usize = 512;
@@ -56,7 +54,7 @@ pub struct Process {
 }
 
 impl Process {
-    /// Returns the facts about this process. It ignores what the system does not tell.
+    /// Returns the facts about this process. It ignores what the system does not say.
     pub fn of(rt: &HostRuntime) -> Process {
         Process {
             is_one_file: is_one_file(rt),
@@ -102,26 +100,19 @@ fn stack_under(line_limit: u64, asks_for_trees: bool) -> u64 {
 }
 
 /// Returns the most bytes that the stack may have, or the greatest number if the system sets no
-/// limit or does not tell.
+/// limit or says nothing.
 fn stack_limit(rt: &HostRuntime) -> u64 {
     let Ok(mut file) = File::open(rt, LIMITS) else {
         return u64::MAX;
     };
     let mut limits = [0; LIMITS_READ];
-    match file.read(&mut limits) {
-        Ok(count) => stack_limit_in(&limits[..count]).unwrap_or(u64::MAX),
+    let Ok(count) = file.read(&mut limits) else {
+        return u64::MAX;
+    };
+    match str::from_utf8(&limits[..count]) {
+        Ok(limits) => stack_limit_in(limits).unwrap_or(u64::MAX),
         Err(_) => u64::MAX,
     }
-}
-
-/// Returns the soft limit of the stack from such a list of limits, if it is there and a number.
-fn stack_limit_in(limits: &[u8]) -> Option<u64> {
-    for line in str::from_utf8(limits).ok()?.lines() {
-        if let Some(columns) = line.strip_prefix(STACK_LINE) {
-            return columns.split_whitespace().next()?.parse().ok();
-        }
-    }
-    None
 }
 
 /// Returns whether standard input and standard output are one regular file that is not empty.
@@ -136,46 +127,5 @@ fn is_one_file(rt: &HostRuntime) -> bool {
                 && input.ino() == output.ino()
         }
         _ => false,
-    }
-}
-
-#[cfg(test)]
-mod tests {
-    use super::*;
-
-    /// The list of a process with 8 MiB, as Linux writes it, up to the line after the stack.
-    const EIGHT_MIB: &[u8] =
-        b"Limit                     Soft Limit           Hard Limit           Units     \n\
-        Max cpu time              unlimited            unlimited            seconds   \n\
-        Max file size             unlimited            unlimited            bytes     \n\
-        Max data size             unlimited            unlimited            bytes     \n\
-        Max stack size            8388608              unlimited            bytes     \n\
-        Max core file size        0                    unlimited            bytes     \n";
-
-    #[test]
-    fn the_soft_limit_is_read(rt: HostRuntime) {
-        assert_eq!(rt; EIGHT_MIB.len(), 6 * 79);
-        assert_eq!(rt; stack_limit_in(EIGHT_MIB), Some(8_388_608));
-        // the list may end anywhere after the number
-        assert_eq!(rt;
-            stack_limit_in(b"Max stack size            524288"),
-            Some(524_288)
-        );
-    }
-
-    #[test]
-    fn no_number_is_no_limit(rt: HostRuntime) {
-        let lists: [&[u8]; 7] = [
-            b"",
-            b"Max stack size",
-            b"Max stack size            unlimited            unlimited            bytes     \n",
-            b"Max stack size            18446744073709551616 unlimited            bytes     \n",
-            b"Max stack size            -1                   unlimited            bytes     \n",
-            b"Max data size             8388608              unlimited            bytes     \n",
-            b"Max stack size            8388608              unlimited            bytes\n\xff",
-        ];
-        for list in lists {
-            assert_eq!(rt; stack_limit_in(list), None);
-        }
     }
 }

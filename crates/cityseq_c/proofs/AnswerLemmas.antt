@@ -1,4 +1,4 @@
--- What an answer tells of a text that was judged.
+-- What an answer says of a text that was judged.
 use Rattle.cityseq_c.proofs.Common.{Answer, Complete, End, IsJudged, IsUnread, List, Option, Reason, Rules, Some, WriteFault, ap, code_of, reason_with, refl, sym, ℕ, ◌∙◌, ◌≡◌}
 use Rattle.cj_spans.specs.declared.reason.Reason.TheVariants.{NoHeader, LineTooLong, NotUtf8, Syntax, TooDeep, MissingMember, DuplicateName, WrongKind, NumberRange, WrongType, WrongVersion, NotEmpty, NotThree, NotWhole, UnknownObjectType, IdNotFound, ChildNotFound, LinkNotMutual, NoParent, UnknownGeometryType, VertexIndex, SemanticsCount, SemanticsIndex, TemplateIndex, BadInstance, TransformNotFixed, NotReached}
 use Rattle.cj_stream.specs.declared.ending.End.TheVariants.{Refused, ReadFault, ReadLimit, Memory}
@@ -36,44 +36,45 @@ reason-known BadInstance = refl
 reason-known TransformNotFixed = refl
 reason-known NotReached = refl
 
-end-told : (e : End) → IsJudged e → (a : Answer) → a.status ≡ status_of e → a.code ≡ code_at e → a.line ≡ line_at e
+end-shown : (e : End) → IsJudged e → (a : Answer) → a.status ≡ status_of e → a.code ≡ code_at e → a.line ≡ line_at e
     → a.place ≡ place_at e → ended_by a ≡ Some e
-end-told Complete judged a status code line place = rw status refl
-end-told (Refused number byte reason) judged a status code line place =
+end-shown Complete judged a status code line place = rw status refl
+end-shown (Refused number byte reason) judged a status code line place =
     rw (status, code, line, place, reason-known reason) refl
-end-told ReadFault judged a status code line place = absurd judged
-end-told ReadLimit judged a status code line place = absurd judged
-end-told WriteFault judged a status code line place = rw status refl
-end-told Memory judged a status code line place = absurd judged
+end-shown ReadFault judged a status code line place = absurd judged
+end-shown ReadLimit judged a status code line place = absurd judged
+end-shown WriteFault judged a status code line place = rw status refl
+end-shown Memory judged a status code line place = absurd judged
 
--- an answer of a text tells its end, and its outcome
+-- an answer of a text has its end, and its outcome
 pub ended-of : {rules : Rules} {text : List ℕ} {a : Answer} → (x : IsAnswerOf rules text a)
     → ended_by a ≡ Some x.outcome.ended
 ended-of {a = a} x =
-    end-told x.outcome.ended x.judged a (ap (λ z. z.status) x.told) (ap (λ z. z.code) x.told) (ap (λ z. z.line) x.told)
-    (ap (λ z. z.place) x.told)
+    end-shown x.outcome.ended x.judged a (ap (λ z. z.status) x.shown) (ap (λ z. z.code) x.shown)
+    (ap (λ z. z.line) x.shown)
+    (ap (λ z. z.place) x.shown)
 
 pub outcome-of : {rules : Rules} {text : List ℕ} {a : Answer} → (x : IsAnswerOf rules text a) → (e : End)
     → e ≡ x.outcome.ended → outcome_by a e ≡ x.outcome
-outcome-of x e is = ap (λ z. outcome_by z e) x.told ∙ ap (λ z. record x.outcome { ended = z }) is
+outcome-of x e is = ap (λ z. outcome_by z e) x.shown ∙ ap (λ z. record x.outcome { ended = z }) is
 
 pub same-end : (e f : End) (o : Option End) → o ≡ Some e → o ≡ Some f → e ≡ f
 same-end e f o h k = cc (sym h ∙ k)
 
-complete-told : (a : Answer) → a.status ≡ 0 → ended_by a ≡ Some Complete
-complete-told a zero = rw zero refl
+complete-shown : (a : Answer) → a.status ≡ 0 → ended_by a ≡ Some Complete
+complete-shown a zero = rw zero refl
 
 -- an answer of a text whose status is 0 is complete, and no other one is
 pub complete-of : {rules : Rules} {text : List ℕ} {a : Answer} → (x : IsAnswerOf rules text a) → a.status ≡ 0
     → Complete ≡ x.outcome.ended
-complete-of {a = a} x zero = same (sym (complete-told a zero) ∙ ended-of x)
+complete-of {a = a} x zero = same (sym (complete-shown a zero) ∙ ended-of x)
   where
     same : {e f : End} → ◌≡◌ {A = Option End} (Some e) (Some f) → e ≡ f
     same h = cc
 
 pub not-complete : {rules : Rules} {text : List ℕ} {a : Answer} → (x : IsAnswerOf rules text a) → ¬ (a.status ≡ 0)
     → ¬ (x.outcome.ended ≡ Complete)
-not-complete x other is = other (ap (λ z. z.status) x.told ∙ ap status_of is)
+not-complete x other is = other (ap (λ z. z.status) x.shown ∙ ap status_of is)
 
 pub judged-unread : (e : End) → IsJudged e → IsUnread e
 judged-unread Complete judged = tt

@@ -18,8 +18,8 @@ asked-bytes true s is none = rw (not_text (is_utf8 s) s refl none) refl
 -- what `from_utf8` answers
 pub is-text : {E : Type 0} (P : E → Type 0) (s : List ℕ) (r : Result (Bor (List ℕ)) E)
     → MatchResult r (λ t. (t.now ≡ s) × IsUtf8 s) (λ e. ¬ (IsUtf8 s) × P e) → is_ok r ≡ is_utf8 s
-is-text P s (Ok t) told = sym (is_utf8-from_IsUtf8 s told.1)
-is-text P s (Err e) told = sym (not_text (is_utf8 s) s refl told.0)
+is-text P s (Ok t) shown = sym (is_utf8-from_IsUtf8 s shown.1)
+is-text P s (Err e) shown = sym (not_text (is_utf8 s) s refl shown.0)
 
 pub not-flipped : (b c : Bool) → c ≡ not b → b ≡ not c
 not-flipped true c is = sym (ap not is)

@@ -1,10 +1,11 @@
 -- What a call answers, by how its stream was judged.
-use Rattle.cityseq_c.proofs.Common.{Answer, Complete, Copied, DeclinesCall, End, Err, Fault, HasRisen, IfErr, IfOk, IsAsked, IsJudged, Judged, List, Memory, NotJudged, Ok, OnErr, OnOk, Outcome, Request, Result, Rules, SinkLaw, Told, WriteFault, ap, arith, false, inl, inr, is_ok, lent, refl, stream_of, subst, sym, ℕ, ◌++◌, ◌∙◌, ◌≡◌, ◌⊎◌}
+use Rattle.cityseq_c.proofs.Common.{Answer, Complete, Copied, DeclinesCall, End, Err, Fault, HasRisen, IfErr, IfOk, IsAsked, IsJudged, Judged, List, Memory, NotJudged, Ok, OnErr, OnOk, Outcome, Request, Result, Rules, SinkContract, CReport, WriteFault, ap, arith, false, inl, inr, is_ok, lent, refl, stream_of, subst, sym, ℕ, ◌++◌, ◌∙◌, ◌≡◌, ◌⊎◌}
 use Rattle.cj_stream.specs.declared.ending.End.TheVariants.{Refused, ReadFault, ReadLimit, Memory as NoMemory}
 use Rattle.cityseq_c.specs.Answer.{answer_to, not_judged, status_of}
 use Rattle.cityseq_c.specs.Called.{Filters, Goes, IsUnjudged, call}
 
-module _ {S : Type 0} (law : SinkLaw S) (r : Request) (header part : List ℕ) (s t : S) (old new : List Told) where
+module _ {S : Type 0} (law : SinkContract S) (r : Request) (header part : List ℕ) (s t : S)
+    (old new : List CReport) where
   pub goes : (also : Rules → Outcome → Type 0) → ((rules : Rules) (o : Outcome)
       → Judged law (stream_of rules (header ++ part)) o (lent s old) (lent t new) → also rules o)
       → (went : Result Outcome NotJudged)
@@ -12,7 +13,7 @@ module _ {S : Type 0} (law : SinkLaw S) (r : Request) (header part : List ℕ) (
       (lent s old) (lent t new))
       → IfErr went (DeclinesCall r header part) → OnErr went ((t ≡ s) × (new ≡ old))
       → Goes (call r header part old new) also went
-  goes also gives (Ok o) ok declined unread = (ok.0, ok.1, ok.2.tells, gives ok.0 o ok.2)
+  goes also gives (Ok o) ok declined unread = (ok.0, ok.1, ok.2.answers, gives ok.0 o ok.2)
   goes also gives (Err why) ok declined unread = (declined, unread.1)
 
   -- the same where more is known of a call that was judged
@@ -23,7 +24,7 @@ module _ {S : Type 0} (law : SinkLaw S) (r : Request) (header part : List ℕ) (
       (lent s old) (lent t new))
       → IfErr went (DeclinesCall r header part) → OnErr went ((t ≡ s) × (new ≡ old))
       → Goes (call r header part old new) also went
-  goes-known Known also gives (Ok o) known ok declined unread = (ok.0, ok.1, ok.2.tells, gives known ok.0 o ok.2)
+  goes-known Known also gives (Ok o) known ok declined unread = (ok.0, ok.1, ok.2.answers, gives known ok.0 o ok.2)
   goes-known Known also gives (Err why) known ok declined unread = (declined, unread.1)
 
   -- no end of a text that was judged has the status of a wrong request, or of want of memory
@@ -46,7 +47,7 @@ module _ {S : Type 0} (law : SinkLaw S) (r : Request) (header part : List ℕ) (
       → IsUnjudged answer → (answer ≡ not_judged answer.status answer.code answer.list answer.item) × (new ≡ old)
       × (t ≡ s)
   unjudged (Ok o) answer written is ok unread which =
-      absurd (status-judged o.ended ok.2.tells.judged
+      absurd (status-judged o.ended ok.2.answers.judged
       (let same : answer.status ≡ status_of o.ended = ap (λ a. a.status) is in rw same at which))
   unjudged (Err (Fault fault)) answer written is ok unread which = (rw is refl, unread.1, unread.0)
   unjudged (Err Memory) answer written is ok unread which = (rw is refl, unread.1, unread.0)
@@ -60,32 +61,32 @@ pub unknown-err : (Known : Type 0) (went : Result Outcome NotJudged) → is_ok w
 unknown-err Known (Ok o) other = absurd (cc other)
 unknown-err Known (Err why) other = tt
 
--- an answer tells how many bytes were written
-told-written : (r : Request) (went : Result Outcome NotJudged) (answer : Answer) (written : ℕ)
+-- an answer says how many bytes were written
+shown-written : (r : Request) (went : Result Outcome NotJudged) (answer : Answer) (written : ℕ)
     → answer ≡ answer_to r went written → answer ≡ answer_to r went answer.written
-told-written r (Ok o) answer written is = is ∙ ap (λ n. answer_to r (Ok o) n) (sym (ap (λ a. a.written) is))
-told-written r (Err (Fault fault)) answer written is = is
-told-written r (Err Memory) answer written is = is
+shown-written r (Ok o) answer written is = is ∙ ap (λ n. answer_to r (Ok o) n) (sym (ap (λ a. a.written) is))
+shown-written r (Err (Fault fault)) answer written is = is
+shown-written r (Err Memory) answer written is = is
 
--- what else comes of a call that was judged counts for what it tells
-module _ (r : Request) (header part : List ℕ) (old new : List Told) (before after : List ℕ) (written : ℕ)
+-- what else comes of a call that was judged counts for what it says
+module _ (r : Request) (header part : List ℕ) (old new : List CReport) (before after : List ℕ) (written : ℕ)
     (answer : Answer) where
   abbrev GoesCopied : ℕ → Result Outcome NotJudged → Type 0
   GoesCopied n went =
       Goes (call r header part old new) (λ rules o. Copied rules (header ++ part) before after n o) went
 
-  goes-told : (went : Result Outcome NotJudged) → answer ≡ answer_to r went written → GoesCopied written went
+  goes-shown : (went : Result Outcome NotJudged) → answer ≡ answer_to r went written → GoesCopied written went
       → GoesCopied answer.written went
-  goes-told (Ok o) is h =
+  goes-shown (Ok o) is h =
       (h.0, h.1, h.2, subst (λ n. Copied h.0 (header ++ part) before after n o) (sym (ap (λ a. a.written) is)) h.3)
-  goes-told (Err why) is h = h
+  goes-shown (Err why) is h = h
 
   pub filters : (went : Result Outcome NotJudged) → answer ≡ answer_to r went written → GoesCopied written went
       → Filters (call r header part old new) before after answer
   filters went is h = record {
     went = went;
-    goes = goes-told went is h;
-    told = told-written r went answer written is;
+    goes = goes-shown went is h;
+    shown = shown-written r went answer written is;
   }
 
 -- ---- a sink that never fails

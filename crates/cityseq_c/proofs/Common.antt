@@ -8,13 +8,13 @@ pub use Rattle.cityseq_c.specs.Judged.{IsJudged, Judged, lent, run_over}
 pub use Rattle.cityseq_c.specs.Query.{DeclinesCall}
 pub use Rattle.cityseq_c.specs.ReportSlice.{Holds, finder_text}
 pub use Rattle.cityseq_c.specs.Request.{AreCut, IsAsked, IsFit, edges_by, fault_of, items, needed_limits, text_asked, types_or_fault}
-pub use Rattle.cityseq_c.specs.Tally.{IsTally, range_of}
+pub use Rattle.cityseq_c.specs.Tally.{IsTally, shown_range}
 pub use Rattle.cityseq_c.specs.Words.{name_in, reason_in, reason_with, type_words}
 pub use Rattle.cityseq_c.specs.declared.answer.Answer.{Answer}
 pub use Rattle.cityseq_c.specs.declared.features.listed.Listed.{Listed}
 pub use Rattle.cityseq_c.specs.declared.features.record_of.FeatureRecord.{FeatureRecord}
 pub use Rattle.cityseq_c.specs.declared.report_slice.Noted.{Noted}
-pub use Rattle.cityseq_c.specs.declared.report_slice.Told.{Told}
+pub use Rattle.cityseq_c.specs.declared.report_slice.CReport.{CReport}
 pub use Rattle.cityseq_c.specs.declared.request.NotJudged.{NotJudged}
 pub use Rattle.cityseq_c.specs.declared.request.NotJudged.TheVariants.{Fault, Memory}
 pub use Rattle.cityseq_c.specs.declared.request.Request.{Request}
@@ -42,7 +42,7 @@ pub use Rattle.cj_stream.specs.Meaning.Outputs.{Took}
 pub use Rattle.cj_stream.specs.Meaning.Rules.{Rules}
 unfoldable pub use Rattle.cj_stream.specs.Query.{criteria}
 pub use Rattle.cj_stream.specs.Run.{Account, CountsAll, Ends, Puts, outcome_of}
-pub use Rattle.cj_stream.specs.Sink.{HasRisen, SinkLaw, never_fails}
+pub use Rattle.cj_stream.specs.Sink.{HasRisen, SinkContract, never_fails}
 pub use Rattle.cj_stream.specs.Tallied.{IsRange, capped, class_by, class_count, class_of, how_often, lod_classes, row_number, slot_count, type_numbers}
 pub use Rattle.cj_stream.specs.TallySink.{RisesBy, Tallies, no_tally}
 pub use Rattle.cj_stream.specs.Verdict.{ending, good_from, is_kept, item_after, kept, kept_first, kept_from, output, output_first, refusal_of, stream_of, up_to, verdict}

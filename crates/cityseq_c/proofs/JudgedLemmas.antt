@@ -1,5 +1,5 @@
 -- A header and a part are one text, of which an engine was given the header, or all.
-use Rattle.cityseq_c.proofs.Common.{AreCut, Complete, Counts, CountsAll, Delivers, End, Ends, Faults, Holds, IsBounded, IsJudged, IsUnhindered, Judged, Line, List, NoLf, None, Noted, Option, Outcome, Peaks, PutsPieces, Rules, SinkLaw, Some, Told, Took, WriteFault, [], add-one, ap, append-nil, append_assoc, arith, ended_line, ending, flat_map, in_pieces, inl, inr, is_kept, item_after, joined, kept, length, lent, lines, raw, refl, slice_get, stream_of, subst, suc, sym, take, take-append-le, up_to, verdict, zero, ℕ, ◌++◌, ◌+◌, ◌∙◌, ◌∷◌, ◌≡◌, ◌≢◌, ◌≤◌, ◌⊎◌}
+use Rattle.cityseq_c.proofs.Common.{AreCut, Complete, Counts, CountsAll, Delivers, End, Ends, Faults, Holds, IsBounded, IsJudged, IsUnhindered, Judged, Line, List, NoLf, None, Noted, Option, Outcome, Peaks, PutsPieces, Rules, SinkContract, Some, CReport, Took, WriteFault, [], add-one, ap, append-nil, append_assoc, arith, ended_line, ending, flat_map, in_pieces, inl, inr, is_kept, item_after, joined, kept, length, lent, lines, raw, refl, slice_get, stream_of, subst, suc, sym, take, take-append-le, up_to, verdict, zero, ℕ, ◌++◌, ◌+◌, ◌∙◌, ◌∷◌, ◌≡◌, ◌≢◌, ◌≤◌, ◌⊎◌}
 use Rattle.cj_budget.specs.Meaning.Limits.{LimitPair}
 use Rattle.cj_stream.specs.declared.ending.End.TheVariants.{Refused, ReadFault, ReadLimit, Memory}
 use Rattle.cj_stream.specs.Bound.{IsBelow, IsExact, exact_peaks, first_lines}
@@ -48,7 +48,7 @@ module _ (header part : List ℕ) (cut : AreCut header part) where
 -- ---- from a header to a part behind it
 
 -- what comes of the first n lines of what was given
-record OfFirst {S : Type 0} (law : SinkLaw S) (rules : Rules) (n features refusals : ℕ) (peaks : Peaks) (e : End)
+record OfFirst {S : Type 0} (law : SinkContract S) (rules : Rules) (n features refusals : ℕ) (peaks : Peaks) (e : End)
     (s t : S) (a b : Noted) (q : List ℕ) : Type 0 where
   bounded : IsBounded rules.limits q peaks
   least : IsBelow (exact_peaks rules.limits (first_lines n q)) peaks
@@ -82,7 +82,7 @@ module _ (rules : Rules) (h part : List ℕ) (free : NoLf h) (n : ℕ) (few : n 
     counted = rw first-same x.counted;
   }
 
-  module _ {S : Type 0} (law : SinkLaw S) where
+  module _ {S : Type 0} (law : SinkContract S) where
     faults-more : (s t : S) (e : End) → Faults law (up_to rules (headed h []) n) s t (Some e)
         → Faults law (up_to rules (headed h part) n) s t (Some e)
     faults-more s t Complete x = x
@@ -117,7 +117,7 @@ bounded-more limits h part peaks free x =
       depth = x.depth;
     }
 
-module _ {S : Type 0} (law : SinkLaw S) (rules : Rules) (n f r : ℕ) (peaks : Peaks) (e : End) (s t : S)
+module _ {S : Type 0} (law : SinkContract S) (rules : Rules) (n f r : ℕ) (peaks : Peaks) (e : End) (s t : S)
     (a b : Noted) where
   first-more : (h part : List ℕ) → NoLf h → OfFirst law rules n f r peaks e s t a b (headed h [])
       → OfFirst law rules n f r peaks e s t a b (headed h part)
@@ -142,7 +142,7 @@ module _ {S : Type 0} (law : SinkLaw S) (rules : Rules) (n f r : ℕ) (peaks : P
 
 -- ---- how it ended
 
-module _ {S : Type 0} (law : SinkLaw S) (rules : Rules) (pieces : List (List ℕ)) (k : ℕ) (s t : S) where
+module _ {S : Type 0} (law : SinkContract S) (rules : Rules) (pieces : List (List ℕ)) (k : ℕ) (s t : S) where
   -- no reader had a part in it
   put-judged : (e : End) → e ≢ Memory → PutsPieces law (in_pieces rules pieces k) e s t → IsJudged e
   put-judged Complete granted h = tt
@@ -171,8 +171,8 @@ ends-all rules text n ReadLimit judged ends count = absurd judged
 ends-all rules text n WriteFault judged ends count = tt
 ends-all rules text n Memory judged ends count = absurd judged
 
-module _ {S : Type 0} (law : SinkLaw S) (rules : Rules) (header part : List ℕ) (cut : AreCut header part) (k : ℕ)
-    (s t : S) (a b : Noted) (o : Outcome) (old new : List Told)
+module _ {S : Type 0} (law : SinkContract S) (rules : Rules) (header part : List ℕ) (cut : AreCut header part) (k : ℕ)
+    (s t : S) (a b : Noted) (o : Outcome) (old new : List CReport)
     (granted : o.ended ≢ Memory) (puts : PutsPieces law (in_pieces rules (header ∷ part ∷ []) k) o.ended s t)
     (counts_all : IsUnhindered o.ended → CountsAll rules (joined (header ∷ part ∷ [])) o)
     (exact_all : o.ended ≡ Complete → IsExact rules.limits (joined (header ∷ part ∷ [])) o.peaks)
@@ -213,7 +213,7 @@ module _ {S : Type 0} (law : SinkLaw S) (rules : Rules) (header part : List ℕ)
       subst (λ z. Holds z (reported_first rules o.lines (header ++ part)) old new) over
       (rw (back first.0, ← loan) first.1) in
       record {
-        tells = record {
+        answers = record {
           judged = judged-end;
           account = record {
             bounded = of_first.bounded;

@@ -1,10 +1,10 @@
--- What is told of a text does not hang on a line limit that is above all its lines.
-use Rattle.cityseq_c.proofs.Common.{AreCut, Bool, Complete, Counts, CountsAll, DeclinesCall, Delivers, End, Ends, Err, Faults, Holds, IfErr, IfOk, IsAsked, IsBounded, IsFit, IsJudged, Judged, Line, List, Memory, None, NotJudged, Ok, Outcome, Peaks, Request, Result, Rules, SinkLaw, Some, Told, Took, Tree, WriteFault, [], ap, append-nil, append_assoc, arith, cases_lt, cond, ended_line, ending, false, fault_of, filter, flat_map, good_from, greatest, inl, inr, is_feature, is_kept, kept, later_of, length, length-append, lent, lines, list_all, ltb, map, max, min, min-eq_left, nat_tests, needed_limits, of_first, raw, refl, slice_get, stream_of, subst, suc, sym, take, true, up_to, verdict, zero, ℕ, ◌++◌, ◌+◌, ◌<◌, ◌∙◌, ◌∷◌, ◌≡◌, ◌≤◌, ◌⊎◌}
+-- What is answered of a text does not hang on a line limit that is above all its lines.
+use Rattle.cityseq_c.proofs.Common.{AreCut, Bool, Complete, Counts, CountsAll, DeclinesCall, Delivers, End, Ends, Err, Faults, Holds, IfErr, IfOk, IsAsked, IsBounded, IsFit, IsJudged, Judged, Line, List, Memory, None, NotJudged, Ok, Outcome, Peaks, Request, Result, Rules, SinkContract, Some, CReport, Took, Tree, WriteFault, [], ap, append-nil, append_assoc, arith, cases_lt, cond, ended_line, ending, false, fault_of, filter, flat_map, good_from, greatest, inl, inr, is_feature, is_kept, kept, later_of, length, length-append, lent, lines, list_all, ltb, map, max, min, min-eq_left, nat_tests, needed_limits, of_first, raw, refl, slice_get, stream_of, subst, suc, sym, take, true, up_to, verdict, zero, ℕ, ◌++◌, ◌+◌, ◌<◌, ◌∙◌, ◌∷◌, ◌≡◌, ◌≤◌, ◌⊎◌}
 use Rattle.std.proofs.Common.{unwrap_or}
 use Rattle.cj_spans.specs.Meaning.Judgement.{Judgement, spelled, broken, sunk}
 use Rattle.cj_spans.proofs.Judgements.{judgement}
 use Rattle.cj_stream.specs.declared.ending.End.TheVariants.{Refused, ReadFault, ReadLimit, Memory as NoMemory}
-use Rattle.cj_stream.specs.Bound.{exact_peaks, first_lines, held_length, is_legible, is_readable, is_text, tree_nest, tree_size, IsExact, IsBelow}
+use Rattle.cj_stream.specs.Bound.{exact_peaks, first_lines, held_length, are_legible, is_readable, is_text, tree_nest, tree_size, IsExact, IsBelow}
 use Rattle.cj_stream.specs.Verdict.{ending_of, good, reported, text_verdict, verdict_at, stretch}
 use Rattle.cj_stream.proofs.IsLinesLemmas.{lines-are_lines}
 use Rattle.cj_stream.proofs.PartsLemmas.{lines-headed}
@@ -173,7 +173,7 @@ module _ (rules : Rules) (m : ℕ) (low : m ≤ rules.limits.line) where
     first-text : (n : ℕ) → rulings_first narrow n s ≡ rulings_first rules n s
     first-text n = rulings-same [] (take n (lines s)) (short-take m n (lines s) short)
 
-    legible-text : is_legible narrow.limits s ≡ is_legible rules.limits s
+    legible-text : are_legible narrow.limits s ≡ are_legible rules.limits s
     legible-text = later-all (is_readable narrow.limits) (is_readable rules.limits) readable-same (lines s) short
 
     bounded-text : (peaks : Peaks) → IsBounded narrow.limits s peaks → IsBounded rules.limits s peaks
@@ -218,7 +218,7 @@ module _ (rules : Rules) (m : ℕ) (low : m ≤ rules.limits.line) where
     ends-text n WriteFault judged x = tt
     ends-text n NoMemory judged x = absurd judged
 
-    module _ {S : Type 0} (law : SinkLaw S) where
+    module _ {S : Type 0} (law : SinkContract S) where
       faults-text : (n : ℕ) (a b : S) (e : End) → Faults law (up_to narrow s n) a b (Some e)
           → Faults law (up_to rules s n) a b (Some e)
       faults-text n a b Complete x = x
@@ -242,13 +242,13 @@ module _ (rules : Rules) (m : ℕ) (low : m ≤ rules.limits.line) where
         fault = faults-text to x.middle b e x.fault;
       }
 
-      judged-text : (o : Outcome) (a b : S) (old new : List Told)
+      judged-text : (o : Outcome) (a b : S) (old new : List CReport)
           → Judged law (stream_of narrow s) o (lent a old) (lent b new)
           → Judged law (stream_of rules s) o (lent a old) (lent b new)
       judged-text o a b old new x =
-          let t = x.tells in
+          let t = x.answers in
           record {
-            tells = record {
+            answers = record {
               judged = t.judged;
               account = record {
                 bounded = bounded-text o.peaks t.account.bounded;
@@ -267,8 +267,8 @@ module _ (rules : Rules) (m : ℕ) (low : m ≤ rules.limits.line) where
           }
 
 -- a header and a part that were judged by the limits that they need are judged as by the limits that were asked for
-pub judged-as-asked : {S : Type 0} (law : SinkLaw S) (rules : Rules) (header part : List ℕ) (o : Outcome) (a b : S)
-    (old new : List Told) → AreCut header part
+pub judged-as-asked : {S : Type 0} (law : SinkContract S) (rules : Rules) (header part : List ℕ) (o : Outcome) (a b : S)
+    (old new : List CReport) → AreCut header part
     → Judged law (stream_of (record rules { limits = needed_limits rules.limits header part }) (header ++ part)) o
     (lent a old) (lent b new)
     → Judged law (stream_of rules (header ++ part)) o (lent a old) (lent b new)
@@ -291,7 +291,7 @@ judged-as-asked law rules header part o a b old new cut x = go (cases_lt longest
         subst (λ z. Judged law (stream_of (record rules { limits = record { line = z; depth = rules.limits.depth } })
         (header ++ part)) o (lent a old) (lent b new)) same x
 
-module _ {S : Type 0} (law : SinkLaw S) (r : Request) (header part : List ℕ) (a b : S) (old new : List Told)
+module _ {S : Type 0} (law : SinkContract S) (r : Request) (header part : List ℕ) (a b : S) (old new : List CReport)
     (fit : IsFit r header part) where
   -- so a call that judged by these answers by the rules of its request
   pub asked-ok : (rules used : Rules) (went : Result Outcome NotJudged) → IsAsked r rules

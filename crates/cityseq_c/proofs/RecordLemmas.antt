@@ -101,7 +101,7 @@ added-first a c b here (l ∷ ls) i xs adds later = record {
       (ltb (listed_count a) (length (listed_room a))) refl adds.stores later.stored;
 }
 
--- an item was dealt with, and then others
+-- an item was handled, and then others
 first-listed : (a c b : Listed) (i : Item) (is : List Item) → ListsItem a i c
     → Listing c b (found_from (listed_place c) is) → Listing a b (found_from (listed_place a) (i ∷ is))
 first-listed a c b i is step later = go i.header refl step

@@ -1,24 +1,24 @@
 -- What room for reports has of some reports.
-use Rattle.cityseq_c.proofs.Common.{Bool, Holds, List, Noted, Told, Took, [], ap, append-nil, append_assoc, arith, cond, drop, drop-set-lt, false, length, length-set, ltb, ltb-false, ltb-true, map, min, refl, slice_set, subst, suc, sym, take, take_more_set, true, zero, ℕ, ◌++◌, ◌+◌, ◌-◌, ◌<◌, ◌∙◌, ◌∷◌, ◌≡◌, ◌≤◌}
+use Rattle.cityseq_c.proofs.Common.{Bool, Holds, List, Noted, CReport, Took, [], ap, append-nil, append_assoc, arith, cond, drop, drop-set-lt, false, length, length-set, ltb, ltb-false, ltb-true, map, min, refl, slice_set, subst, suc, sym, take, take_more_set, true, zero, ℕ, ◌++◌, ◌+◌, ◌-◌, ◌<◌, ◌∙◌, ◌∷◌, ◌≡◌, ◌≤◌}
 use Rattle.cj_stream.specs.declared.report_sink.Report.{Report}
-use Rattle.cityseq_c.specs.ReportSlice.{count_of, noted_loan, noted_room, noted_text, told as told_of, NotesOne}
+use Rattle.cityseq_c.specs.ReportSlice.{count_of, noted_loan, noted_room, noted_text, c_report, NotesOne}
 
-take-nothing : (n : ℕ) → take {A = Told} n [] ≡ []
+take-nothing : (n : ℕ) → take {A = CReport} n [] ≡ []
 take-nothing zero = refl
 take-nothing (suc n) = refl
 
 module _ (text : List ℕ) where
-  abbrev told : Report → Told
-  told = told_of text
+  abbrev shown : Report → CReport
+  shown = c_report text
 
   -- of c and the list l: reports were written behind the first c, as many as fit, and made d and m of them
-  record Stored (c : ℕ) (l : List Told) (d : ℕ) (m : List Told) (rs : List Report) : Type 0 where
+  record Stored (c : ℕ) (l : List CReport) (d : ℕ) (m : List CReport) (rs : List Report) : Type 0 where
     size : length m ≡ length l
     count : d ≡ min (c + length rs) (length l)
-    front : take d m ≡ take c l ++ take (length l - c) (map told rs)
+    front : take d m ≡ take c l ++ take (length l - c) (map shown rs)
     rest : drop d m ≡ drop d l
 
-  none-stored : (c : ℕ) (l : List Told) → c ≤ length l → Stored c l c l []
+  none-stored : (c : ℕ) (l : List CReport) → c ≤ length l → Stored c l c l []
   none-stored c l within = record {
     size = refl;
     count = omega (arith, within);
@@ -27,24 +27,24 @@ module _ (text : List ℕ) where
   }
 
   -- one more report that fits, and then others
-  one-fits : (c : ℕ) (l : List Told) (d : ℕ) (m : List Told) (r : Report) (rs : List Report) → c < length l
-      → Stored (c + 1) (slice_set l c (told r)) d m rs → Stored c l d m (r ∷ rs)
+  one-fits : (c : ℕ) (l : List CReport) (d : ℕ) (m : List CReport) (r : Report) (rs : List Report) → c < length l
+      → Stored (c + 1) (slice_set l c (shown r)) d m rs → Stored c l d m (r ∷ rs)
   one-fits c l d m r rs fits h =
-      let size : length (slice_set l c (told r)) ≡ length l = length-set l c (told r) in
-      let left : length l - c ≡ suc (length (slice_set l c (told r)) - (c + 1)) = omega (arith, fits, size) in
-      let here : take (c + 1) (slice_set l c (told r)) ≡ take c l ++ told r ∷ [] = take_more_set l c (told r) fits in
-      let after : List Told = take (length (slice_set l c (told r)) - (c + 1)) (map told rs) in
+      let size : length (slice_set l c (shown r)) ≡ length l = length-set l c (shown r) in
+      let left : length l - c ≡ suc (length (slice_set l c (shown r)) - (c + 1)) = omega (arith, fits, size) in
+      let here : take (c + 1) (slice_set l c (shown r)) ≡ take c l ++ shown r ∷ [] = take_more_set l c (shown r) fits in
+      let after : List CReport = take (length (slice_set l c (shown r)) - (c + 1)) (map shown rs) in
       record {
         size = h.size ∙ size;
         count = omega (arith, h.count, size);
         front = h.front ∙ (ap (λ z. z ++ after) here
-            ∙ (append_assoc (take c l) (told r ∷ []) after
-            ∙ sym (ap (λ n. take c l ++ take n (told r ∷ map told rs)) left)));
-        rest = h.rest ∙ drop-set-lt d l c (told r) (omega (arith, h.count, size, fits));
+            ∙ (append_assoc (take c l) (shown r ∷ []) after
+            ∙ sym (ap (λ n. take c l ++ take n (shown r ∷ map shown rs)) left)));
+        rest = h.rest ∙ drop-set-lt d l c (shown r) (omega (arith, h.count, size, fits));
       }
 
   -- one more that does not fit
-  one-left : (c : ℕ) (l : List Told) (d : ℕ) (m : List Told) (r : Report) (rs : List Report) → c ≤ length l
+  one-left : (c : ℕ) (l : List CReport) (d : ℕ) (m : List CReport) (r : Report) (rs : List Report) → c ≤ length l
       → length l ≤ c → Stored c l d m rs → Stored c l d m (r ∷ rs)
   one-left c l d m r rs within full h =
       let none : length l - c ≡ 0 = omega (arith, full) in
@@ -57,21 +57,23 @@ module _ (text : List ℕ) where
       }
 
   -- what one more report makes of a count and a list
-  after-one : (c : ℕ) (l : List Told) (d : ℕ) (m : List Told) (e : ℕ) (k : List Told) (r : Report) (rs : List Report)
+  after-one : (c : ℕ) (l : List CReport) (d : ℕ) (m : List CReport) (e : ℕ) (k : List CReport) (r : Report)
+      (rs : List Report)
       (fits : Bool) → ltb c (length l) ≡ fits → c ≤ length l
-      → k ≡ cond fits (slice_set l c (told r)) l → e ≡ cond fits (c + 1) c → Stored e k d m rs → Stored c l d m (r ∷ rs)
+      → k ≡ cond fits (slice_set l c (shown r)) l → e ≡ cond fits (c + 1) c → Stored e k d m rs
+      → Stored c l d m (r ∷ rs)
   after-one c l d m e k r rs true is within list count h =
       one-fits c l d m r rs (ltb-true c (length l) is) (rw (count, list) at h)
   after-one c l d m e k r rs false is within list count h =
       one-left c l d m r rs within (ltb-false c (length l) is) (rw (count, list) at h)
 
-  held : (l : List Told) (d : ℕ) (m : List Told) (rs : List Report) → Stored 0 l d m rs → Holds text rs l m
+  held : (l : List CReport) (d : ℕ) (m : List CReport) (rs : List Report) → Stored 0 l d m rs → Holds text rs l m
   held l d m rs h =
       let count : d ≡ min (length rs) (length l) = omega (arith, h.count) in
       let all : length l - 0 ≡ length l = omega arith in
       record {
         size = h.size;
-        first = rw (← count) (h.front ∙ ap (λ n. take n (map told rs)) all);
+        first = rw (← count) (h.front ∙ ap (λ n. take n (map shown rs)) all);
         rest = rw (← count) h.rest;
       }
 

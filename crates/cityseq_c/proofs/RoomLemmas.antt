@@ -1,5 +1,5 @@
 -- What is in room that is lent for an output.
-use Rattle.cityseq_c.proofs.Common.{Copied, Faults, IsFull, IsUnhindered, IsWritten, Item, Judged, List, Outcome, Rules, Some, Told, Took, WriteFault, [], ap, append-nil, append_assoc, arith, drop, drop-drop, flat_map, kept, kept_first, length, length-append, lent, output, raw_item, refl, stream_of, subst, sym, take, up_to, ℕ, ◌++◌, ◌+◌, ◌-◌, ◌∙◌, ◌∷◌, ◌≡◌, ◌≤◌}
+use Rattle.cityseq_c.proofs.Common.{Copied, Faults, IsFull, IsUnhindered, IsWritten, Item, Judged, List, Outcome, Rules, Some, CReport, Took, WriteFault, [], ap, append-nil, append_assoc, arith, drop, drop-drop, flat_map, kept, kept_first, length, length-append, lent, output, raw_item, refl, stream_of, subst, sym, take, up_to, ℕ, ◌++◌, ◌+◌, ◌-◌, ◌∙◌, ◌∷◌, ◌≡◌, ◌≤◌}
 use Rattle.cityseq_c.proofs.FitLemmas.{first-fits}
 use Rattle.cityseq_c.specs.Room.{room_bytes, room_loan, written_of, in_room, room_law}
 use Rattle.cityseq_c.specs.declared.room.Room.{Room}
@@ -42,7 +42,7 @@ all-written a b (x ∷ xs) h =
           first.rest;
     }
 
-module _ (rules : Rules) (text : List ℕ) (o : Outcome) (a b : Room) (reports new_reports : List Told)
+module _ (rules : Rules) (text : List ℕ) (o : Outcome) (a b : Room) (reports new_reports : List CReport)
     (old new : List ℕ) (written : ℕ)
     (j : Judged room_law (stream_of rules text) o (lent a reports) (lent b new_reports)) (none : written_of a ≡ 0)
     (begins : room_bytes a ≡ old) (back : room_loan b ≡ room_loan a → new ≡ room_bytes b)

@@ -1,5 +1,5 @@
 -- Worked rows: where features stand, and the record of one.
-use Rattle.cityseq_c.proofs.Common.{IsRecordOf, Line, List, None, Reason, Rules, Some, Spot, Tree, [], arith, bits, chars, ended_line, false, filter, get_or, good_from, is_feature, is_number, is_utf8, length, lit≤, map, range_of, raw, refl, spots_from, suc, tree_of, true, verdict, zero, ℕ, ◌++◌, ◌<◌, ◌∙◌, ◌∷◌, ◌≡◌}
+use Rattle.cityseq_c.proofs.Common.{IsRecordOf, Line, List, None, Reason, Rules, Some, Spot, Tree, [], arith, bits, chars, ended_line, false, filter, get_or, good_from, is_feature, is_number, is_utf8, length, lit≤, map, shown_range, raw, refl, spots_from, suc, tree_of, true, verdict, zero, ℕ, ◌++◌, ◌<◌, ◌∙◌, ◌∷◌, ◌≡◌}
 use lib.Utf8.{encode}
 use Rattle.cj_decimal.specs.Meaning.Reading.{digits_front, digits_rest, begins, is_empty, begins_digit, body, is_int, is_frac, frac_digits, after_frac, exp_digits, is_whole_digits, is_exp, exp_value}
 use Rattle.cj_decimal.proofs.Classes.{class}
@@ -93,8 +93,8 @@ small = record {
   item = record { line = ended_line small_feature; tree = plain_feature.tree; header = Some plain_header };
 }
 
-no-range : (axis : ℕ) → axis < 3 → get_or (range_of None ∷ range_of None ∷ range_of None ∷ []) axis (range_of None)
-    ≡ range_of None
+no-range : (axis : ℕ) → axis < 3
+    → get_or (shown_range None ∷ shown_range None ∷ shown_range None ∷ []) axis (shown_range None) ≡ shown_range None
 no-range zero low = refl
 no-range (suc zero) low = refl
 no-range (suc (suc zero)) low = refl
@@ -117,7 +117,7 @@ shown t header e f = rw (e, f) (record {
   geometries = refl;
   types = refl;
   lods = refl;
-  ranges = λ axis low. record { range = None; ends = refl; told = no-range axis low };
+  ranges = λ axis low. record { range = None; ends = refl; shown = no-range axis low };
 })
 
 other : (t header : Tree) → t ≡ plain_feature.tree

@@ -1,5 +1,5 @@
 -- What a sink has tallied of a text.
-use Rattle.cityseq_c.proofs.Common.{Complete, IsTalliedOf, IsTally, IsUnhindered, Item, Judged, List, None, Option, Outcome, Puts, Rules, Some, Tallies, Told, [], ap, arith, capped, chars, class_count, codes, cond, ended_line, ending, filter, get_or, get_or-replicate, is_some, item_after, kept, kept_from, last_or, length, lent, lines, lit<, map, never_fails, no_tally, option_map, range_of, refl, replicate, same_number_lists, slot_count, stream_of, subst, sym, true, ℕ, ◌++◌, ◌+◌, ◌<◌, ◌^◌, ◌∙◌, ◌∷◌, ◌≡◌, ◌≢◌}
+use Rattle.cityseq_c.proofs.Common.{Complete, IsTalliedOf, IsTally, IsUnhindered, Item, Judged, List, None, Option, Outcome, Puts, Rules, Some, Tallies, CReport, [], ap, arith, capped, chars, class_count, codes, cond, ended_line, ending, filter, get_or, get_or-replicate, is_some, item_after, kept, kept_from, last_or, length, lent, lines, lit<, map, never_fails, no_tally, option_map, shown_range, refl, replicate, same_number_lists, slot_count, stream_of, subst, sym, true, ℕ, ◌++◌, ◌+◌, ◌<◌, ◌^◌, ◌∙◌, ◌∷◌, ◌≡◌, ◌≢◌}
 use Rattle.cj_decimal.specs.Meaning.Number.{Number as Decimal}
 use Rattle.cj_feature.specs.Meaning.Transform.{transform_values}
 use Rattle.cj_stream.specs.CountSink.{is_header}
@@ -10,13 +10,13 @@ use Rattle.cityseq_c.specs.Tally.{AreShown, HasCounts, zeros}
 use Rattle.cityseq_c.specs.declared.tally.Tally.{Tally}
 
 -- without a hindrance the tally is that of all that is kept
-pub tallied : (rules : Rules) (text : List ℕ) (o : Outcome) (start t : Tallied) (old new : List Told)
+pub tallied : (rules : Rules) (text : List ℕ) (o : Outcome) (start t : Tallied) (old new : List CReport)
     → Judged (never_fails Tallies) (stream_of rules text) o (lent start old) (lent t new) → start ≡ no_tally
-    → (told : Tally) → IsTally t told → (start ≡ no_tally → Puts (never_fails Tallies) (stream_of rules text) Complete
+    → (shown : Tally) → IsTally t shown → (start ≡ no_tally → Puts (never_fails Tallies) (stream_of rules text) Complete
     start t → TalliesRun (stream_of rules text) Complete t)
-    → IsUnhindered o.ended → IsTalliedOf rules text told
-tallied rules text o start t old new j fresh told same law free =
-    record { tallied = t; all = law fresh (j.took free); told = same }
+    → IsUnhindered o.ended → IsTalliedOf rules text shown
+tallied rules text o start t old new j fresh shown same law free =
+    record { tallied = t; all = law fresh (j.took free); shown = same }
 
 -- ---- two parts
 
@@ -42,8 +42,8 @@ module _ (rules : Rules) (h a : List ℕ) (cut : IsCut h a) (done : ending rules
 
 -- a tally with the transform of another
 abbrev with_transform : Tally → Tally → Tally
-with_transform told header =
-    record told { transformed = header.transformed; scale = header.scale; translate = header.translate }
+with_transform shown header =
+    record shown { transformed = header.transformed; scale = header.scale; translate = header.translate }
 
 -- what two parts were tallied as, by sinks that have the counts of each
 module _ (rules : Rules) (h a b : List ℕ) (first second joined header : Tally) (s t u : Tallied) where
@@ -54,12 +54,12 @@ module _ (rules : Rules) (h a b : List ℕ) (first second joined header : Tally)
       → JoinsTallies x y both → IsTallyOf (kept rules (headed h (a ++ b))) both)
       → IsTalliedOf rules (headed h a) first → IsTalliedOf rules (headed h b) second
       → IsTalliedOf rules (headed h (a ++ b)) (with_transform joined header)
-  tallied-then cut done own counts more joins told law x y =
-      let p = counts x.tallied x.told in
-      let q = more y.tallied y.told in
+  tallied-then cut done own counts more joins shown law x y =
+      let p = counts x.tallied x.shown in
+      let q = more y.tallied y.shown in
       let both : Tallied = record u { scale = x.tallied.scale; translate = x.tallied.translate } in
       let some : is_some x.tallied.scale ≡ true = scale-known rules h a cut done x.tallied.scale x.all.scale in
-      let one : first.transformed ≡ 1 = x.told.transformed ∙ ap (λ z. cond z 1 0) some in
+      let one : first.transformed ≡ 1 = x.shown.transformed ∙ ap (λ z. cond z 1 0) some in
       let same : header ≡ first = own (λ none. absurd (omega (arith, one, none))) in
       record {
         tallied = both;
@@ -78,14 +78,14 @@ module _ (rules : Rules) (h a b : List ℕ) (first second joined header : Tally)
           scale = refl;
           translate = refl;
         });
-        told = record {
-          features = told.features;
-          types = told.types;
-          lods = told.lods;
-          ranges = told.ranges;
-          transformed = ap (λ z. z.transformed) same ∙ x.told.transformed;
-          scale = subst (λ z. AreShown x.tallied.scale z.scale) (sym same) x.told.scale;
-          translate = subst (λ z. AreShown x.tallied.translate z.translate) (sym same) x.told.translate;
+        shown = record {
+          features = shown.features;
+          types = shown.types;
+          lods = shown.lods;
+          ranges = shown.ranges;
+          transformed = ap (λ z. z.transformed) same ∙ x.shown.transformed;
+          scale = subst (λ z. AreShown x.tallied.scale z.scale) (sym same) x.shown.scale;
+          translate = subst (λ z. AreShown x.tallied.translate z.translate) (sym same) x.shown.translate;
         };
       }
 
@@ -113,7 +113,7 @@ pub record IsOfSize (t : Tallied) : Type 0 where
 module _ (first second joined : Tally) (x s t u : Tallied) (none : first ≡ zeros) (of_x : IsTally x second)
     (counts : (y : Tallied) → IsTally y first → HasCounts y s)
     (more : (y : Tallied) → IsTally y second → HasCounts y t)
-    (joins : JoinsTallies s t u) (told : IsTally u joined) (size : IsOfSize t) (long : IsOfSize u) where
+    (joins : JoinsTallies s t u) (shown : IsTally u joined) (size : IsOfSize t) (long : IsOfSize u) where
   nothing : IsTally no_tally first
   nothing = rw none (record {
     features = refl;
@@ -133,25 +133,25 @@ module _ (first second joined : Tally) (x s t u : Tallied) (none : first ≡ zer
 
   same-features : joined.features ≡ second.features
   same-features =
-      omega (arith, told.features, joins.features, of_first.features, of_next.features, of_x.features, size.features)
+      omega (arith, shown.features, joins.features, of_first.features, of_next.features, of_x.features, size.features)
 
   same-types : joined.types ≡ second.types
   same-types =
-      told.types ∙ (added-to-zeros slot_count s.types t.types u.types of_first.types size.types long.types
+      shown.types ∙ (added-to-zeros slot_count s.types t.types u.types of_first.types size.types long.types
       size.few_types joins.types ∙ (of_next.types ∙ sym of_x.types))
 
   same-lods : joined.lods ≡ second.lods
   same-lods =
-      told.lods ∙ (added-to-zeros class_count s.lods t.lods u.lods of_first.lods size.lods long.lods size.few_lods
+      shown.lods ∙ (added-to-zeros class_count s.lods t.lods u.lods of_first.lods size.lods long.lods size.few_lods
       (λ n lt. joins.lods n (omega (arith, lt))) ∙ (of_next.lods ∙ sym of_x.lods))
 
-  axis : (k : ℕ) → k < 3 → range_of (get_or u.ranges k None) ≡ range_of (get_or x.ranges k None)
+  axis : (k : ℕ) → k < 3 → shown_range (get_or u.ranges k None) ≡ shown_range (get_or x.ranges k None)
   axis k lt =
-      ap range_of (joins.ranges k lt ∙ (ap (λ z. wider z (get_or t.ranges k None))
+      ap shown_range (joins.ranges k lt ∙ (ap (λ z. wider z (get_or t.ranges k None))
       (of_first.ranges k lt ∙ get_or-replicate 3 k None None lt) ∙ of_next.ranges k lt))
 
   same-ranges : joined.ranges ≡ second.ranges
-  same-ranges = rw (told.ranges, of_x.ranges, axis 0 (lit< tt), axis 1 (lit< tt), axis 2 (lit< tt)) refl
+  same-ranges = rw (shown.ranges, of_x.ranges, axis 0 (lit< tt), axis 1 (lit< tt), axis 2 (lit< tt)) refl
 
   pub zeros-then : with_transform joined second ≡ second
   zeros-then = rw (same-features, same-types, same-lods, same-ranges) refl

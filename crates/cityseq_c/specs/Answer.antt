@@ -1,4 +1,4 @@
--- What C is told of how it went.
+-- What C gets of how it went.
 use Rattle.std.specs.Prelude.{ℕ, Result, Ok, Err}
 use Rattle.cj_spans.specs.Meaning.Reason.{code_of}
 use Rattle.cj_stream.specs.declared.ending.End.{End}
@@ -46,7 +46,7 @@ place_at ReadLimit = 0
 place_at WriteFault = 0
 place_at NoMemory = 0
 
--- what is told of an outcome, where so many bytes were written
+-- what is answered of an outcome, where so many bytes were written
 abbrev pub answer_of : Outcome → ℕ → Answer
 answer_of o written = record {
   status = status_of o.ended;
@@ -64,7 +64,7 @@ answer_of o written = record {
   item = 0;
 }
 
--- what is told where nothing was read, with where the fault of the request is
+-- what is answered where nothing was read, with where the fault of the request is
 abbrev pub not_judged : ℕ → ℕ → ℕ → ℕ → Answer
 not_judged status code list item = record {
   status = status;
@@ -82,7 +82,7 @@ not_judged status code list item = record {
   item = item;
 }
 
--- what is told of a request, by how it went
+-- what is answered of a request, by how it went
 abbrev pub answer_to : Request → Result Outcome NotJudged → ℕ → Answer
 answer_to r (Ok outcome) written = answer_of outcome written
 answer_to r (Err (Fault fault)) written =

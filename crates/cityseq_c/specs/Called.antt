@@ -9,14 +9,14 @@ use Rattle.cj_stream.specs.TallySink.{Tally as Tallied, IsTallyOf}
 use Rattle.cj_stream.specs.Meaning.Rules.{Rules}
 use Rattle.cj_stream.specs.Verdict.{is_kept, kept, output, output_first, verdict}
 use Rattle.cityseq_c.specs.Answer.{answer_to}
-use Rattle.cityseq_c.specs.Judged.{Tells}
+use Rattle.cityseq_c.specs.Judged.{AnswersFor}
 use Rattle.cityseq_c.specs.Query.{DeclinesCall}
 use Rattle.cityseq_c.specs.Request.{IsAsked}
 use Rattle.cityseq_c.specs.Tally.{IsTally}
 use Rattle.cityseq_c.specs.Features.{HoldsRecords, spots}
 use Rattle.cityseq_c.specs.declared.answer.Answer.{Answer}
 use Rattle.cityseq_c.specs.declared.features.record_of.FeatureRecord.{FeatureRecord}
-use Rattle.cityseq_c.specs.declared.report_slice.Told.{Told}
+use Rattle.cityseq_c.specs.declared.report_slice.CReport.{CReport}
 use Rattle.cityseq_c.specs.declared.request.NotJudged.{NotJudged}
 use Rattle.cityseq_c.specs.declared.request.Request.{Request}
 use Rattle.cityseq_c.specs.declared.tally.Tally.{Tally}
@@ -26,10 +26,10 @@ pub record Call : Type 0 where
   pub request : Request
   pub header : List ℕ
   pub part : List ℕ
-  pub old : List Told
-  pub new : List Told
+  pub old : List CReport
+  pub new : List CReport
 
-abbrev pub call : Request → List ℕ → List ℕ → List Told → List Told → Call
+abbrev pub call : Request → List ℕ → List ℕ → List CReport → List CReport → Call
 call request header part old new =
     record { request = request; header = header; part = part; old = old; new = new }
 
@@ -38,18 +38,18 @@ abbrev pub text_of : Call → List ℕ
 text_of c = c.header ++ c.part
 
 -- A call, by how it went: header and part were judged, as one stream, by the rules that were asked for, and this is
--- told of it, with what else comes of these; or nothing was read, for what is wrong or for want of memory, and no room
--- has changed.
+-- answered of it, with what else comes of these; or nothing was read, for what is wrong or for want of memory, and
+-- no room has changed.
 abbrev pub Goes : Call → (Rules → Outcome → Type 0) → Result Outcome NotJudged → Type 0
 Goes c also (Ok outcome) =
-    (rules : Rules) × IsAsked c.request rules × Tells rules (text_of c) outcome c.old c.new × also rules outcome
+    (rules : Rules) × IsAsked c.request rules × AnswersFor rules (text_of c) outcome c.old c.new × also rules outcome
 Goes c also (Err why) = DeclinesCall c.request c.header c.part why × (c.new ≡ c.old)
 
 -- the answer of a call says how it went, and that it wrote this number of bytes of output
 pub record Calls (c : Call) (also : Rules → Outcome → Type 0) (written : ℕ) (answer : Answer) : Type 0 where
   pub went : Result Outcome NotJudged
   pub goes : Goes c also went
-  pub told : answer ≡ answer_to c.request went written
+  pub shown : answer ≡ answer_to c.request went written
 
 -- a check
 abbrev pub Checks : Call → Answer → Type 0
@@ -70,7 +70,7 @@ pub record IsFull (rules : Rules) (text old new : List ℕ) (written n : ℕ) : 
   pub kept : is_kept (verdict rules (take n (lines text)) next.content) ≡ true
   pub full : length old < written + length (raw next)
 
--- what was written of a text: its output, or that of the lines that were dealt with where the next one did not fit;
+-- what was written of a text: its output, or that of the lines that were handled where the next one did not fit;
 -- room for as many bytes as the text has is always enough
 pub record Copied (rules : Rules) (text old new : List ℕ) (written : ℕ) (outcome : Outcome) : Type 0 where
   pub all : IsUnhindered outcome.ended → IsWritten (output rules text) old new written
@@ -86,7 +86,7 @@ Filters c before after answer =
 pub record IsTalliedOf (rules : Rules) (text : List ℕ) (tally : Tally) : Type 0 where
   pub tallied : Tallied
   pub all : IsTallyOf (kept rules text) tallied
-  pub told : IsTally tallied tally
+  pub shown : IsTally tallied tally
 
 -- a tally
 abbrev pub TalliesPart : Call → Tally → Answer → Type 0

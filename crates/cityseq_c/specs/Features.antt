@@ -16,7 +16,7 @@ use Rattle.cj_stream.specs.Tallied.{IsRange, beside, capped, class_count, how_of
 use Rattle.cj_stream.specs.Tallied.{slot_count, type_numbers}
 use Rattle.cj_stream.specs.Meaning.Rules.{Rules}
 use Rattle.cj_stream.specs.Verdict.{good, is_kept, verdict, item_after}
-use Rattle.cityseq_c.specs.Tally.{range_of}
+use Rattle.cityseq_c.specs.Tally.{shown_range}
 use Rattle.cityseq_c.specs.declared.features.record_of.FeatureRecord.{FeatureRecord}
 use Rattle.cityseq_c.specs.declared.features.listed.Listed.{Listed}
 use Rattle.cityseq_c.specs.declared.features.cursor.Cursor.{Cursor}
@@ -88,7 +88,7 @@ HasSpan line (Some t) begin long = (begin ≡ start_of t) × (long ≡ length (s
 pub record HasRange (i : Item) (f : FeatureRecord) (axis : ℕ) : Type 0 where
   pub range : Option (ℤ × ℤ)
   pub ends : IsRange (numbers_on axis i.tree) range
-  pub told : get_or f.ranges axis (range_of None) ≡ range_of range
+  pub shown : get_or f.ranges axis (shown_range None) ≡ shown_range range
 
 -- a record has the place of a feature, and says what is in it
 pub record IsRecordOf (x : Spot) (f : FeatureRecord) : Type 0 where

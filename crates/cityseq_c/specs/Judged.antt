@@ -8,11 +8,11 @@ use Rattle.cj_stream.specs.Engine.{Delivers}
 use Rattle.cj_stream.specs.Meaning.Headline.{IsUnhindered}
 use Rattle.cj_stream.specs.Run.{Account, CountsAll, Run}
 use Rattle.cj_stream.specs.Meaning.Outputs.{Took}
-use Rattle.cj_stream.specs.Sink.{SinkLaw}
+use Rattle.cj_stream.specs.Sink.{SinkContract}
 use Rattle.cj_stream.specs.Meaning.Rules.{Rules}
 use Rattle.cj_stream.specs.Verdict.{Stream, ending, kept, reported, reported_first, stretch}
 use Rattle.cityseq_c.specs.ReportSlice.{Holds}
-use Rattle.cityseq_c.specs.declared.report_slice.Told.{Told}
+use Rattle.cityseq_c.specs.declared.report_slice.CReport.{CReport}
 
 -- an end of a text that was judged: no reader failed, and memory was granted
 abbrev pub IsJudged : End → Type 0
@@ -27,8 +27,8 @@ run_over rules text outcome = record { rules = rules; read = text; outcome = out
 
 -- How a call reports a text that it judged by rules. Its end, its counts and the reports in the room for them are those
 -- of the whole text, unless the sink failed. Whatever the end is, counts and reports are those of the first lines, as
--- many as were dealt with, and no less was held at most than these lines need.
-pub record Tells (rules : Rules) (text : List ℕ) (outcome : Outcome) (old new : List Told) : Type 0 where
+-- many as were handled, and no less was held at most than these lines need.
+pub record AnswersFor (rules : Rules) (text : List ℕ) (outcome : Outcome) (old new : List CReport) : Type 0 where
   pub judged : IsJudged outcome.ended
   pub account : Account (run_over rules text outcome) (Unit {0})
   pub ends : IsUnhindered outcome.ended → outcome.ended ≡ ending rules text
@@ -40,14 +40,15 @@ pub record Tells (rules : Rules) (text : List ℕ) (outcome : Outcome) (old new 
 -- what a call borrows for the lines of a text: a sink for the kept ones, and a list of reports
 pub record Lent (S : Type 0) : Type 0 where
   pub sink : S
-  pub reports : List Told
+  pub reports : List CReport
 
-abbrev pub lent : {S : Type 0} → S → List Told → Lent S
+abbrev pub lent : {S : Type 0} → S → List CReport → Lent S
 lent sink reports = record { sink = sink; reports = reports }
 
 -- A text was judged: what the call reports of it, and what its sink took. Without a fault the sink took all kept lines.
--- Else it took those of the lines that were dealt with, and then what a fault may leave.
-pub record Judged {S : Type 0} (law : SinkLaw S) (text : Stream) (outcome : Outcome) (old new : Lent S) : Type 0 where
-  pub tells : Tells text.rules text.bytes outcome old.reports new.reports
+-- Else it took those of the lines that were handled, and then what a fault may leave.
+pub record Judged {S : Type 0} (law : SinkContract S) (text : Stream) (outcome : Outcome)
+    (old new : Lent S) : Type 0 where
+  pub answers : AnswersFor text.rules text.bytes outcome old.reports new.reports
   pub took : IsUnhindered outcome.ended → Took law.takes old.sink (kept text.rules text.bytes) new.sink
   pub delivers : Delivers law (stretch text.rules text.bytes 0 outcome.lines) old.sink new.sink (Some outcome.ended)

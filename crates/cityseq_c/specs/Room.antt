@@ -1,7 +1,7 @@
 -- What contracts see of bytes that are lent for an output.
 use Rattle.std.specs.Prelude.{◌≡◌, ℕ, ◌+◌, ◌<◌, List, ◌++◌, drop, length, take}
 use Rattle.cj_stream.specs.Items.{raw_item}
-use Rattle.cj_stream.specs.Sink.{SinkLaw, HasRisen}
+use Rattle.cj_stream.specs.Sink.{SinkContract, HasRisen}
 use Rattle.cityseq_c.specs.declared.room.Room.{Room}
 
 -- the bytes, which loan of them it is, how many of them are written, and how often a line did not fit
@@ -31,7 +31,7 @@ pub record Grows (a : Room) (bs : List ℕ) (b : Room) : Type 0 where
   pub failures : room_failures b ≡ room_failures a
 
 -- bytes did not fit, and none of them was written
-pub record Stays (a : Room) (bs : List ℕ) (b : Room) : Type 0 where
+pub record LeavesRoom (a : Room) (bs : List ℕ) (b : Room) : Type 0 where
   pub loan : room_loan b ≡ room_loan a
   pub bytes : room_bytes b ≡ room_bytes a
   pub count : written_of b ≡ written_of a
@@ -39,9 +39,9 @@ pub record Stays (a : Room) (bs : List ℕ) (b : Room) : Type 0 where
   pub failures : HasRisen (room_failures a) (room_failures b)
 
 -- the same of the bytes of an item
-abbrev pub room_law : SinkLaw Room
+abbrev pub room_law : SinkContract Room
 room_law = record {
   takes = λ a i b. Grows a (raw_item i) b;
-  leaves = λ a i b. Stays a (raw_item i) b;
+  leaves = λ a i b. LeavesRoom a (raw_item i) b;
   failures = room_failures;
 }

@@ -4,7 +4,7 @@ use Rattle.cj_spans.specs.declared.token.Kind.TheVariants.{Null}
 use Rattle.cj_spans.specs.Meaning.Json.{atom_at}
 use Rattle.cj_spans.specs.Meaning.Signs.{carriage_return, newline}
 use Rattle.cj_spans.specs.Meaning.Tree.{scalar, object, no_members, member}
-use Rattle.cj_feature.specs.Examples.{Row, itself, number, row, text}
+use Rattle.cj_feature.specs.Examples.{Row, itself, number_at, row, text}
 use Rattle.cj_stream.specs.GoingRows.{going}
 use Rattle.cj_stream.specs.Item.{item_at, tree_of}
 use Rattle.cj_stream.specs.Meaning.Lines.{ended_line}
@@ -13,7 +13,7 @@ use Rattle.cj_stream.specs.Meaning.Rules.{Rules}
 use Rattle.cityseq_c.specs.Cutting.{part_end}
 use Rattle.cityseq_c.specs.FaultPlace.{empty_item, first_number, first_text}
 use Rattle.cityseq_c.specs.Features.{HasSpan, IsRecordOf, Spot, attributes_in, bits, is_among, spots}
-use Rattle.cityseq_c.specs.Tally.{range_of}
+use Rattle.cityseq_c.specs.Tally.{shown_range}
 use Rattle.cityseq_c.specs.declared.fault_place.ItemRule.TheVariants.{Number, TypeName, Utf8}
 use Rattle.cityseq_c.specs.declared.features.record_of.FeatureRecord.{FeatureRecord}
 
@@ -55,7 +55,7 @@ small_record = record {
   geometries = 0;
   types = 2;
   lods = 0;
-  ranges = range_of None ∷ range_of None ∷ range_of None ∷ [];
+  ranges = shown_range None ∷ shown_range None ∷ shown_range None ∷ [];
 }
 
 -- this is its record, and no other number of city objects is
@@ -67,12 +67,12 @@ abbrev pub furnished : Row
 furnished =
     row (codes "\"a\":{\"type\":\"Road\",\"attributes\":7},\"b\":{\"type\":\"Road\",\"attributes\":{},\"attributes\":null}")
     (λ line. member (atom_at line 50 53) (object 54 84 (member (atom_at line 55 61) (text line 62 68)
-    (member (atom_at line 69 81) (number line 82 83) no_members)))
+    (member (atom_at line 69 81) (number_at line 82 83) no_members)))
     (member (atom_at line 85 88) (object 89 138 (member (atom_at line 90 96) (text line 97 103)
     (member (atom_at line 104 116) (object 117 119 no_members)
     (member (atom_at line 120 132) (scalar Null (atom_at line 133 137)) no_members)))) no_members))
 
--- the first two bytes of these are told, and neither those of the other city object nor the second ones
+-- the first two bytes of these are shown, and neither those of the other city object nor the second ones
 abbrev pub AttributesRow : Type 0
 AttributesRow =
     HasSpan furnished.line (attributes_in furnished.tree) 117 2

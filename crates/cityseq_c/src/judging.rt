@@ -11,7 +11,7 @@ ghost use Rattle.cityseq_c.specs.Request.{AreCut, IsAsked, IsFit, needed_limits,
 use crate::finder::Finder;
 use crate::memory::needed_line;
 use crate::query::query_of;
-use crate::report_slice::{Noted, Told};
+use crate::report_slice::{CReport, Noted};
 use crate::request::{Fault, NotJudged, Request};
 use cj_stream::{End, Engine, LimitFault, Limits, LineSink, NoMemory, Outcome, laws, put_pieces};
 use memchr::memchr;
@@ -79,7 +79,7 @@ fn judge_stream<S: LineSink>(
     header: &[u8],
     part: &[u8],
     sink: &mut S,
-    reports: &mut [Told],
+    reports: &mut [CReport],
 ) -> Result<Outcome, NotJudged>
     requires fresh { IsFresh engine.old }
     requires cut { AreCut header.now part.now }
@@ -103,6 +103,8 @@ fn judge_stream<S: LineSink>(
 /// Judges a header and a part, which are one stream, as a request asks. It puts the header and the
 /// kept features to the sink. It writes the first reports to `reports`, as many as fit.
 ///
+/// It takes the arguments of the functions for C one by one, and a sink.
+///
 /// # Errors
 ///
 /// `Fault` if the request is wrong, and `Memory` if no memory was granted. Then the sink and
@@ -113,7 +115,7 @@ pub fn judge<S: LineSink>(
     part: &[u8],
     request: &Request<'_>,
     sink: &mut S,
-    reports: &mut [Told],
+    reports: &mut [CReport],
 ) -> Result<Outcome, NotJudged>
     ensures ok { IfOk result (λ outcome. (rules : Rules) × IsAsked request.now rules
         × Judged S.law (stream_of rules (header.now ++ part.now)) outcome (lent sink.old reports.old)

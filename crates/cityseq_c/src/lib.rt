@@ -64,7 +64,7 @@ use features::{FeatureRecord, Listed};
 use finder::Finder;
 use judging::{are_cut, judge};
 use memory::memory_of;
-use report_slice::Told;
+use report_slice::CReport;
 use request::Request;
 use room::Room;
 use std::alloc::Global;
@@ -95,7 +95,7 @@ pub extern "C" fn cityseq_check(
     header: &[u8],
     part: &[u8],
     request: &Request<'_>,
-    reports: &mut [Told],
+    reports: &mut [CReport],
 ) -> Answer
     ensures checks { Checks (call request.now header.now part.now reports.old reports.new) result }
     ensures fits { result.status ≢ 4 }
@@ -115,7 +115,7 @@ pub extern "C" fn cityseq_filter(
     part: &[u8],
     request: &Request<'_>,
     output: &mut [u8],
-    reports: &mut [Told],
+    reports: &mut [CReport],
 ) -> Answer
     ensures filters { Filters (call request.now header.now part.now reports.old reports.new) output.old
         output.new result }
@@ -136,7 +136,7 @@ pub extern "C" fn cityseq_info(
     part: &[u8],
     request: &Request<'_>,
     tally: &mut Tally,
-    reports: &mut [Told],
+    reports: &mut [CReport],
 ) -> Answer
     ensures tallies { TalliesPart (call request.now header.now part.now reports.old reports.new) tally.new result }
     ensures fits { result.status ≢ 4 }
@@ -161,7 +161,7 @@ pub extern "C" fn cityseq_features(
     part: &[u8],
     request: &Request<'_>,
     records: &mut [FeatureRecord],
-    reports: &mut [Told],
+    reports: &mut [CReport],
 ) -> Answer
     ensures lists { Lists (call request.now header.now part.now reports.old reports.new) records.old
         records.new result }

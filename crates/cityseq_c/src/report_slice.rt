@@ -7,7 +7,7 @@ use cj_stream::{Report, ReportSink};
 /// An invalid line after which reading went on, as C has it.
 #[repr(C)]
 #[derive(Clone, Copy, Debug, PartialEq, Eq)]
-pub struct Told {
+pub struct CReport {
     /// The number of the line in the header and the part, from 1.
     pub line: u64,
     /// Where the line begins in the header and the part, in bytes from 0.
@@ -18,16 +18,16 @@ pub struct Told {
     pub code: u64,
 }
 
-impl Told {
+impl CReport {
     ghost use Rattle.std.specs.Prelude.{◌≡◌};
-    ghost use Rattle.cityseq_c.specs.ReportSlice.{finder_text, told as told_of};
+    ghost use Rattle.cityseq_c.specs.ReportSlice.{finder_text, c_report};
 
     /// Returns a report as C has it. `finder` finds where its line begins.
-    fn of(report: Report, finder: &mut Finder<'_>) -> Told
-        ensures told { result ≡ told_of (finder_text finder.old) report }
+    fn of(report: Report, finder: &mut Finder<'_>) -> CReport
+        ensures value { result ≡ c_report (finder_text finder.old) report }
         ensures text { finder_text finder.new ≡ finder_text finder.old }
     {
-        Told {
+        CReport {
             line: report.line,
             begin: finder.begin(report.line),
             place: report.place,
@@ -41,7 +41,7 @@ impl Told {
 #[derive(Drop)]
 pub struct Noted<'a> {
     finder: Finder<'a>,
-    reports: &'a mut [Told],
+    reports: &'a mut [CReport],
     count: usize,
     ghost room: { count ≤ length reports.now },
 }
@@ -51,7 +51,7 @@ impl<'a> Noted<'a> {
     ghost use Rattle.cityseq_c.specs.ReportSlice.{count_of, finder_text, noted_loan, noted_room, noted_text};
 
     /// Returns a sink that has written no report. Lines begin where `finder` finds them.
-    pub fn new(finder: Finder<'a>, reports: &'a mut [Told]) -> Noted<'a>
+    pub fn new(finder: Finder<'a>, reports: &'a mut [CReport]) -> Noted<'a>
         ensures text { noted_text result ≡ finder_text finder.entry }
         ensures loan { noted_loan result ≡ reports.entry.ghost_name }
         ensures room { noted_room result ≡ reports.old }
@@ -72,7 +72,7 @@ impl ReportSink for Noted<'_> {
 
     fn report(&mut self, report: Report) {
         if self.count < self.reports.len() {
-            self.reports[self.count] = Told::of(report, &mut self.finder);
+            self.reports[self.count] = CReport::of(report, &mut self.finder);
             self.count += 1;
         }
     }

@@ -16,7 +16,7 @@ pub struct Room<'a> {
 impl<'a> Room<'a> {
     ghost use Rattle.std.specs.Prelude.{◌≡◌, ◌+◌, OnOk, OnErr};
     ghost use Rattle.cj_stream.specs.Meaning.Lines.{raw};
-    ghost use Rattle.cityseq_c.specs.Room.{room_bytes, room_loan, written_of, room_failures, Grows, Stays};
+    ghost use Rattle.cityseq_c.specs.Room.{room_bytes, room_loan, written_of, room_failures, Grows, LeavesRoom};
 
     /// Returns room in which nothing is written.
     pub fn new(bytes: &'a mut [u8]) -> Room<'a>
@@ -56,7 +56,7 @@ impl<'a> Room<'a> {
     /// `WriteFault` if there is no room for all of the line. Then it writes nothing of it.
     fn write_line(&mut self, content: &[u8], lf: bool) -> Result<(), WriteFault>
         ensures ok { OnOk result (Grows self.old (raw (record { content = content.now; lf = lf })) self.new) }
-        ensures fault { OnErr result (Stays self.old (raw (record { content = content.now; lf = lf })) self.new) }
+        ensures fault { OnErr result (LeavesRoom self.old (raw (record { content = content.now; lf = lf })) self.new) }
     {
         let left = self.bytes.len() - self.written;
         if left < content.len() || (lf && left == content.len()) {

@@ -1,6 +1,6 @@
 //! A tally as C has it, and that of two parts as one.
 ghost use Rattle.std.specs.Prelude.{◌≡◌};
-ghost use Rattle.cityseq_c.specs.Tally.{AreShown, IsDecimal, IsTally, range_of as range_told, range_by};
+ghost use Rattle.cityseq_c.specs.Tally.{AreShown, IsDecimal, IsTally, shown_range, range_by};
 
 use cj_decimal::Decimal;
 use cj_stream::{LOD_CLASSES, TYPE_SLOTS, TallySink, laws};
@@ -81,7 +81,7 @@ fn numbers_of(numbers: Option<[Decimal; 3]>) -> [Number; 3]
 
 /// Returns a range as C has it.
 pub fn range_of(range: Option<(i64, i64)>) -> Range
-    ensures { result ≡ range_told range }
+    ensures { result ≡ shown_range range }
 {
     match range {
         Some((least, greatest)) => Range {

@@ -1,7 +1,7 @@
 //! Runs each export with enough memory. The inputs are a header and a feature, invalid lines, and
 //! wrong requests.
 use crate::features::FeatureRecord;
-use crate::report_slice::Told;
+use crate::report_slice::CReport;
 use crate::request::Request;
 use crate::tally::{Number, Range, Tally};
 use crate::{
@@ -30,7 +30,7 @@ const BROKEN: &[u8] =
     b"{\"type\":\"CityJSONFeature\",\"id\":\"b1\",\"CityObjects\":{\"b1\":{\"type\":\"Building\",\"geometry\":[{\"type\":\"MultiSurface\",\"lod\":\"2.2\",\"boundaries\":[[[0,1,2,4]]]}]}},\"vertices\":[[0,0,0],[1000,0,0],[1000,1000,0],[0,1000,0]]}\n{\n";
 
 /// A report of nothing.
-const NO_REPORT: Told = Told {
+const NO_REPORT: CReport = CReport {
     line: 0,
     begin: 0,
     place: 0,
@@ -118,8 +118,8 @@ fn check_peaks(rt: &impl Abort, answer: Answer, wanted: (u64, u64, u64)) {
 }
 
 /// Checks a report: the line, where it begins, the place and the code.
-fn check_report(rt: &impl Abort, told: Told, wanted: (u64, u64, u64, u64)) {
-    let report = (told.line, told.begin, told.place, told.code);
+fn check_report(rt: &impl Abort, shown: CReport, wanted: (u64, u64, u64, u64)) {
+    let report = (shown.line, shown.begin, shown.place, shown.code);
     assert_eq!(rt; report, wanted);
 }
 
@@ -160,7 +160,7 @@ fn a_feature_is_checked(rt: HostRuntime) -> Result<(), Fail> {
 }
 
 #[test]
-fn an_invalid_line_is_told(rt: HostRuntime) -> Result<(), Fail> {
+fn an_invalid_line_is_answered(rt: HostRuntime) -> Result<(), Fail> {
     let answer = checked(rt.alloc(), HEADER, BROKEN, &USUAL);
     check_ended(&rt, answer, (1, 25, 2, 144));
     check_counts(&rt, answer, (1, 0, 0, 0));
@@ -169,7 +169,7 @@ fn an_invalid_line_is_told(rt: HostRuntime) -> Result<(), Fail> {
 }
 
 /// Goes on after invalid lines.
-fn reported(alloc: Global, reports: &mut [Told]) -> Answer {
+fn reported(alloc: Global, reports: &mut [CReport]) -> Answer {
     let request = Request {
         keep_going: true,
         ..USUAL
@@ -369,7 +369,7 @@ fn a_feature_is_asked_for(rt: HostRuntime) -> Result<(), Fail> {
 }
 
 #[test]
-fn wrong_requests_are_told(rt: HostRuntime) -> Result<(), Fail> {
+fn wrong_requests_are_answered(rt: HostRuntime) -> Result<(), Fail> {
     let limit = Request {
         line_limit: 0,
         ..USUAL
@@ -382,7 +382,7 @@ fn wrong_requests_are_told(rt: HostRuntime) -> Result<(), Fail> {
 }
 
 #[test]
-fn an_unknown_type_is_told(rt: HostRuntime) -> Result<(), Fail> {
+fn an_unknown_type_is_answered(rt: HostRuntime) -> Result<(), Fail> {
     let request = Request {
         asks_types: true,
         types: b"Building\nHouse",
@@ -404,7 +404,7 @@ fn typed(alloc: Global, types: &[u8], extensions: bool) -> Answer {
 }
 
 #[test]
-fn a_type_of_an_extension_is_told(rt: HostRuntime) -> Result<(), Fail> {
+fn a_type_of_an_extension_is_answered(rt: HostRuntime) -> Result<(), Fail> {
     check_fault(&rt, typed(rt.alloc(), b"Road\n+Shed", false), (5, 2, 1));
     check_fault(&rt, typed(rt.alloc(), b"+Shed\nShed", true), (5, 2, 1));
     let answer = typed(rt.alloc(), b"+Shed\nRoad", true);
@@ -414,7 +414,7 @@ fn a_type_of_an_extension_is_told(rt: HostRuntime) -> Result<(), Fail> {
 }
 
 #[test]
-fn a_text_that_is_not_utf8_is_told(rt: HostRuntime) -> Result<(), Fail> {
+fn a_text_that_is_not_utf8_is_answered(rt: HostRuntime) -> Result<(), Fail> {
     let request = Request {
         asks_ids: true,
         ids: b"a",
@@ -427,7 +427,7 @@ fn a_text_that_is_not_utf8_is_told(rt: HostRuntime) -> Result<(), Fail> {
 }
 
 #[test]
-fn a_wrong_box_is_told(rt: HostRuntime) -> Result<(), Fail> {
+fn a_wrong_box_is_answered(rt: HostRuntime) -> Result<(), Fail> {
     check_fault(&rt, boxed(rt.alloc(), b"0,0,1"), (6, 4, 3));
     check_fault(&rt, boxed(rt.alloc(), b"0,0,1,x"), (6, 4, 3));
     check_fault(&rt, boxed(rt.alloc(), b"0,0,1,1,1"), (6, 4, 4));
@@ -445,7 +445,7 @@ fn joined(first: &Answer, next: &Answer) -> Answer {
 }
 
 #[test]
-fn two_parts_are_told_as_one(rt: HostRuntime) -> Result<(), Fail> {
+fn two_parts_are_answered_as_one(rt: HostRuntime) -> Result<(), Fail> {
     let mut output = [0u8; 352];
     let first = filtered(rt.alloc(), &mut output);
     let next = checked(rt.alloc(), HEADER, BROKEN, &USUAL);

@@ -1,4 +1,4 @@
--- What is told of texts that the program writes.
+-- What is said of texts that the program writes.
 use Rattle.cityseq_command.proofs.Common.{Appends, AppendsPart, Channel, Check, Complete, End, Err, Filter, HasRisen, Info, Keeps, List, Memory, None, Ok, Option, Report, Result, RisesOnErr, Some, Wrote, [], ap, arith, check_text, inl, inr, outputs, refl, rules_for, run_of, stream_of, subst, summary_text, sym, ℕ, ◌++◌, ◌∙◌, ◌≡◌}
 use Rattle.std.proofs.Common.{◌<◌, ◌≤◌, ◌^◌, length, filter}
 use Rattle.cj_budget.specs.declared.limits.Peaks.{Peaks}
@@ -14,7 +14,7 @@ use Rattle.cj_stream.specs.Meaning.Rules.{Rules}
 use Rattle.cj_stream.specs.Verdict.{good, kept, kept_first, reported, reported_first, up_to}
 use Rattle.cj_stream.specs.Bound.{exact_peaks}
 use Rattle.cj_stream.specs.TallySink.{Tally, IsTallyOf, no_tally}
-use Rattle.cityseq_command.specs.Performed.{end_of_writing, Says, SaysCheck, SaysSummary, Answers, Does, asked, ended_by, rules_of_ask, told_by, went}
+use Rattle.cityseq_command.specs.Performed.{end_of_writing, SaysText, SaysCheck, SaysSummary, Answers, Does, asked, ended_by, rules_of_ask, sinks, went}
 use Rattle.cityseq_command.specs.declared.ask.Ask.{Ask}
 use Rattle.cj_stream.proofs.TookLemmas.{More-all, over-reported}
 
@@ -75,11 +75,11 @@ Wrote-kept text (Err e) a b c w k f = record {
   failures = subst (λ n. HasRisen a.failures n) (sym f) w.failures;
 }
 
--- a write fault that is told of a text has its cause
-pub cause-text : (written : Result (Unit {0}) Unwritten) (told : End) (a b : ℕ) → told ≡ end_of_writing written
-    → RisesOnErr written a b → told ≡ WriteFault → HasRisen a b
-cause-text (Ok x) told a b tells rises is = let other : Complete ≡ WriteFault = sym tells ∙ is in cc
-cause-text (Err e) told a b tells rises is = rises
+-- a write fault that is said of a text has its cause
+pub cause-text : (written : Result (Unit {0}) Unwritten) (said : End) (a b : ℕ) → said ≡ end_of_writing written
+    → RisesOnErr written a b → said ≡ WriteFault → HasRisen a b
+cause-text (Ok x) said a b is_said rises is = let other : Complete ≡ WriteFault = sym is_said ∙ is in cc
+cause-text (Err e) said a b is_said rises is = rises
 
 -- a sink without a device never makes a write fault
 unrisen : HasRisen 0 0 → ⊥
@@ -91,7 +91,7 @@ no_fault e cause is = unrisen (cause is)
 
 -- nothing was written after a run that is not complete
 pub Says-nothing : (text : List ℕ) (e : End) (a : Channel) → (e ≡ Complete → ⊥) → (e ≡ WriteFault → ⊥)
-    → Says text e e a a
+    → SaysText text e e a a
 Says-nothing text Complete a other well = absurd (other refl)
 Says-nothing text (Refused line place reason) a other well = (refl, Keeps-refl a.bytes)
 Says-nothing text ReadFault a other well = (refl, Keeps-refl a.bytes)
@@ -100,14 +100,14 @@ Says-nothing text WriteFault a other well = well refl
 Says-nothing text Memory a other well = (refl, Keeps-refl a.bytes)
 
 -- what was said stays where the writer keeps its bytes
-pub Says-kept : (text : List ℕ) (e told : End) (a b c : Channel) → Says text e told a b → Keeps b.bytes c.bytes
-    → c.failures ≡ b.failures → Says text e told a c
-Says-kept text Complete told a b c p k f = (p.0, p.1, Wrote-kept text p.0 a b c p.2 k f)
-Says-kept text (Refused line place reason) told a b c p k f = (p.0, Keeps-then a.bytes b.bytes c.bytes p.1 k)
-Says-kept text ReadFault told a b c p k f = (p.0, Keeps-then a.bytes b.bytes c.bytes p.1 k)
-Says-kept text ReadLimit told a b c p k f = (p.0, Keeps-then a.bytes b.bytes c.bytes p.1 k)
-Says-kept text WriteFault told a b c p k f = p
-Says-kept text Memory told a b c p k f = (p.0, Keeps-then a.bytes b.bytes c.bytes p.1 k)
+pub Says-kept : (text : List ℕ) (e said : End) (a b c : Channel) → SaysText text e said a b → Keeps b.bytes c.bytes
+    → c.failures ≡ b.failures → SaysText text e said a c
+Says-kept text Complete said a b c p k f = (p.0, p.1, Wrote-kept text p.0 a b c p.2 k f)
+Says-kept text (Refused line place reason) said a b c p k f = (p.0, Keeps-then a.bytes b.bytes c.bytes p.1 k)
+Says-kept text ReadFault said a b c p k f = (p.0, Keeps-then a.bytes b.bytes c.bytes p.1 k)
+Says-kept text ReadLimit said a b c p k f = (p.0, Keeps-then a.bytes b.bytes c.bytes p.1 k)
+Says-kept text WriteFault said a b c p k f = p
+Says-kept text Memory said a b c p k f = (p.0, Keeps-then a.bytes b.bytes c.bytes p.1 k)
 
 -- the features that a complete run kept are those among what is kept, and the lines that it refused those that are
 -- reported
@@ -128,16 +128,16 @@ pub lacks-room : (run : Run) (at_start : Type 0) → LacksRoom run at_start → 
 lacks-room run at_start (inl start) = inl (tt, start.1, start.2)
 lacks-room run at_start (inr memory) = inr memory
 
--- a run does what is asked, where this is what it answers; told is its outcome, or one with another end
+-- a run does what is asked, where this is what it answers; what is said is its outcome, or one with another end
 pub Does-run : {N : Type 0} (notes : N → Report → N → Type 0) (ask : Ask) (r : List ℕ) (at_start at_end : Type 0)
-    (outcome told : Outcome) (a b : Channel) (n m : N) → told ≡ ended_by outcome told.ended
+    (outcome said : Outcome) (a b : Channel) (n m : N) → said ≡ ended_by outcome said.ended
     → Account (run_of ask r outcome) at_end → IsReadWithin (2 ^ 40) r outcome.ended
     → RunsNoting notes (run_of ask r outcome) n m → StopsInTime (run_of ask r outcome) at_start
     → RunsNoting Collects (run_of ask r outcome) [] (reported_first (rules_of_ask ask) outcome.lines r)
-    → Answers ask (went r at_end outcome (reported_first (rules_of_ask ask) outcome.lines r)) told.ended a b
-    → (told.ended ≡ WriteFault → HasRisen a.failures b.failures)
-    → Does notes (asked ask r at_start at_end) told (told_by a n) (told_by b m)
-Does-run notes ask r at_start at_end outcome told a b n m rest account within noted stops collected answers cause =
+    → Answers ask (went r at_end outcome (reported_first (rules_of_ask ask) outcome.lines r)) said.ended a b
+    → (said.ended ≡ WriteFault → HasRisen a.failures b.failures)
+    → Does notes (asked ask r at_start at_end) said (sinks a n) (sinks b m)
+Does-run notes ask r at_start at_end outcome said a b n m rest account within noted stops collected answers cause =
     let all = reported_first (rules_of_ask ask) outcome.lines r in
     let took = More-all notes over-reported noted.reports in
     record {
@@ -154,26 +154,26 @@ Does-run notes ask r at_start at_end outcome told a b n m rest account within no
     }
 
 -- a check or a summary after a complete run, of what that counted
-pub Says-check : (rules : Rules) (r : List ℕ) (n m k : ℕ) (written : Result (Unit {0}) Unwritten) (told : End)
+pub Says-check : (rules : Rules) (r : List ℕ) (n m k : ℕ) (written : Result (Unit {0}) Unwritten) (said : End)
     (old new : Channel)
     → n ≡ length (good rules r) → m ≡ length (filter is_feature (kept rules r)) → k ≡ length (reported rules r)
-    → told ≡ end_of_writing written
-    → Wrote (check_text n m k) written old new → SaysCheck (stream_of rules r) Complete told old new
-Says-check rules r n m k written told old new lines features refused tells wrote =
+    → said ≡ end_of_writing written
+    → Wrote (check_text n m k) written old new → SaysCheck (stream_of rules r) Complete said old new
+Says-check rules r n m k written said old new lines features refused is_said wrote =
     let now : Wrote (check_text (length (good rules r)) (length (filter is_feature (kept rules r)))
     (length (reported rules r))) written old new = rw (← lines, ← features, ← refused) wrote in
-    (written, tells, now)
+    (written, is_said, now)
 
 pub Says-summary : (rules : Rules) (r : List ℕ) (n : ℕ) (t : Tally) (peaks : Peaks)
-    (written : Result (Unit {0}) Unwritten) (told : End) (old new : Channel)
+    (written : Result (Unit {0}) Unwritten) (said : End) (old new : Channel)
     → n ≡ length (good rules r) → IsTallyOf (kept rules r) t → peaks ≡ exact_peaks rules.limits r
-    → told ≡ end_of_writing written
-    → Wrote (summary_text n t peaks) written old new → SaysSummary (stream_of rules r) Complete told old new
-Says-summary rules r n t peaks written told old new lines tally held tells wrote = record {
+    → said ≡ end_of_writing written
+    → Wrote (summary_text n t peaks) written old new → SaysSummary (stream_of rules r) Complete said old new
+Says-summary rules r n t peaks written said old new lines tally held is_said wrote = record {
   tally = t;
   counted = λ e. tally;
-  says = subst (λ p. Says (summary_text (length (good rules r)) t p) Complete told old new) held
-      (subst (λ x. Says (summary_text x t peaks) Complete told old new) lines (written, tells, wrote));
+  says = subst (λ p. SaysText (summary_text (length (good rules r)) t p) Complete said old new) held
+      (subst (λ x. SaysText (summary_text x t peaks) Complete said old new) lines (written, is_said, wrote));
 }
 
 -- nothing was reported after a run that is not complete
@@ -185,13 +185,13 @@ Says-no_summary rules r e a other well = record {
   says = Says-nothing _ e a other well;
 }
 
-SaysSummary-kept : (rules : Rules) (r : List ℕ) (e told : End) (a b c : Channel)
-    → SaysSummary (stream_of rules r) e told a b → Keeps b.bytes c.bytes → c.failures ≡ b.failures
-    → SaysSummary (stream_of rules r) e told a c
-SaysSummary-kept rules r e told a b c says k f = record {
+SaysSummary-kept : (rules : Rules) (r : List ℕ) (e said : End) (a b c : Channel)
+    → SaysSummary (stream_of rules r) e said a b → Keeps b.bytes c.bytes → c.failures ≡ b.failures
+    → SaysSummary (stream_of rules r) e said a c
+SaysSummary-kept rules r e said a b c says k f = record {
   tally = says.tally;
   counted = says.counted;
-  says = Says-kept _ e told a b c says.says k f;
+  says = Says-kept _ e said a b c says.says k f;
 }
 
 Headline-kept : {N : Type 0} (notes : N → Report → N → Type 0) (rules : Rules) (text given : List ℕ) (e : End)
@@ -232,44 +232,44 @@ HeadlineOfRun-kept notes run at_end a b c n m (inr h) k f =
     c n m (h rest all u) k f)
 
 -- an answer stays where the writer keeps its bytes
-pub Answers-kept : (ask : Ask) (r : List ℕ) (at_end : Type 0) (outcome : Outcome) (reports : List Report) (told : End)
-    (a b c : Channel) → Answers ask (went r at_end outcome reports) told a b
-    → Keeps b.bytes c.bytes → c.failures ≡ b.failures → Answers ask (went r at_end outcome reports) told a c
-Answers-kept (Check limits options) r at_end outcome reports told a b c says k f =
-    Says-kept _ outcome.ended told a b c says k f
-Answers-kept (Filter limits query options) r at_end outcome reports told a b c says k f = (
+pub Answers-kept : (ask : Ask) (r : List ℕ) (at_end : Type 0) (outcome : Outcome) (reports : List Report) (said : End)
+    (a b c : Channel) → Answers ask (went r at_end outcome reports) said a b
+    → Keeps b.bytes c.bytes → c.failures ≡ b.failures → Answers ask (went r at_end outcome reports) said a c
+Answers-kept (Check limits options) r at_end outcome reports said a b c says k f =
+    Says-kept _ outcome.ended said a b c says k f
+Answers-kept (Filter limits query options) r at_end outcome reports said a b c says k f = (
   says.0,
   Writes-kept (rules_for limits query options) r outcome.ended a.bytes b.bytes c.bytes says.1 k,
   HeadlineOfRun-kept Collects (run_of (Filter limits query options) r outcome) at_end a b c [] reports says.2 k f,
   WritesLines-kept (rules_for limits query options) r outcome.lines outcome.ended a.bytes b.bytes c.bytes says.3 k,
 )
-Answers-kept (Info limits options) r at_end outcome reports told a b c says k f =
-    SaysSummary-kept _ r outcome.ended told a b c says k f
+Answers-kept (Info limits options) r at_end outcome reports said a b c says k f =
+    SaysSummary-kept _ r outcome.ended said a b c says k f
 
 -- ---- the reads of a run
 
--- a text of our own is never told as reads that ran out
+-- after a text of our own the end is not that the reads ran out
 text-limit : (written : Result (Unit {0}) Unwritten) → end_of_writing written ≡ ReadLimit → ⊥
 text-limit (Ok x) h = cc
 text-limit (Err e) h = cc
 
-Says-limit : (text : List ℕ) (e told : End) (old new : Channel) → Says text e told old new → told ≡ ReadLimit
+Says-limit : (text : List ℕ) (e said : End) (old new : Channel) → SaysText text e said old new → said ≡ ReadLimit
     → e ≡ ReadLimit
-Says-limit text Complete told old new says is = absurd (text-limit says.0 (sym says.1 ∙ is))
-Says-limit text (Refused line place reason) told old new says is = sym says.0 ∙ is
-Says-limit text ReadFault told old new says is = sym says.0 ∙ is
-Says-limit text ReadLimit told old new says is = refl
-Says-limit text WriteFault told old new says is = absurd says
-Says-limit text Memory told old new says is = sym says.0 ∙ is
+Says-limit text Complete said old new says is = absurd (text-limit says.0 (sym says.1 ∙ is))
+Says-limit text (Refused line place reason) said old new says is = sym says.0 ∙ is
+Says-limit text ReadFault said old new says is = sym says.0 ∙ is
+Says-limit text ReadLimit said old new says is = refl
+Says-limit text WriteFault said old new says is = absurd says
+Says-limit text Memory said old new says is = sym says.0 ∙ is
 
-Answers-limit : (ask : Ask) (r : List ℕ) (at_end : Type 0) (outcome : Outcome) (reports : List Report) (told : End)
-    (old new : Channel) → Answers ask (went r at_end outcome reports) told old new
-    → told ≡ ReadLimit → outcome.ended ≡ ReadLimit
-Answers-limit (Check limits options) r at_end outcome reports told old new says is =
-    Says-limit _ outcome.ended told old new says is
-Answers-limit (Filter limits query options) r at_end outcome reports told old new says is = sym says.0 ∙ is
-Answers-limit (Info limits options) r at_end outcome reports told old new says is =
-    Says-limit _ outcome.ended told old new says.says is
+Answers-limit : (ask : Ask) (r : List ℕ) (at_end : Type 0) (outcome : Outcome) (reports : List Report) (said : End)
+    (old new : Channel) → Answers ask (went r at_end outcome reports) said old new
+    → said ≡ ReadLimit → outcome.ended ≡ ReadLimit
+Answers-limit (Check limits options) r at_end outcome reports said old new says is =
+    Says-limit _ outcome.ended said old new says is
+Answers-limit (Filter limits query options) r at_end outcome reports said old new says is = sym says.0 ∙ is
+Answers-limit (Info limits options) r at_end outcome reports said old new says is =
+    Says-limit _ outcome.ended said old new says.says is
 
 -- where the reads ran out, each of them gave a byte
 limit-reads : (reads : ℕ) (r : List ℕ) (e : End) → e ≡ ReadLimit → IsReadWithin reads r e → reads ≤ length r
@@ -277,15 +277,15 @@ limit-reads reads r e is w =
     let all : w.giving ≡ reads = subst (λ z. Gave reads w.giving z) is w.gave in
     omega (arith, all, w.least)
 
--- of too few bytes it is never told that the reads ran out
-pub enough-told : (ask : Ask) (r : List ℕ) (at_end : Type 0) (outcome : Outcome) (reports : List Report) (told : End)
+-- of too few bytes the end is not that the reads ran out
+pub enough-said : (ask : Ask) (r : List ℕ) (at_end : Type 0) (outcome : Outcome) (reports : List Report) (said : End)
     (old new : Channel) (reads : ℕ)
-    → Answers ask (went r at_end outcome reports) told old new → IsReadWithin reads r outcome.ended → length r < reads
-    → told ≡ ReadLimit → ⊥
-enough-told ask r at_end outcome reports told old new reads says within few is =
+    → Answers ask (went r at_end outcome reports) said old new → IsReadWithin reads r outcome.ended → length r < reads
+    → said ≡ ReadLimit → ⊥
+enough-said ask r at_end outcome reports said old new reads says within few is =
     omega (
       arith,
       few,
       limit-reads reads r outcome.ended
-          (Answers-limit ask r at_end outcome reports told old new says is) within,
+          (Answers-limit ask r at_end outcome reports said old new says is) within,
     )

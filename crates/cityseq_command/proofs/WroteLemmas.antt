@@ -37,16 +37,16 @@ module _ (r : Result (Unit {0}) WriteFault) (is : IsErr r) where
         record { whole = tt; front = AppendsPart-front a.bytes b.bytes x y p.front; failures = p.failures }
   ] is
 
-  -- any answer that tells a failure does
-  pub Wrote-told : (e : WriteFault) (x : List ℕ) (a b : Channel) → Wrote x (Err e) a b → Wrote x r a b
-  Wrote-told =
+  -- any answer that is a failure does
+  pub Wrote-any : (e : WriteFault) (x : List ℕ) (a b : Channel) → Wrote x (Err e) a b → Wrote x r a b
+  Wrote-any =
       elim r as (λ r. IsErr r → (e : WriteFault) (x : List ℕ) (a b : Channel) → Wrote x (Err e) a b → Wrote x r a b) [
         | Ok v ↦ λ is e x a b p. absurd (cc is)
         | Err f ↦ λ is e x a b p. record { whole = tt; front = p.front; failures = p.failures }
       ] is
 
   pub Wrote-stops : (e : WriteFault) (x y : List ℕ) (a b : Channel) → Wrote x (Err e) a b → Wrote (x ++ y) r a b
-  Wrote-stops e x y a b p = Wrote-front x y a b (Wrote-told e x a b p)
+  Wrote-stops e x y a b p = Wrote-front x y a b (Wrote-any e x a b p)
 
 -- ---- after other texts
 

@@ -1,4 +1,4 @@
--- What `clap` is told of the command line: the program's commands, and the options of each.
+-- What `clap` gets of the command line: the program's commands, and the options of each.
 use Rattle.std.specs.Prelude.{◌≡◌, ℕ, List, [], ◌∷◌, Option, Some, true, false, codes, decimal}
 use Rattle.clap.specs.Words.{App, Rule, Text, app_of, fault_of, found_of, new_app, new_rule, rows_of, rule_of}
 use Rattle.clap.specs.Words.{subcommand_of, with_rule, with_subcommand}

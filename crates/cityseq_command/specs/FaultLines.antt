@@ -100,6 +100,6 @@ pub record Channels : Type 0 where
 -- failed
 pub record ShowsEnd (e : End) (before : List ℕ) (shown : Shown) (old new : Channels) : Type 0 where
   pub flushed : Result (Unit {0}) Unwritten
-  pub told : new.out.flushed ≡ Some flushed
+  pub answered : new.out.flushed ≡ Some flushed
   pub end : shown.end ≡ shown_end flushed e
   pub line : Wrote (before ++ fault_line shown.end) shown.line old.err new.err

@@ -6,6 +6,7 @@ pub mod OptionRows
 pub mod Options
 pub mod Performed
 pub mod ReportWriter
+pub mod StackLimit
 pub mod Summary
 pub mod SummaryRows
 pub mod Text

@@ -34,7 +34,7 @@ abbrev pub LodRow : Type 0
 LodRow = criteria_by false (record no_texts { lods = Some (codes "2.2,1") })
     ≡ Ok (record everything { lods = Some (codes "2.2" ∷ codes "1" ∷ []) })
 
--- types are told by their names: no type has the empty name, and none has one that begins with `+`, where types of
+-- types are known by their names: no type has the empty name, and none has one that begins with `+`, where types of
 -- extensions are unknown
 abbrev pub TypeRows : Type 0
 TypeRows =

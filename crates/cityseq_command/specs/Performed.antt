@@ -36,33 +36,33 @@ use Rattle.cityseq_command.specs.declared.fault_lines.Shown.{Shown}
 
 -- ---- texts of our own
 
--- the end that is told after a complete run, by what came of writing a text
+-- the end that is said after a complete run, by what came of writing a text
 abbrev pub end_of_writing : Result (Unit {0}) Unwritten → End
 end_of_writing (Ok x) = Complete
 end_of_writing (Err fault) = WriteFault
 
 -- After a run that wrote nothing and ended so a text is written where the run is complete, and nothing otherwise. What
--- is told is the run's end; or a write fault where a write of the text failed, and then a prefix of it was written.
-abbrev pub Says : List ℕ → End → End → Channel → Channel → Type 0
-Says text Complete told old new = (written : Result (Unit {0}) Unwritten) × (told ≡ end_of_writing written)
+-- is said is the run's end; or a write fault where a write of the text failed, and then a prefix of it was written.
+abbrev pub SaysText : List ℕ → End → End → Channel → Channel → Type 0
+SaysText text Complete said old new = (written : Result (Unit {0}) Unwritten) × (said ≡ end_of_writing written)
     × Wrote text written old new
-Says text (Refused line place reason) told old new = (told ≡ Refused line place reason) × Keeps old.bytes new.bytes
-Says text ReadFault told old new = (told ≡ ReadFault) × Keeps old.bytes new.bytes
-Says text ReadLimit told old new = (told ≡ ReadLimit) × Keeps old.bytes new.bytes
-Says text WriteFault told old new = ⊥
-Says text Memory told old new = (told ≡ Memory) × Keeps old.bytes new.bytes
+SaysText text (Refused line place reason) said old new = (said ≡ Refused line place reason) × Keeps old.bytes new.bytes
+SaysText text ReadFault said old new = (said ≡ ReadFault) × Keeps old.bytes new.bytes
+SaysText text ReadLimit said old new = (said ≡ ReadLimit) × Keeps old.bytes new.bytes
+SaysText text WriteFault said old new = ⊥
+SaysText text Memory said old new = (said ≡ Memory) × Keeps old.bytes new.bytes
 
 -- of the bytes r: how many good lines they have, how many features, and how many lines are reported as refused
 abbrev pub SaysCheck : Stream → End → End → Channel → Channel → Type 0
-SaysCheck r e told old new =
-    Says (check_text (length (good r.rules r.bytes)) (length (filter is_feature (kept r.rules r.bytes)))
-    (length (reported r.rules r.bytes))) e told old new
+SaysCheck r e said old new =
+    SaysText (check_text (length (good r.rules r.bytes)) (length (filter is_feature (kept r.rules r.bytes)))
+    (length (reported r.rules r.bytes))) e said old new
 
 -- of the bytes r: how many good lines they have, their tally, and what was held at most
-pub record SaysSummary (r : Stream) (e told : End) (old new : Channel) : Type 0 where
+pub record SaysSummary (r : Stream) (e said : End) (old new : Channel) : Type 0 where
   pub tally : Tally
   pub counted : e ≡ Complete → IsTallyOf (kept r.rules r.bytes) tally
-  pub says : Says (summary_text (length (good r.rules r.bytes)) tally (exact_peaks r.rules.limits r.bytes)) e told
+  pub says : SaysText (summary_text (length (good r.rules r.bytes)) tally (exact_peaks r.rules.limits r.bytes)) e said
       old new
 
 -- ---- what is asked
@@ -108,20 +108,20 @@ pub record Went : Type 1 where
 abbrev pub went : List ℕ → Type 0 → Outcome → List Report → Went
 went r at_end outcome reports = record { read = r; at_end = at_end; outcome = outcome; reports = reports }
 
--- What is written of the bytes over which a run went so, and the end that is told of it. Of what is copied the headline
+-- What is written of the bytes over which a run went so, and the end that is said of it. Of what is copied the headline
 -- holds.
 abbrev pub Answers : Ask → Went → End → Channel → Channel → Type 0
-Answers (Check limits options) run told old new =
-    SaysCheck (stream_of (all_under limits options) run.read) run.outcome.ended told old new
-Answers (Filter limits query options) run told old new =
-    (told ≡ run.outcome.ended)
+Answers (Check limits options) run said old new =
+    SaysCheck (stream_of (all_under limits options) run.read) run.outcome.ended said old new
+Answers (Filter limits query options) run said old new =
+    (said ≡ run.outcome.ended)
     × Writes (stream_of (rules_for limits query options) run.read) run.outcome.ended old.bytes new.bytes
     × HeadlineOfRun Collects (run_of (Filter limits query options) run.read run.outcome) run.at_end (outputs old [])
     (outputs new run.reports)
     × WritesLines (up_to (rules_for limits query options) run.read run.outcome.lines) run.outcome.ended
     old.bytes new.bytes
-Answers (Info limits options) run told old new =
-    SaysSummary (stream_of (all_under limits options) run.read) run.outcome.ended told old new
+Answers (Info limits options) run said old new =
+    SaysSummary (stream_of (all_under limits options) run.read) run.outcome.ended said old new
 
 -- an outcome with this end in place of its own
 abbrev pub ended_by : Outcome → End → Outcome
@@ -134,94 +134,94 @@ ended_by outcome end = record {
 }
 
 -- what is known of standard output, and a sink of reports
-pub record Told (N : Type 0) : Type 0 where
+pub record Sinks (N : Type 0) : Type 0 where
   pub channel : Channel
   pub reports : N
 
-abbrev pub told_by : {N : Type 0} → Channel → N → Told N
-told_by c reports = record { channel = c; reports = reports }
+abbrev pub sinks : {N : Type 0} → Channel → N → Sinks N
+sinks c reports = record { channel = c; reports = reports }
 
 -- What is asked was done with bytes r that were read, but for what is said at its end: the account of the run over
 -- them, which stopped in time; its reports, which a sink of reports has taken; what standard output has got, and that a
--- write to it failed where that is told; and how many lines were refused that reading went on after. Told is the run's
--- outcome, but for its end.
-pub record Does {N : Type 0} (notes : N → Report → N → Type 0) (of : Asked) (told : Outcome) (old new : Told N) :
+-- write to it failed where that is said; and how many lines were refused that reading went on after. What is said is
+-- the run's outcome, but for its end.
+pub record Does {N : Type 0} (notes : N → Report → N → Type 0) (of : Asked) (said : Outcome) (old new : Sinks N) :
     Type 0 where
   pub outcome : Outcome
   pub refused : List Report
-  pub rest : told ≡ ended_by outcome told.ended
+  pub rest : said ≡ ended_by outcome said.ended
   pub account : Account (run_of of.ask of.read outcome) of.at_end
   pub stops : StopsInTime (run_of of.ask of.read outcome) of.at_start
   pub within : IsReadWithin (2 ^ 40) of.read outcome.ended
   pub reported : AreReported notes (run_of of.ask of.read outcome) refused old.reports new.reports
-  pub answers : Answers of.ask (went of.read of.at_end outcome refused) told.ended old.channel new.channel
-  pub cause : told.ended ≡ WriteFault → HasRisen old.channel.failures new.channel.failures
-  pub count : told.refused ≡ length refused
+  pub answers : Answers of.ask (went of.read of.at_end outcome refused) said.ended old.channel new.channel
+  pub cause : said.ended ≡ WriteFault → HasRisen old.channel.failures new.channel.failures
+  pub count : said.refused ≡ length refused
 
 -- What is asked was done with bytes r that were read: the account of the run over them, which stopped in time; that its
--- reads ran out is never told of fewer than 2^40 bytes; its reports, of which there are none unless it goes on;
--- what standard output has got, and that a write to it failed where that is told; what the flush answered, and standard
+-- reads ran out is never said of fewer than 2^40 bytes; its reports, of which there are none unless it goes on;
+-- what standard output has got, and that a write to it failed where that is said; what the flush answered, and standard
 -- error has got: the lines of the reports, and then that of the end; and the status.
 pub record Performs (of : Asked) (answer : ℕ) (old new : Channels) : Type 0 where
   pub outcome : Outcome
   pub refused : List Report
-  pub told : End
+  pub said : End
   pub shown : Shown
   pub account : Account (run_of of.ask of.read outcome) of.at_end
   pub stops : StopsInTime (run_of of.ask of.read outcome) of.at_start
   pub within : IsReadWithin (2 ^ 40) of.read outcome.ended
-  pub enough : length of.read < 2 ^ 40 → told ≢ ReadLimit
+  pub enough : length of.read < 2 ^ 40 → said ≢ ReadLimit
   pub reported : RunsNoting Collects (run_of of.ask of.read outcome) [] refused
   pub usual : (rules_of_ask of.ask).options.keep_going ≡ false → refused ≡ []
-  pub answers : Answers of.ask (went of.read of.at_end outcome refused) told old.out new.out
-  pub cause : told ≡ WriteFault → HasRisen old.out.failures new.out.failures
-  pub reports : ShowsEnd told (report_lines refused) shown old new
+  pub answers : Answers of.ask (went of.read of.at_end outcome refused) said old.out new.out
+  pub cause : said ≡ WriteFault → HasRisen old.out.failures new.out.failures
+  pub reports : ShowsEnd said (report_lines refused) shown old new
   pub status : answer ≡ status_after (length refused) shown.end
 
 -- ---- other words
 
 -- A text was written that the words ask for, as help: what standard output has got; what the flush answered, and
 -- standard error has got; and the status.
-pub record TellsHelp (answer : ℕ) (old new : Channels) : Type 0 where
+pub record WritesHelp (answer : ℕ) (old new : Channels) : Type 0 where
   pub text : List ℕ
-  pub told : End
+  pub said : End
   pub shown : Shown
-  pub says : Says text Complete told old.out new.out
-  pub reports : ShowsEnd told [] shown old new
+  pub says : SaysText text Complete said old.out new.out
+  pub reports : ShowsEnd said [] shown old new
   pub status : answer ≡ status_of shown.end
 
 -- standard error has got all of this line, or a prefix of it where it failed; and the answer is the status that is due
-pub record TellsFault (line : List ℕ) (due answer : ℕ) (old_err new_err : Channel) : Type 0 where
+pub record WritesFault (line : List ℕ) (due answer : ℕ) (old_err new_err : Channel) : Type 0 where
   pub written : Result (Unit {0}) Unwritten
   pub wrote : Wrote line written old_err new_err
   pub status : answer ≡ due
 
 -- no memory was granted
-abbrev pub TellsMemory : ℕ → Channel → Channel → Type 0
-TellsMemory answer old_err new_err = TellsFault (fault_line Memory) (status_of Memory) answer old_err new_err
+abbrev pub WritesMemory : ℕ → Channel → Channel → Type 0
+WritesMemory answer old_err new_err = WritesFault (fault_line Memory) (status_of Memory) answer old_err new_err
 
 -- the words are wrong, as some text says
-abbrev pub TellsWrongWords : ℕ → Channel → Channel → Type 0
-TellsWrongWords answer old_err new_err = (text : List ℕ) × TellsFault text 2 answer old_err new_err
+abbrev pub WritesWrongWords : ℕ → Channel → Channel → Type 0
+WritesWrongWords answer old_err new_err = (text : List ℕ) × WritesFault text 2 answer old_err new_err
 
 -- an error of the words asks for no help
 abbrev pub IsNoHelp : ErrorKind → Type 0
 IsNoHelp kind = (kind ≢ DisplayHelp) × (kind ≢ DisplayVersion)
 
--- an error of the words is told by its kind; memory may be refused to its text. But for help nothing is written to
+-- an error of the words is said by its kind; memory may be refused to its text. But for help nothing is written to
 -- standard output, and it is not flushed.
-abbrev pub TellsError : ErrorKind → ℕ → Channels → Channels → Type 0
-TellsError kind answer old new =
-    ((new.out ≡ old.out) × TellsMemory answer old.err new.err)
-    ⊎ ((kind ≢ OutOfMemory) × IsNoHelp kind × (new.out ≡ old.out) × TellsWrongWords answer old.err new.err)
-    ⊎ (¬ IsNoHelp kind × TellsHelp answer old new)
+abbrev pub WritesError : ErrorKind → ℕ → Channels → Channels → Type 0
+WritesError kind answer old new =
+    ((new.out ≡ old.out) × WritesMemory answer old.err new.err)
+    ⊎ ((kind ≢ OutOfMemory) × IsNoHelp kind × (new.out ≡ old.out) × WritesWrongWords answer old.err new.err)
+    ⊎ (¬ IsNoHelp kind × WritesHelp answer old new)
 
--- Nothing is done with the stream, for this reason: an error of the words is told by its kind; and that no command is
+-- Nothing is done with the stream, for this reason: an error of the words is said by its kind; and that no command is
 -- named, the fault of a limit and that of a query each by a line of its own. But for help nothing is written to
 -- standard output, and it is not flushed.
 abbrev pub Declines : NoAsk → ℕ → Channels → Channels → Type 0
-Declines (Words error) answer old new = TellsError (kind_of error) answer old new
-Declines NoCommand answer old new = (new.out ≡ old.out) × TellsFault no_command_line 2 answer old.err new.err
-Declines (Limits fault) answer old new = (new.out ≡ old.out) × TellsFault (limit_line fault) 2 answer old.err new.err
+Declines (Words error) answer old new = WritesError (kind_of error) answer old new
+Declines NoCommand answer old new = (new.out ≡ old.out) × WritesFault no_command_line 2 answer old.err new.err
+Declines (Limits fault) answer old new = (new.out ≡ old.out) × WritesFault (limit_line fault) 2 answer old.err new.err
 Declines (Query fault) answer old new =
-    (new.out ≡ old.out) × TellsFault (query_line fault) (status_of_query fault) answer old.err new.err
+    (new.out ≡ old.out) × WritesFault (query_line fault) (status_of_query fault) answer old.err new.err

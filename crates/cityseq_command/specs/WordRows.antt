@@ -4,7 +4,7 @@ use Rattle.clap.specs.Words.{Text, fault_of, first_of, subcommand_of}
 use Rattle.clap.specs.declared.error.kind.ErrorKind.TheVariants.{DisplayHelp, DisplayHelpOnMissingArgumentOrSubcommand}
 use Rattle.clap.specs.declared.error.kind.ErrorKind.TheVariants.{UnknownArgument, ValueValidation}
 use Rattle.cityseq_command.specs.Commands.{program_app}
-use Rattle.cityseq_command.specs.Words.{AsksFor, IsNumber, MayDecline, number_in}
+use Rattle.cityseq_command.specs.Words.{AsksFor, IsNumeral64, MayDecline, number_in}
 use Rattle.cityseq_command.specs.declared.ask.Ask.{Ask}
 use Rattle.cityseq_command.specs.declared.asking.NoAsk.TheVariants.{NoCommand}
 
@@ -33,7 +33,7 @@ GivenRow =
 pub record Spells (words : List Text) (option text : Text) (number : ℕ) : Type 0 where
   pub faultless : fault_of program_app (codes "cityseq" ∷ codes "check" ∷ words) ≡ []
   pub found : found_in (codes "check" ∷ words) option ≡ Some (codes "check", Some text)
-  pub is : IsNumber text
+  pub is : IsNumeral64 text
   pub spelled : number_in text ≡ number
 
 -- limits with zeros or a plus before their digits
@@ -53,7 +53,7 @@ FaultRow =
     × (fault_of program_app (codes "cityseq" ∷ codes "--help" ∷ []) ≡ DisplayHelp ∷ [])
     × (fault_of program_app (codes "cityseq" ∷ codes "check" ∷ []) ≡ [])
 
--- so a file that is named is judged by nothing; and that no command is named is told of no words that have a fault: no
+-- so a file that is named is judged by nothing; and that no command is named is said of no words that have a fault: no
 -- word at all, help, the version, and a command that is misspelt
 abbrev pub UnaskedRow : Type 0
 UnaskedRow =

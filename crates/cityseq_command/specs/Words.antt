@@ -31,13 +31,13 @@ abbrev pub number_in : Text → ℕ
 number_in text = digits_value 10 (without_leading_plus text)
 
 -- a text spells a number of 64 bits so
-abbrev pub IsNumber : Text → Type 0
-IsNumber text = IsNumeral 10 (without_leading_plus text) × (number_in text < 2 ^ 64)
+abbrev pub IsNumeral64 : Text → Type 0
+IsNumeral64 text = IsNumeral 10 (without_leading_plus text) × (number_in text < 2 ^ 64)
 
 -- an option that takes a number has this one: the usual one where it has no text, and else the one that its text spells
 pub record HasNumber (m : ArgMatches) (option : Text) (usual number : ℕ) : Type 0 where
   pub none : one_text (found_of m) option ≡ None → number ≡ usual
-  pub some : (text : Text) → one_text (found_of m) option ≡ Some text → IsNumber text → number ≡ number_in text
+  pub some : (text : Text) → one_text (found_of m) option ≡ Some text → IsNumeral64 text → number ≡ number_in text
 
 -- the limits that a command was given
 pub record HasLimits (m : ArgMatches) (limits : LimitPair) : Type 0 where

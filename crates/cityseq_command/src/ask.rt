@@ -2,8 +2,8 @@
 ghost use Rattle.std.specs.Prelude.{◌≡◌, ℕ, List};
 ghost use Rattle.std.specs.Io.KnownBytes.{Consumes, IsAtEnd};
 ghost use Rattle.cj_stream.specs.Output.{channel};
-ghost use Rattle.cityseq_command.specs.Performed.{told_by};
-ghost use Rattle.cityseq_command.specs.Performed.{end_of_writing as told_after, Does, Performs, TakesOptions, asked};
+ghost use Rattle.cityseq_command.specs.Performed.{sinks};
+ghost use Rattle.cityseq_command.specs.Performed.{end_of_writing as end_after_writing, Does, Performs, TakesOptions, asked};
 
 use crate::fault_lines::{show_after, status_after};
 use crate::report_writer::WriteReports;
@@ -30,7 +30,7 @@ pub enum Ask {
 /// Returns the end of a complete run after which a text of the program was written with this
 /// result.
 pub fn end_of_writing(written: Result<(), WriteFault>) -> End
-    ensures { result ≡ told_after written }
+    ensures { result ≡ end_after_writing written }
 {
     match written {
         Ok(()) => End::Complete,
@@ -40,6 +40,8 @@ pub fn end_of_writing(written: Result<(), WriteFault>) -> End
 
 /// Judges the stream. Unless a line or a fault ends it, writes how many lines and features it has.
 /// Returns the outcome of the run, with the end to report.
+///
+/// It takes the arguments of a run one by one, since a run borrows each device.
 fn check<R: Read, W: Write + Drop, N: ReportSink>(
     alloc: Global,
     limits: Limits,
@@ -51,7 +53,7 @@ fn check<R: Read, W: Write + Drop, N: ReportSink>(
     ensures { (r : List ℕ) × Consumes (R.remaining reader.old) (R.remaining reader.new) r
         × Does N.notes
         (asked (Ask.Check limits options) r (reader.new ≡ reader.old) (IsAtEnd (R.remaining reader.new))) result
-        (told_by (channel W.contents out.old) reports.old) (told_by (channel W.contents out.new) reports.new) }
+        (sinks (channel W.contents out.old) reports.old) (sinks (channel W.contents out.new) reports.new) }
 {
     let query = Query::all(alloc);
     let outcome = run(
@@ -76,6 +78,8 @@ fn check<R: Read, W: Write + Drop, N: ReportSink>(
 
 /// Tallies the stream, and writes its summary if it is valid. Returns the outcome of the run, with
 /// the end to report.
+///
+/// It takes the arguments of a run one by one, as `check` does.
 fn info<R: Read, W: Write + Drop, N: ReportSink>(
     alloc: Global,
     limits: Limits,
@@ -88,7 +92,7 @@ fn info<R: Read, W: Write + Drop, N: ReportSink>(
     ensures { (r : List ℕ) × Consumes (R.remaining reader.old) (R.remaining reader.new) r
         × Does N.notes
         (asked (Ask.Info limits options) r (reader.new ≡ reader.old) (IsAtEnd (R.remaining reader.new))) result
-        (told_by (channel W.contents out.old) reports.old) (told_by (channel W.contents out.new) reports.new) }
+        (sinks (channel W.contents out.old) reports.old) (sinks (channel W.contents out.new) reports.new) }
 {
     let query = Query::all(alloc);
     let mut tally = TallySink::new();

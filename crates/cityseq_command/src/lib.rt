@@ -1,6 +1,6 @@
 //! The commands of the program `cityseq`. It reads a CityJSONSeq stream from standard input, once
-//! and in bounded memory. It checks whether the stream is valid (`check`), copies the header and the
-//! selected features, byte for byte (`filter`), or writes a summary (`info`).
+//! and in bounded memory. It checks whether the stream is valid (`check`), copies the header and
+//! the selected features, byte for byte (`filter`), or writes a summary (`info`).
 //!
 //! A command line goes one way down, and each file calls those below it:
 //!
@@ -13,6 +13,7 @@
 //! - `report_writer` has the sink that writes reports of invalid lines to standard error, as they
 //!   come.
 //! - `fault_lines` has the lines for standard error, and the exit statuses.
+//! - `stack_limit` reads how large the stack of the process may get.
 //!
 //! `option_laws`, `word_laws`, `summary_laws` and `end_laws` are worked examples of the
 //! definitions, as theorems. The rows that run are in the crates `cityseq_tests_output`,
@@ -27,6 +28,7 @@ mod end_laws;
 pub mod fault_lines;
 mod option_laws;
 mod report_writer;
+pub mod stack_limit;
 mod summary;
 mod summary_laws;
 mod word_laws;

@@ -17,7 +17,7 @@ use cj_stream::{LOD_CLASSES, Output, TallySink, WriteFault};
 use itoa::Buffer;
 use std::io::Write;
 
-/// Writes the line of `check`: how many lines were dealt with, and how many features are among
+/// Writes the line of `check`: how many lines were handled, and how many features are among
 /// them. If lines are invalid, it has their number too.
 ///
 /// # Errors

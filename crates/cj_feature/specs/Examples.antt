@@ -8,8 +8,8 @@ use Rattle.cj_spans.specs.Meaning.Json.{atom_at}
 abbrev pub text : List ℕ → ℕ → ℕ → Tree
 text line i j = scalar Text (atom_at line i j)
 
-abbrev pub number : List ℕ → ℕ → ℕ → Tree
-number line i j = scalar Number (atom_at line i j)
+abbrev pub number_at : List ℕ → ℕ → ℕ → Tree
+number_at line i j = scalar Number (atom_at line i j)
 
 -- ---- features
 
@@ -100,7 +100,7 @@ abbrev pub part_of_number : Row
 part_of_number =
     row (codes "\"b\":{\"type\":\"BuildingPart\",\"parents\":[3]}")
     (λ line. member (atom_at line 50 53) (object 54 91 (member (atom_at line 55 61) (text line 62 76)
-    (member (atom_at line 77 86) (array 87 90 (item (number line 88 89) no_items)) no_members))) no_members)
+    (member (atom_at line 77 86) (array 87 90 (item (number_at line 88 89) no_items)) no_members))) no_members)
 
 -- a group of what is not in the feature
 abbrev pub group : Row
@@ -164,14 +164,14 @@ same_by_escape =
 abbrev pub no_object : Row
 no_object =
     row (codes "\"b\":3")
-    (λ line. member (atom_at line 50 53) (number line 54 55) no_members)
+    (λ line. member (atom_at line 50 53) (number_at line 54 55) no_members)
 
 abbrev pub child_no_object : Row
 child_no_object =
     row (codes "\"b\":{\"type\":\"Building\",\"children\":[\"c\"]},\"c\":3")
     (λ line. member (atom_at line 50 53) (object 54 90 (member (atom_at line 55 61) (text line 62 72)
     (member (atom_at line 73 83) (array 84 89 (item (text line 85 88) no_items)) no_members)))
-    (member (atom_at line 91 94) (number line 95 96) no_members))
+    (member (atom_at line 91 94) (number_at line 95 96) no_members))
 
 -- a part whose parent is a name that stands before a number
 abbrev pub part_of_no_object : Row
@@ -179,7 +179,7 @@ part_of_no_object =
     row (codes "\"b\":{\"type\":\"BuildingPart\",\"parents\":[\"c\"]},\"c\":3")
     (λ line. member (atom_at line 50 53) (object 54 93 (member (atom_at line 55 61) (text line 62 76)
     (member (atom_at line 77 86) (array 87 92 (item (text line 88 91) no_items)) no_members)))
-    (member (atom_at line 94 97) (number line 98 99) no_members))
+    (member (atom_at line 94 97) (number_at line 98 99) no_members))
 
 -- no city object at all, and none with the feature's id
 abbrev pub no_objects : Row
@@ -197,8 +197,8 @@ abbrev pub unread_names : Row
 unread_names =
     row (codes "\"b\":{\"type\":\"Building\",\"attributes\":{\"a\":1,\"a\":2}}")
     (λ line. member (atom_at line 50 53) (object 54 100 (member (atom_at line 55 61) (text line 62 72)
-    (member (atom_at line 73 85) (object 86 99 (member (atom_at line 87 90) (number line 91 92)
-    (member (atom_at line 93 96) (number line 97 98) no_members))) no_members))) no_members)
+    (member (atom_at line 73 85) (object 86 99 (member (atom_at line 87 90) (number_at line 91 92)
+    (member (atom_at line 93 96) (number_at line 97 98) no_members))) no_members))) no_members)
 
 -- an unknown type, and a type of an extension, also by an escape; with a parent and a child that are not in the feature
 abbrev pub shed : Row
@@ -276,7 +276,7 @@ abbrev pub number_apart : Row
 number_apart =
     row (codes "\"b\":{\"type\":\"Building\"},\"c\":3")
     (λ line. member (atom_at line 50 53) (object 54 73 (member (atom_at line 55 61) (text line 62 72) no_members))
-    (member (atom_at line 74 77) (number line 78 79) no_members))
+    (member (atom_at line 74 77) (number_at line 78 79) no_members))
 
 -- ---- headers
 
@@ -293,10 +293,10 @@ plain_header =
     object 0 116 (member (atom_at plain_header_line 1 7) (text plain_header_line 8 18)
     (member (atom_at plain_header_line 19 28) (text plain_header_line 29 34)
     (member (atom_at plain_header_line 35 46) (object 47 84
-    (member (atom_at plain_header_line 48 55) (array 56 63 (item (number plain_header_line 57 58)
-    (item (number plain_header_line 59 60) (item (number plain_header_line 61 62) no_items))))
-    (member (atom_at plain_header_line 64 75) (array 76 83 (item (number plain_header_line 77 78)
-    (item (number plain_header_line 79 80) (item (number plain_header_line 81 82) no_items)))) no_members)))
+    (member (atom_at plain_header_line 48 55) (array 56 63 (item (number_at plain_header_line 57 58)
+    (item (number_at plain_header_line 59 60) (item (number_at plain_header_line 61 62) no_items))))
+    (member (atom_at plain_header_line 64 75) (array 76 83 (item (number_at plain_header_line 77 78)
+    (item (number_at plain_header_line 79 80) (item (number_at plain_header_line 81 82) no_items)))) no_members)))
     (member (atom_at plain_header_line 85 98) (object 99 101 no_members)
     (member (atom_at plain_header_line 102 112) (array 113 115 no_items) no_members)))))
 
@@ -309,10 +309,10 @@ other_type =
     object 0 123 (member (atom_at other_type_line 1 7) (text other_type_line 8 25)
     (member (atom_at other_type_line 26 35) (text other_type_line 36 41)
     (member (atom_at other_type_line 42 53) (object 54 91 (member (atom_at other_type_line 55 62) (array 63 70
-    (item (number other_type_line 64 65) (item (number other_type_line 66 67)
-    (item (number other_type_line 68 69) no_items)))) (member (atom_at other_type_line 71 82) (array 83 90
-    (item (number other_type_line 84 85) (item (number other_type_line 86 87)
-    (item (number other_type_line 88 89) no_items)))) no_members)))
+    (item (number_at other_type_line 64 65) (item (number_at other_type_line 66 67)
+    (item (number_at other_type_line 68 69) no_items)))) (member (atom_at other_type_line 71 82) (array 83 90
+    (item (number_at other_type_line 84 85) (item (number_at other_type_line 86 87)
+    (item (number_at other_type_line 88 89) no_items)))) no_members)))
     (member (atom_at other_type_line 92 105) (object 106 108 no_members)
     (member (atom_at other_type_line 109 119) (array 120 122 no_items) no_members)))))
 
@@ -324,10 +324,10 @@ other_version =
     object 0 116 (member (atom_at other_version_line 1 7) (text other_version_line 8 18)
     (member (atom_at other_version_line 19 28) (text other_version_line 29 34)
     (member (atom_at other_version_line 35 46) (object 47 84
-    (member (atom_at other_version_line 48 55) (array 56 63 (item (number other_version_line 57 58)
-    (item (number other_version_line 59 60) (item (number other_version_line 61 62) no_items))))
-    (member (atom_at other_version_line 64 75) (array 76 83 (item (number other_version_line 77 78)
-    (item (number other_version_line 79 80) (item (number other_version_line 81 82) no_items)))) no_members)))
+    (member (atom_at other_version_line 48 55) (array 56 63 (item (number_at other_version_line 57 58)
+    (item (number_at other_version_line 59 60) (item (number_at other_version_line 61 62) no_items))))
+    (member (atom_at other_version_line 64 75) (array 76 83 (item (number_at other_version_line 77 78)
+    (item (number_at other_version_line 79 80) (item (number_at other_version_line 81 82) no_items)))) no_members)))
     (member (atom_at other_version_line 85 98) (object 99 101 no_members)
     (member (atom_at other_version_line 102 112) (array 113 115 no_items) no_members)))))
 
@@ -339,10 +339,10 @@ more_digits =
     object 0 117 (member (atom_at more_digits_line 1 7) (text more_digits_line 8 18)
     (member (atom_at more_digits_line 19 28) (text more_digits_line 29 35)
     (member (atom_at more_digits_line 36 47) (object 48 85 (member (atom_at more_digits_line 49 56) (array 57 64
-    (item (number more_digits_line 58 59) (item (number more_digits_line 60 61)
-    (item (number more_digits_line 62 63) no_items)))) (member (atom_at more_digits_line 65 76) (array 77 84
-    (item (number more_digits_line 78 79) (item (number more_digits_line 80 81)
-    (item (number more_digits_line 82 83) no_items)))) no_members)))
+    (item (number_at more_digits_line 58 59) (item (number_at more_digits_line 60 61)
+    (item (number_at more_digits_line 62 63) no_items)))) (member (atom_at more_digits_line 65 76) (array 77 84
+    (item (number_at more_digits_line 78 79) (item (number_at more_digits_line 80 81)
+    (item (number_at more_digits_line 82 83) no_items)))) no_members)))
     (member (atom_at more_digits_line 86 99) (object 100 102 no_members)
     (member (atom_at more_digits_line 103 113) (array 114 116 no_items) no_members)))))
 
@@ -355,8 +355,8 @@ no_scale =
     object 0 100 (member (atom_at no_scale_line 1 7) (text no_scale_line 8 18)
     (member (atom_at no_scale_line 19 28) (text no_scale_line 29 34)
     (member (atom_at no_scale_line 35 46) (object 47 68 (member (atom_at no_scale_line 48 59) (array 60 67
-    (item (number no_scale_line 61 62) (item (number no_scale_line 63 64)
-    (item (number no_scale_line 65 66) no_items)))) no_members))
+    (item (number_at no_scale_line 61 62) (item (number_at no_scale_line 63 64)
+    (item (number_at no_scale_line 65 66) no_items)))) no_members))
     (member (atom_at no_scale_line 69 82) (object 83 85 no_members)
     (member (atom_at no_scale_line 86 96) (array 97 99 no_items) no_members)))))
 
@@ -368,9 +368,9 @@ two_scales =
     object 0 114 (member (atom_at two_scales_line 1 7) (text two_scales_line 8 18)
     (member (atom_at two_scales_line 19 28) (text two_scales_line 29 34)
     (member (atom_at two_scales_line 35 46) (object 47 82 (member (atom_at two_scales_line 48 55) (array 56 61
-    (item (number two_scales_line 57 58) (item (number two_scales_line 59 60) no_items)))
-    (member (atom_at two_scales_line 62 73) (array 74 81 (item (number two_scales_line 75 76)
-    (item (number two_scales_line 77 78) (item (number two_scales_line 79 80) no_items)))) no_members)))
+    (item (number_at two_scales_line 57 58) (item (number_at two_scales_line 59 60) no_items)))
+    (member (atom_at two_scales_line 62 73) (array 74 81 (item (number_at two_scales_line 75 76)
+    (item (number_at two_scales_line 77 78) (item (number_at two_scales_line 79 80) no_items)))) no_members)))
     (member (atom_at two_scales_line 83 96) (object 97 99 no_members)
     (member (atom_at two_scales_line 100 110) (array 111 113 no_items) no_members)))))
 
@@ -383,12 +383,12 @@ with_objects =
     object 0 121 (member (atom_at with_objects_line 1 7) (text with_objects_line 8 18)
     (member (atom_at with_objects_line 19 28) (text with_objects_line 29 34)
     (member (atom_at with_objects_line 35 46) (object 47 84
-    (member (atom_at with_objects_line 48 55) (array 56 63 (item (number with_objects_line 57 58)
-    (item (number with_objects_line 59 60) (item (number with_objects_line 61 62) no_items))))
-    (member (atom_at with_objects_line 64 75) (array 76 83 (item (number with_objects_line 77 78)
-    (item (number with_objects_line 79 80) (item (number with_objects_line 81 82) no_items)))) no_members)))
+    (member (atom_at with_objects_line 48 55) (array 56 63 (item (number_at with_objects_line 57 58)
+    (item (number_at with_objects_line 59 60) (item (number_at with_objects_line 61 62) no_items))))
+    (member (atom_at with_objects_line 64 75) (array 76 83 (item (number_at with_objects_line 77 78)
+    (item (number_at with_objects_line 79 80) (item (number_at with_objects_line 81 82) no_items)))) no_members)))
     (member (atom_at with_objects_line 85 98) (object 99 106
-    (member (atom_at with_objects_line 100 103) (number with_objects_line 104 105) no_members))
+    (member (atom_at with_objects_line 100 103) (number_at with_objects_line 104 105) no_members))
     (member (atom_at with_objects_line 107 117) (array 118 120 no_items) no_members)))))
 
 abbrev pub with_vertices_line : List ℕ
@@ -399,10 +399,10 @@ with_vertices =
     object 0 117 (member (atom_at with_vertices_line 1 7) (text with_vertices_line 8 18)
     (member (atom_at with_vertices_line 19 28) (text with_vertices_line 29 34)
     (member (atom_at with_vertices_line 35 46) (object 47 84
-    (member (atom_at with_vertices_line 48 55) (array 56 63 (item (number with_vertices_line 57 58)
-    (item (number with_vertices_line 59 60) (item (number with_vertices_line 61 62) no_items))))
-    (member (atom_at with_vertices_line 64 75) (array 76 83 (item (number with_vertices_line 77 78)
-    (item (number with_vertices_line 79 80) (item (number with_vertices_line 81 82) no_items)))) no_members)))
+    (member (atom_at with_vertices_line 48 55) (array 56 63 (item (number_at with_vertices_line 57 58)
+    (item (number_at with_vertices_line 59 60) (item (number_at with_vertices_line 61 62) no_items))))
+    (member (atom_at with_vertices_line 64 75) (array 76 83 (item (number_at with_vertices_line 77 78)
+    (item (number_at with_vertices_line 79 80) (item (number_at with_vertices_line 81 82) no_items)))) no_members)))
     (member (atom_at with_vertices_line 85 98) (object 99 101 no_members)
     (member (atom_at with_vertices_line 102 112) (array 113 116
-    (item (number with_vertices_line 114 115) no_items)) no_members)))))
+    (item (number_at with_vertices_line 114 115) no_items)) no_members)))))

@@ -145,6 +145,8 @@ fn follow(
 
 /// Continues after the byte at `place`, whose move came to `next`. If the innermost container is
 /// then an object, it passes names, strings and brackets.
+///
+/// It is inlined, so that many arguments cost nothing.
 #[inline(always)]
 fn pass_members(
     line: &[u8],
@@ -178,6 +180,8 @@ fn pass_members(
 /// Continues after the byte at `place`, whose move came to `next`. If the innermost container is
 /// then an array, it passes the arrays and numbers that follow. If it is an object, it passes names
 /// and strings first.
+///
+/// It is inlined, so that many arguments cost nothing.
 #[inline(always)]
 fn pass_parts(
     line: &[u8],

@@ -185,6 +185,8 @@ fn close_empty(
 
 /// Continues after a value in a container of this kind: with a comma, or the bracket that closes
 /// it.
+///
+/// It is inlined, so that many arguments cost nothing.
 #[inline(always)]
 fn after_in(
     kind: Kind,

@@ -1,7 +1,7 @@
 -- The account of a run over a stream, from those of runs over its parts.
 use Rattle.cj_stream.proofs.Common.{Account, AreCounted, Complete, Counts, End, Ends, IsBounded, IsCut, IsExact, IsUnread, Kept, LimitPair, Line, List, Memory, NoLf, None, Outcome, Peaks, ReadFault, ReadLimit, Refused, Rules, Run, Some, WriteFault, [], ap, append-nil, append_assoc, arith, begun, both_outcomes, bytes_bound, closed, contents, ended_line, ending, ending_of, exact_peaks, filter, filter-append, good, greater_peaks, headed, inl, inr, is_feature, is_readable, judged, kept_from, later_of, length, length-append, length-map, lines, list_all, list_all-append, long_line, map, max, min, moved_end, moved_report, nat_tests, option_map, refl, refusal_in, reported_from, rulings, rulings_first, subst, suc, sym, take, take-append-add, take-append-le, true, verdict, whole, zero, ℕ, ◌&&◌, ◌++◌, ◌+◌, ◌-◌, ◌/◌, ◌∙◌, ◌∷◌, ◌≡◌, ◌≤◌, ◌⊎◌}
 use Rattle.cj_stream.specs.Meaning.Bound.{tokens_bound, of_first as first_measure}
-use Rattle.cj_stream.specs.Bound.{is_legible}
+use Rattle.cj_stream.specs.Bound.{are_legible}
 use Rattle.cj_stream.proofs.FirstLemmas.{first-good}
 use Rattle.cj_stream.proofs.GoodLemmas.{some_of}
 use Rattle.cj_stream.proofs.IsLinesLemmas.{lines-whole}
@@ -134,10 +134,10 @@ module _ (rules : Rules) (h a : List ℕ) (cut : IsCut h a) (done : ending rules
 
   judged-joined : (e : End) → refusal_in rules (judged rules.limits (headed h b)) ≡ Some e
       → refusal_in rules (judged rules.limits (headed h (a ++ b))) ≡ Some (moved_end (n - 1) e)
-  judged-joined e told =
+  judged-joined e said =
       let later = judged rules.limits b in
       let second : refusal_in rules (ended_line h ∷ later) ≡ Some e =
-      ap (refusal_in rules) (sym (judged-headed rules.limits h b cut.header)) ∙ told in
+      ap (refusal_in rules) (sym (judged-headed rules.limits h b cut.header)) ∙ said in
       let stream : judged rules.limits (headed h (a ++ b)) ≡ ended_line h ∷ lines a ++ later =
       judged-headed rules.limits h (a ++ b) cut.header
       ∙ ap (λ z. ended_line h ∷ z) (judged-parts rules.limits a b cut.lines) in
@@ -149,17 +149,17 @@ module _ (rules : Rules) (h a : List ℕ) (cut : IsCut h a) (done : ending rules
   whole-joined : (refusal_in rules (lines (whole (headed h b))) ≡ None) × (m ≡ length (lines (whole (headed h b))))
       → (refusal_in rules (lines (whole (headed h (a ++ b)))) ≡ None)
       × (n + (m - 1) ≡ length (lines (whole (headed h (a ++ b)))))
-  whole-joined told =
+  whole-joined said =
       let later = map ended_line (closed b) in
       let second : refusal_in rules (ended_line h ∷ later) ≡ None =
-      ap (refusal_in rules) (sym (whole-headed h b cut.header)) ∙ told.0 in
+      ap (refusal_in rules) (sym (whole-headed h b cut.header)) ∙ said.0 in
       let stream = whole-parts h a b cut in (
         ap (refusal_in rules) stream
             ∙ (refusal-joined rules (ended_line h) (header-valid rules h a cut done) (lines a)
             (front-none rules h a cut done) later ∙ ap (option_map (moved_end (length (lines a)))) second),
         omega (
           arith,
-          told.1,
+          said.1,
           count,
           ap length stream,
           ap length (whole-headed h b cut.header),
@@ -169,13 +169,13 @@ module _ (rules : Rules) (h a : List ℕ) (cut : IsCut h a) (done : ending rules
 
   Ends-joined : (at_end : Type 0) (e : End) → Ends rules (headed h b) m at_end e
       → Ends rules (headed h (a ++ b)) (n + (m - 1)) at_end (moved_end (n - 1) e)
-  Ends-joined at_end Complete told =
-      (ending-parts rules h a cut done b ∙ ap (moved_end (length (lines a))) told.0, all-counted told.1, told.2)
-  Ends-joined at_end (Refused number place reason) told = (
+  Ends-joined at_end Complete said =
+      (ending-parts rules h a cut done b ∙ ap (moved_end (length (lines a))) said.0, all-counted said.1, said.2)
+  Ends-joined at_end (Refused number place reason) said = (
     ending-parts rules h a cut done b
-        ∙ (ap (moved_end (length (lines a))) told.0 ∙ ap (λ k. Refused (number + k) place reason) (sym before)),
-    all-counted told.1,
-    seen told.2,
+        ∙ (ap (moved_end (length (lines a))) said.0 ∙ ap (λ k. Refused (number + k) place reason) (sym before)),
+    all-counted said.1,
+    seen said.2,
   )
     where
       seen : at_end ⊎ (refusal_in rules (judged rules.limits (headed h b)) ≡ Some (Refused number place reason))
@@ -183,10 +183,10 @@ module _ (rules : Rules) (h a : List ℕ) (cut : IsCut h a) (done : ending rules
           ≡ Some (Refused (number + (n - 1)) place reason))
       seen (inl end) = inl end
       seen (inr k) = inr (judged-joined (Refused number place reason) k)
-  Ends-joined at_end ReadFault told = whole-joined told
-  Ends-joined at_end ReadLimit told = whole-joined told
-  Ends-joined at_end WriteFault told = tt
-  Ends-joined at_end Memory told = tt
+  Ends-joined at_end ReadFault said = whole-joined said
+  Ends-joined at_end ReadLimit said = whole-joined said
+  Ends-joined at_end WriteFault said = tt
+  Ends-joined at_end Memory said = tt
 
 -- ---- what is held
 
@@ -227,11 +227,11 @@ module _ (limits : LimitPair) (h a b : List ℕ) (cut : IsCut h a) where
         depth = two-below p.depth q.depth _ first.depth second.depth;
       }
 
-  legible-headed : (s : List ℕ) → is_legible limits (headed h s) ≡ list_all (is_readable limits) (contents s)
+  legible-headed : (s : List ℕ) → are_legible limits (headed h s) ≡ list_all (is_readable limits) (contents s)
   legible-headed s = ap (λ z. list_all (is_readable limits) (later_of z)) (contents-headed h s cut.header)
 
-  legible-parts : is_legible limits (headed h (a ++ b)) ≡ true → (is_legible limits (headed h a) ≡ true)
-      × (is_legible limits (headed h b) ≡ true)
+  legible-parts : are_legible limits (headed h (a ++ b)) ≡ true → (are_legible limits (headed h a) ≡ true)
+      × (are_legible limits (headed h b) ≡ true)
   legible-parts h_ab =
       let all : list_all (is_readable limits) (contents a) && list_all (is_readable limits) (contents b) ≡ true =
       sym (legible-headed (a ++ b)
@@ -270,15 +270,15 @@ module _ (rules : Rules) (h a b : List ℕ) (cut : IsCut h a) (first second : Ou
       → Account (run_over rules (headed h b) second) at_last
       → Account (run_over rules (headed h (a ++ b)) (both_outcomes first second)) at_last
   Account-joined is x y =
-      let told : Ends rules (headed h a) first.lines at_end Complete =
+      let said : Ends rules (headed h a) first.lines at_end Complete =
       subst (λ (e : End). Ends rules (headed h a) first.lines at_end e) is x.ends in
       record {
         bounded = Bounded-joined rules.limits h a b cut first.peaks second.peaks x.bounded y.bounded;
         exact = λ done. Exact-joined rules.limits h a b cut first.peaks second.peaks (x.exact is)
             (y.exact (was_complete second.ended done));
-        counts = Counts-joined rules h a cut told.0 b first.lines second.lines told.1 first.kept second.kept
+        counts = Counts-joined rules h a cut said.0 b first.lines second.lines said.1 first.kept second.kept
             first.refused second.refused x.counts y.counts;
-        ends = Ends-joined rules h a cut told.0 b first.lines second.lines told.1 at_last second.ended y.ends;
+        ends = Ends-joined rules h a cut said.0 b first.lines second.lines said.1 at_last second.ended y.ends;
       }
     where
       was_complete : (e : End) → moved_end (first.lines - 1) e ≡ Complete → e ≡ Complete
@@ -292,24 +292,24 @@ module _ (rules : Rules) (h a b : List ℕ) (cut : IsCut h a) (first second : Ou
   -- where it is refused, or failed in writing, or for want of memory
   Ends-stays : (n : ℕ) (e : End) → ¬ (e ≡ Complete) → IsUnread e → Ends rules (headed h a) n at_end e
       → Ends rules (headed h (a ++ b)) n at_last e
-  Ends-stays n Complete other unread told = absurd (other refl)
-  Ends-stays n (Refused number place reason) other unread told =
+  Ends-stays n Complete other unread said = absurd (other refl)
+  Ends-stays n (Refused number place reason) other unread said =
       let e = Refused number place reason in
-      let stays = refused-stays rules h a cut b (λ k. other (sym told.0 ∙ k)) in
+      let stays = refused-stays rules h a cut b (λ k. other (sym said.0 ∙ k)) in
       let front : refusal_in rules (ended_line h ∷ lines a) ≡ Some (Refused number place reason) =
       some_of (refusal_in rules (ended_line h ∷ lines a)) number place reason
-      (ap (λ z. ending_of rules z) (sym (front-lines rules h a cut)) ∙ told.0) in
+      (ap (λ z. ending_of rules z) (sym (front-lines rules h a cut)) ∙ said.0) in
       let later = judged rules.limits b in
       let stream : judged rules.limits (headed h (a ++ b)) ≡ ended_line h ∷ lines a ++ later =
       judged-headed rules.limits h (a ++ b) cut.header
       ∙ ap (λ z. ended_line h ∷ z) (judged-parts rules.limits a b cut.lines) in (
-        stays.0 ∙ told.0,
-        told.1 ∙ sym (ap length stays.1),
+        stays.0 ∙ said.0,
+        said.1 ∙ sym (ap length stays.1),
         inr (ap (refusal_in rules) stream ∙ refusal-stays rules [] (ended_line h ∷ lines a) later e front),
       )
-  Ends-stays n WriteFault other unread told = tt
-  Ends-stays n Memory other unread told = tt
-  Ends-stays n e other unread told = absurd unread
+  Ends-stays n WriteFault other unread said = tt
+  Ends-stays n Memory other unread said = tt
+  Ends-stays n e other unread said = absurd unread
 
   stream-lines : lines (headed h (a ++ b)) ≡ lines (headed h a) ++ lines b
   stream-lines = all-lines rules h a cut b ∙ ap (λ z. z ++ lines b) (sym (front-lines rules h a cut))

@@ -119,18 +119,18 @@ module _ (rules : Rules) where
   same : (before : List Line) (l : Line) (j : JudgedLine) → j.line ≡ l → j.number ≡ length before + 1
       → j.verdict ≡ verdict rules before l.content
       → (j.verdict ≡ Kept → item_of j ≡ Some (item_after rules before l)) → IsSame (ruling_after rules before l) j
-  same before l j line number told item = record {
+  same before l j line number said item = record {
     line = line;
     item = go j.verdict refl;
-    written = rw (line, told) (same-written l (verdict rules before l.content));
-    reports = rw (number, told) (same-reports (length before + 1) (verdict rules before l.content));
-    end = rw (number, told) (same-end (length before + 1) (verdict rules before l.content) (omega arith));
+    written = rw (line, said) (same-written l (verdict rules before l.content));
+    reports = rw (number, said) (same-reports (length before + 1) (verdict rules before l.content));
+    end = rw (number, said) (same-end (length before + 1) (verdict rules before l.content) (omega arith));
   }
     where
       go : (v : Verdict) → j.verdict ≡ v
           → item_of j ≡ cond (is_kept (verdict rules before l.content)) (Some (item_after rules before l)) None
-      go Kept e = item e ∙ rw (← told, e) refl
-      go other e = rw (← told, e) (item-none j.line j.header j.tree other refl)
+      go Kept e = item e ∙ rw (← said, e) refl
+      go other e = rw (← said, e) (item-none j.line j.header j.tree other refl)
 
   -- behind a header
   later-agrees : (first : Line) (xs : List Line) (n : ℕ) → n ≡ length (first ∷ xs) + 1 → (ls : List Line)

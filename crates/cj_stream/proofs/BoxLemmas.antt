@@ -143,26 +143,26 @@ first_meets m low high n ns h = or_more (int_le (image m n) high) (int_le low (i
 
 -- ---- how the code asks whether a number is at most, or at least, at an end
 
-le_told : (x y : ℤ) → is_le (int_cmp x y) ≡ int_le x y
-le_told x y =
+le_said : (x y : ℤ) → is_le (int_cmp x y) ≡ int_le x y
+le_said x y =
     grind (arith, nat_tests)
 
-ge_told : (x y : ℤ) → is_ge (int_cmp x y) ≡ int_le y x
-ge_told x y =
+ge_said : (x y : ℤ) → is_ge (int_cmp x y) ≡ int_le y x
+ge_said x y =
     grind (arith, nat_tests)
 
 -- of a number that went to bits and back
-pub at_most_told : (m : AffineMap) (v end : ℤ) (r : Ordering) → unsigned_abs v < 10 ^ 18
+pub at_most_said : (m : AffineMap) (v end : ℤ) (r : Ordering) → unsigned_abs v < 10 ^ 18
     → r ≡ int_cmp (image m (cast_signed w64 (cast_unsigned w64 v))) end → is_le r ≡ int_le (image m v) end
-at_most_told m v end r small e =
+at_most_said m v end r small e =
     let same = to_z-of_z w64 v (fits_signed_from_abs w64 v (omega arith)) in
-    ap is_le (e ∙ ap (λ x. int_cmp (image m x) end) same) ∙ le_told (image m v) end
+    ap is_le (e ∙ ap (λ x. int_cmp (image m x) end) same) ∙ le_said (image m v) end
 
-pub at_least_told : (m : AffineMap) (v end : ℤ) (r : Ordering) → unsigned_abs v < 10 ^ 18
+pub at_least_said : (m : AffineMap) (v end : ℤ) (r : Ordering) → unsigned_abs v < 10 ^ 18
     → r ≡ int_cmp (image m (cast_signed w64 (cast_unsigned w64 v))) end → is_ge r ≡ int_le end (image m v)
-at_least_told m v end r small e =
+at_least_said m v end r small e =
     let same = to_z-of_z w64 v (fits_signed_from_abs w64 v (omega arith)) in
-    ap is_ge (e ∙ ap (λ x. int_cmp (image m x) end) same) ∙ ge_told (image m v) end
+    ap is_ge (e ∙ ap (λ x. int_cmp (image m x) end) same) ∙ ge_said (image m v) end
 
 -- the second tells it where the first does not
 pub or_second : (a b c d : Bool) → a ≡ b → b ≡ false → c ≡ d → c ≡ (a || d)

@@ -14,97 +14,97 @@ use Rattle.cj_stream.proofs.BoxTextLemmas.{in-class, no-class}
 abbrev pub Number_is : List ℕ → Number → Type 0
 Number_is s v = (is_number s ≡ true) × (value_by (class s) ≡ Some v)
 
-told : (s : List ℕ) (v : Number) → spells_number s ≡ true → SameValue (number_of (written_of s)) v → IsNormal v
+said : (s : List ℕ) (v : Number) → spells_number s ≡ true → SameValue (number_of (written_of s)) v → IsNormal v
     → IsInRange v → Number_is s v
-told s v test same normal range =
+said s v test same normal range =
     in-class s v (record { written = written_of s; spells = test_spells s test; same = same; normal = normal }) range
     (class s)
 
-untold : (s : List ℕ) → spells_number s ≡ false → is_number s ≡ false
-untold s e = no-class s (λ n. absurd (cc (e, (spells_test s n.0 n.1).0))) (class s)
+unsaid : (s : List ℕ) → spells_number s ≡ false → is_number s ≡ false
+unsaid s e = no-class s (λ n. absurd (cc (e, (spells_test s n.0 n.1).0))) (class s)
 
 pub one : Number_is (codes "1") (scaled (pos 1) (pos 0))
 unfolding digits_front digits_rest begins is_empty begins_digit body is_int is_frac frac_digits after_frac exp_digits
     is_whole_digits is_exp exp_value
-one = told (codes "1") (scaled (pos 1) (pos 0)) refl (record { coefficients = refl }) (record { normal = λ e. cc e })
+one = said (codes "1") (scaled (pos 1) (pos 0)) refl (record { coefficients = refl }) (record { normal = λ e. cc e })
     (record { digits = lit< tt; power_low = omega (arith, ints); power_high = omega (arith, ints) })
 
 three : Number_is (codes "3") (scaled (pos 3) (pos 0))
 unfolding digits_front digits_rest begins is_empty begins_digit body is_int is_frac frac_digits after_frac exp_digits
     is_whole_digits is_exp exp_value
-three = told (codes "3") (scaled (pos 3) (pos 0)) refl (record { coefficients = refl }) (record { normal = λ e. cc e })
+three = said (codes "3") (scaled (pos 3) (pos 0)) refl (record { coefficients = refl }) (record { normal = λ e. cc e })
     (record { digits = lit< tt; power_low = omega (arith, ints); power_high = omega (arith, ints) })
 
 four : Number_is (codes "4") (scaled (pos 4) (pos 0))
 unfolding digits_front digits_rest begins is_empty begins_digit body is_int is_frac frac_digits after_frac exp_digits
     is_whole_digits is_exp exp_value
-four = told (codes "4") (scaled (pos 4) (pos 0)) refl (record { coefficients = refl }) (record { normal = λ e. cc e })
+four = said (codes "4") (scaled (pos 4) (pos 0)) refl (record { coefficients = refl }) (record { normal = λ e. cc e })
     (record { digits = lit< tt; power_low = omega (arith, ints); power_high = omega (arith, ints) })
 
 west : Number_is (codes "1001") (scaled (pos 1001) (pos 0))
 unfolding digits_front digits_rest begins is_empty begins_digit body is_int is_frac frac_digits after_frac exp_digits
     is_whole_digits is_exp exp_value
-west = told (codes "1001") (scaled (pos 1001) (pos 0)) refl (record { coefficients = refl })
+west = said (codes "1001") (scaled (pos 1001) (pos 0)) refl (record { coefficients = refl })
     (record { normal = λ e. cc e })
     (record { digits = lit< tt; power_low = omega (arith, ints); power_high = omega (arith, ints) })
 
 south : Number_is (codes "2001") (scaled (pos 2001) (pos 0))
 unfolding digits_front digits_rest begins is_empty begins_digit body is_int is_frac frac_digits after_frac exp_digits
     is_whole_digits is_exp exp_value
-south = told (codes "2001") (scaled (pos 2001) (pos 0)) refl (record { coefficients = refl })
+south = said (codes "2001") (scaled (pos 2001) (pos 0)) refl (record { coefficients = refl })
     (record { normal = λ e. cc e })
     (record { digits = lit< tt; power_low = omega (arith, ints); power_high = omega (arith, ints) })
 
 east : Number_is (codes "1005") (scaled (pos 1005) (pos 0))
 unfolding digits_front digits_rest begins is_empty begins_digit body is_int is_frac frac_digits after_frac exp_digits
     is_whole_digits is_exp exp_value
-east = told (codes "1005") (scaled (pos 1005) (pos 0)) refl (record { coefficients = refl })
+east = said (codes "1005") (scaled (pos 1005) (pos 0)) refl (record { coefficients = refl })
     (record { normal = λ e. cc e })
     (record { digits = lit< tt; power_low = omega (arith, ints); power_high = omega (arith, ints) })
 
 north : Number_is (codes "2005") (scaled (pos 2005) (pos 0))
 unfolding digits_front digits_rest begins is_empty begins_digit body is_int is_frac frac_digits after_frac exp_digits
     is_whole_digits is_exp exp_value
-north = told (codes "2005") (scaled (pos 2005) (pos 0)) refl (record { coefficients = refl })
+north = said (codes "2005") (scaled (pos 2005) (pos 0)) refl (record { coefficients = refl })
     (record { normal = λ e. cc e })
     (record { digits = lit< tt; power_low = omega (arith, ints); power_high = omega (arith, ints) })
 
 large : Number_is (codes "1e18") (scaled (pos 1) (pos 18))
 unfolding digits_front digits_rest begins is_empty begins_digit body is_int is_frac frac_digits after_frac exp_digits
     is_whole_digits is_exp exp_value
-large = told (codes "1e18") (scaled (pos 1) (pos 18)) refl (record { coefficients = refl })
+large = said (codes "1e18") (scaled (pos 1) (pos 18)) refl (record { coefficients = refl })
     (record { normal = λ e. cc e })
     (record { digits = lit< tt; power_low = omega (arith, ints); power_high = omega (arith, ints) })
 
 larger : Number_is (codes "2e18") (scaled (pos 2) (pos 18))
 unfolding digits_front digits_rest begins is_empty begins_digit body is_int is_frac frac_digits after_frac exp_digits
     is_whole_digits is_exp exp_value
-larger = told (codes "2e18") (scaled (pos 2) (pos 18)) refl (record { coefficients = refl })
+larger = said (codes "2e18") (scaled (pos 2) (pos 18)) refl (record { coefficients = refl })
     (record { normal = λ e. cc e })
     (record { digits = lit< tt; power_low = omega (arith, ints); power_high = omega (arith, ints) })
 
 fine : Number_is (codes "1e-19") (scaled (pos 1) (neg_ℤ (pos 19)))
 unfolding digits_front digits_rest begins is_empty begins_digit body is_int is_frac frac_digits after_frac exp_digits
     is_whole_digits is_exp exp_value
-fine = told (codes "1e-19") (scaled (pos 1) (neg_ℤ (pos 19))) refl (record { coefficients = refl })
+fine = said (codes "1e-19") (scaled (pos 1) (neg_ℤ (pos 19))) refl (record { coefficients = refl })
     (record { normal = λ e. cc e })
     (record { digits = lit< tt; power_low = omega (arith, ints); power_high = omega (arith, ints) })
 
 pub zero : Number_is (codes "0") (scaled (pos 0) (pos 0))
 unfolding digits_front digits_rest begins is_empty begins_digit body is_int is_frac frac_digits after_frac exp_digits
     is_whole_digits is_exp exp_value
-zero = told (codes "0") (scaled (pos 0) (pos 0)) refl (record { coefficients = refl }) zero_normal
+zero = said (codes "0") (scaled (pos 0) (pos 0)) refl (record { coefficients = refl }) zero_normal
     (record { digits = lit< tt; power_low = omega (arith, ints); power_high = omega (arith, ints) })
 
 blank : is_number (codes " 2") ≡ false
 unfolding digits_front digits_rest begins is_empty begins_digit body is_int is_frac frac_digits after_frac exp_digits
     is_whole_digits is_exp exp_value
-blank = untold (codes " 2") refl
+blank = unsaid (codes " 2") refl
 
 zeros : is_number (codes "01") ≡ false
 unfolding digits_front digits_rest begins is_empty begins_digit body is_int is_frac frac_digits after_frac exp_digits
     is_whole_digits is_exp exp_value
-zeros = untold (codes "01") refl
+zeros = unsaid (codes "01") refl
 
 -- ---- rows
 

@@ -79,13 +79,13 @@ module _ (s : List ℕ) where
   pub answer-read : (u : Number) → IsValue s u → IsInRange u → (r : Option ℤ) → IfSome r (IsFixed u)
       → (IsSome r ↔ ((n : ℤ) × IsFixed u n)) → Ok r ≡ answer
   answer-read u is range r value fixed =
-      let told = in-class u is range (class s) in
-      rw (told.0, told.1) (ap Ok (units-answer u is.normal r value fixed))
+      let said = in-class u is range (class s) in
+      rw (said.0, said.1) (ap Ok (units-answer u is.normal r value fixed))
 
   pub answer-out : IsNumberOutOfRange s → Ok None ≡ answer
   answer-out o =
-      let told = out-class o (class s) in
-      rw (told.0, told.1) refl
+      let said = out-class o (class s) in
+      rw (said.0, said.1) refl
 
   pub answer-none : ¬ SpellsNumber s → Err BadBox ≡ answer
   answer-none none = rw (no-class none (class s)) refl

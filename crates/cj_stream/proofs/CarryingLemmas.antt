@@ -1,8 +1,8 @@
--- What a framer carries on where some bytes come after others that were all taken.
-use Rattle.cj_stream.proofs.Common.{End, FramerState, HeldUntil, List, Reads, Scanned, Scanning, SinkLaw, TakesAll, TakesSome, ap, append_assoc, closed, sym, with_sink, ℕ, ◌++◌, ◌∙◌, ◌≡◌}
+-- What a splitter carries on where some bytes come after others that were all taken.
+use Rattle.cj_stream.proofs.Common.{End, SplitterState, HeldUntil, List, Reads, Scanned, Scanning, SinkContract, TakesAll, TakesSome, ap, append_assoc, closed, sym, with_sink, ℕ, ◌++◌, ◌∙◌, ◌≡◌}
 use Rattle.cj_stream.proofs.PieceLemmas.{Advances-then, Stops-later}
 
-module _ {S : Type 0} (law : SinkLaw S) {f g : FramerState} {s t : S} {bytes : List ℕ}
+module _ {S : Type 0} (law : SinkContract S) {f g : SplitterState} {s t : S} {bytes : List ℕ}
     (all : TakesAll law bytes (with_sink f s) (with_sink g t)) where
   limits : (p : List ℕ) → Reads f.reading p → g.reading.rules.limits ≡ f.reading.rules.limits
   limits p reads = ap (λ r. r.limits) (all.advances p reads).rules
@@ -11,7 +11,7 @@ module _ {S : Type 0} (law : SinkLaw S) {f g : FramerState} {s t : S} {bytes : L
       → Scanned g.reading.rules.limits (closed (p ++ bytes)) g.scanning
   scanned p reads k = rw (limits p reads) (all.scanned p reads k)
 
-  pub TakesAll-then : {more : List ℕ} {h : FramerState} {u : S} → TakesAll law more (with_sink g t) (with_sink h u)
+  pub TakesAll-then : {more : List ℕ} {h : SplitterState} {u : S} → TakesAll law more (with_sink g t) (with_sink h u)
       → TakesAll law (bytes ++ more) (with_sink f s) (with_sink h u)
   TakesAll-then {more} rest = record {
     advances = λ p reads.
@@ -22,7 +22,7 @@ module _ {S : Type 0} (law : SinkLaw S) {f g : FramerState} {s t : S} {bytes : L
         rw (limits p reads, append_assoc p bytes more) at z;
   }
 
-  pub TakesSome-then : {more : List ℕ} {h : FramerState} {u : S} {e : End}
+  pub TakesSome-then : {more : List ℕ} {h : SplitterState} {u : S} {e : End}
       → TakesSome law more (with_sink g t) e (with_sink h u)
       → TakesSome law (bytes ++ more) (with_sink f s) e (with_sink h u)
   TakesSome-then {more} rest = record {

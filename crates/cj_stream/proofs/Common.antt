@@ -32,11 +32,11 @@ pub use Rattle.cj_stream.proofs.Apart.{false-true, none-some, some-none}
 pub use Rattle.cj_stream.specs.Adding.{parted, with_type_in}
 pub use Rattle.cj_stream.specs.Bound.{IsBelow, IsExact, contents, exact_peaks, first_lines, held_length, is_readable, is_spelled, is_text, tree_nest, tree_size}
 pub use Rattle.cj_stream.specs.BoxText.{fields, is_number}
-pub use Rattle.cj_stream.specs.Carrying.{Carries, FinishesAll, FramerState, TakesAll, TakesSome}
+pub use Rattle.cj_stream.specs.Carrying.{Carries, FinishesAll, SplitterState, TakesAll, TakesSome}
 pub use Rattle.cj_stream.specs.CountSink.{is_header}
 pub use Rattle.cj_stream.specs.Cut.{AppendsMore, Copies, EndsAt, Fed, IsUnread, PutsPieces, TookWhole, given_after, in_pieces}
 pub use Rattle.cj_stream.specs.Ending.{answer_of, header_end, line_end}
-pub use Rattle.cj_stream.specs.Engine.{Concludes, Counts, Delivers, EngineState, Faults, Going, StandsFor, Tells, end_of, given, held_by, limits_of, lines_of, peaks_of, rules_of, state}
+pub use Rattle.cj_stream.specs.Engine.{Concludes, Counts, Delivers, EngineState, Faults, Going, StandsFor, IsEndAfter, end_of, given, held_by, limits_of, lines_of, peaks_of, rules_of, state}
 pub use Rattle.cj_stream.specs.Extent.{IsSmall, alone, meets, range_of, widened}
 pub use Rattle.cj_stream.specs.Feeding.{Feeds, IsFinished}
 pub use Rattle.cj_stream.specs.Ids.{AreIndexed, AreRuns, Ascend, Key, compare_keys, key_at, key_of, keys_at, keys_of, piece, pieces}
@@ -56,12 +56,12 @@ pub use Rattle.cj_stream.specs.Output.{Channel, channel, flush_answer, output_fa
 pub use Rattle.cj_stream.specs.Parts.{AreComplete, IsCut, JoinsTallies, WidensFront, both_outcomes, capped_end, capped_outcome, greater_peaks, headed, moved_end, moved_line, moved_report, wider}
 pub use Rattle.cj_stream.specs.Query.{box_of, failed_growths_of, rules_for, types_of}
 unfoldable pub use Rattle.cj_stream.specs.Query.{criteria}
-pub use Rattle.cj_stream.specs.Reading.{Deals, Finishes, FinishesWith, IsLeft, JudgedAs, LacksMemory, Passes, Reading, Reads, Refuses, Settles, Stays, Stops, Stores, Unstored, begun_of, further, is_lenient, judged_begun, judged_next, next_item, next_verdict, told_verdict}
+pub use Rattle.cj_stream.specs.Reading.{HandlesLine, Finishes, FinishesWith, IsLeft, JudgedAs, LacksMemory, EndsLine, Reading, Reads, Refuses, Handles, Stays, Stops, Stores, Unstored, begun_of, further, is_lenient, judged_begun, judged_next, next_item, next_verdict, begun_verdict}
 pub use Rattle.cj_stream.specs.ReportSink.{Collects, CountsReport, Notes, NotesPieces, NotesRun}
 pub use Rattle.cj_stream.specs.Rows.{Gives, small_feature, small_header, tight_rules, wide_rules}
 pub use Rattle.cj_stream.specs.Run.{Account, CountsAll, Ends, Puts, Run, RunsNoting, outcome_of}
 pub use Rattle.cj_stream.specs.Scanning.{Forgets, HasHeld, HasRoom, HeldAll, HeldUntil, HoldsFew, HoldsFewNext, IsReady, Rises, Scanned, Scanning, ScansLine, ScansNext, are_readable, scanning}
-pub use Rattle.cj_stream.specs.Sink.{AppendsPart, HasRisen, LeavesNext, SinkLaw, TookFront, TookMore, TookOf, never_fails, prefixes, with_sink}
+pub use Rattle.cj_stream.specs.Sink.{AppendsPart, HasRisen, LeavesNext, SinkContract, TookFront, TookMore, TookOf, never_fails, prefixes, with_sink}
 pub use Rattle.cj_stream.specs.Tallied.{IsRange, beside, capped, class_count, class_of, how_often, lod_classes, numbers_on, over_features, own_classes, row_number, type_numbers}
 pub use Rattle.cj_stream.specs.TallySink.{AreWordsOf, IsTallyOf, RisesBy, TakesNumber, Tally, Widens, last_shown}
 pub use Rattle.cj_stream.specs.Verdict.{AreCounted, Ruling, by_least, ending, ending_of, findings, first_end, first_line, goes_on, good, good_from, header_of, is_blank_line, is_kept, is_kept_if_valid, item_after, judged, kept, kept_first, kept_from, kept_of, lines_before, long_line, output, output_first, refusal_from, refusal_in, refusal_of, reported, reported_first, reported_from, reported_of, reports_of, ruling_after, rulings, rulings_closed, rulings_first, rulings_good, stream_of, stretch, text_verdict, tree_verdict, up_to, verdict}

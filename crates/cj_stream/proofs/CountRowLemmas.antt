@@ -25,13 +25,13 @@ its_classes : lod_classes plain_header three_classes ≡ 0 ∷ 4 ∷ 5 ∷ []
 unfolding text code_points_after first_code_point first_width chars encode
 its_classes = refl
 
-abbrev Counts : List ℕ → List ℕ → Type 0
-Counts ns new = RisesBy 6 (replicate 6 0) ns new
+abbrev CountsRow : List ℕ → List ℕ → Type 0
+CountsRow ns new = RisesBy 6 (replicate 6 0) ns new
 
 abbrev three_of : List ℕ
 three_of = 0 ∷ 4 ∷ 5 ∷ []
 
-counted : Counts three_of (1 ∷ 0 ∷ 0 ∷ 0 ∷ 1 ∷ 1 ∷ [])
+counted : CountsRow three_of (1 ∷ 0 ∷ 0 ∷ 0 ∷ 1 ∷ 1 ∷ [])
 counted zero below = refl
 counted (suc zero) below = refl
 counted (suc (suc zero)) below = refl

@@ -1,5 +1,5 @@
 -- A text that comes in pieces.
-use Rattle.cj_stream.proofs.Common.{Complete, Concludes, Copies, Delivers, End, EndsAt, EngineState, IsUnread, LeavesNext, Line, List, Memory, NoLf, None, Option, PutsPieces, ReadFault, ReadLimit, Reads, Refused, Rules, SinkLaw, Some, Tells, TookWhole, WriteFault, [], ap, append-nil, append_assoc, arith, begun, closed, drop, ended_line, ending, given_after, good, good_from, header_of, in_pieces, inl, inr, joined, judged, kept, last_line, length, lines, lines_of, long_line, map, nat_tests, refl, refusal_from, refusal_in, rules_of, stretch, sym, take, whole, writes_law, ℕ, ◌++◌, ◌+◌, ◌<◌, ◌∙◌, ◌∷◌, ◌≡◌, ◌≤◌, ◌⊎◌}
+use Rattle.cj_stream.proofs.Common.{Complete, Concludes, Copies, Delivers, End, EndsAt, EngineState, IsUnread, LeavesNext, Line, List, Memory, NoLf, None, Option, PutsPieces, ReadFault, ReadLimit, Reads, Refused, Rules, SinkContract, Some, IsEndAfter, TookWhole, WriteFault, [], ap, append-nil, append_assoc, arith, begun, closed, drop, ended_line, ending, given_after, good, good_from, header_of, in_pieces, inl, inr, joined, judged, kept, last_line, length, lines, lines_of, long_line, map, nat_tests, refl, refusal_from, refusal_in, rules_of, stretch, sym, take, whole, writes_law, ℕ, ◌++◌, ◌+◌, ◌<◌, ◌∙◌, ◌∷◌, ◌≡◌, ◌≤◌, ◌⊎◌}
 use Rattle.cj_stream.proofs.JoinedLemmas.{joined-cut}
 use Rattle.cj_stream.proofs.LineLemmas.{closed-then, begun-then, lines-cut, NoLf-begun, first_content-long}
 use Rattle.cj_stream.proofs.VerdictLemmas.{verdict-long}
@@ -75,14 +75,14 @@ refused-more rules q more e k =
     (ending-refused rules (lines (q ++ more)) e all.0, all.1 ∙ sym same)
 
 -- the same of pieces, where those that were given are all of them or were the end
-pub given-told : (rules : Rules) (p : List ℕ) (pieces : List (List ℕ)) (k : ℕ) (e : End)
+pub given-said : (rules : Rules) (p : List ℕ) (pieces : List (List ℕ)) (k : ℕ) (e : End)
     → (joined (take (k + 1) pieces) ≡ joined pieces)
     ⊎ (refusal_in rules (judged rules.limits (p ++ joined (take (k + 1) pieces))) ≡ Some e)
     → ending rules (p ++ joined (take (k + 1) pieces)) ≡ e
     → (ending rules (p ++ joined pieces) ≡ e)
     × (good rules (p ++ joined pieces) ≡ good rules (p ++ joined (take (k + 1) pieces)))
-given-told rules p pieces k e (inl same) ends = rw (← same) (ends, refl)
-given-told rules p pieces k e (inr h) ends =
+given-said rules p pieces k e (inl same) ends = rw (← same) (ends, refl)
+given-said rules p pieces k e (inr h) ends =
     let given = joined (take (k + 1) pieces) in
     let more = refused-more rules (p ++ given) (joined (drop (k + 1) pieces)) e h in
     let text : (p ++ given) ++ joined (drop (k + 1) pieces) ≡ p ++ joined pieces =
@@ -107,13 +107,13 @@ Copies-puts contents failures rules pieces n s t other h =
     (h.0, Took-appends contents s t (kept rules (joined pieces)) h.1)
 
 -- where a piece, or the end, ended it
-pub EndsAt-told : (rules : Rules) (before : List ℕ) (pieces : List (List ℕ)) (k n : ℕ) (e : End)
-    → Tells rules (before ++ joined (take (k + 1) pieces)) n e → EndsAt rules before pieces k e
-EndsAt-told rules before pieces k n Complete c = absurd c
-EndsAt-told rules before pieces k n (Refused number place reason) c = inr c.0
-EndsAt-told rules before pieces k n WriteFault c = tt
-EndsAt-told rules before pieces k n Memory c = tt
-EndsAt-told rules before pieces k n other c = c
+pub EndsAt-said : (rules : Rules) (before : List ℕ) (pieces : List (List ℕ)) (k n : ℕ) (e : End)
+    → IsEndAfter rules (before ++ joined (take (k + 1) pieces)) n e → EndsAt rules before pieces k e
+EndsAt-said rules before pieces k n Complete c = absurd c
+EndsAt-said rules before pieces k n (Refused number place reason) c = inr c.0
+EndsAt-said rules before pieces k n WriteFault c = tt
+EndsAt-said rules before pieces k n Memory c = tt
+EndsAt-said rules before pieces k n other c = c
 
 pub EndsAt-concludes : (rules : Rules) (before : List ℕ) (pieces : List (List ℕ)) (k : ℕ) (p : List ℕ) (n : ℕ) (e : End)
     → k ≡ length pieces → Concludes rules p n e → EndsAt rules before pieces k e
@@ -130,10 +130,10 @@ unread-at rules before pieces k ReadFault c = c
 unread-at rules before pieces k ReadLimit c = c
 unread-at rules before pieces k other c = tt
 
-pub unread-told : (rules : Rules) (q : List ℕ) (n : ℕ) (e : End) → Tells rules q n e → IsUnread e
-unread-told rules q n ReadFault h = h
-unread-told rules q n ReadLimit h = h
-unread-told rules q n other h = tt
+pub unread-said : (rules : Rules) (q : List ℕ) (n : ℕ) (e : End) → IsEndAfter rules q n e → IsUnread e
+unread-said rules q n ReadFault h = h
+unread-said rules q n ReadLimit h = h
+unread-said rules q n other h = tt
 
 pub unread-concludes : (rules : Rules) (q : List ℕ) (n : ℕ) (e : End) → Concludes rules q n e → IsUnread e
 unread-concludes rules q n ReadFault h = h
@@ -141,7 +141,7 @@ unread-concludes rules q n ReadLimit h = h
 unread-concludes rules q n other h = tt
 
 -- what an engine that had read some pieces did with the next, or at the end
-pub TookWhole-left : {S : Type 0} (law : SinkLaw S) (e : EngineState) (rules : Rules) (before : List ℕ) (first : ℕ)
+pub TookWhole-left : {S : Type 0} (law : SinkContract S) (e : EngineState) (rules : Rules) (before : List ℕ) (first : ℕ)
     (pieces : List (List ℕ)) (n count : ℕ) (s m t : S) (end : End)
     → rules_of e ≡ rules → Reads e.reading (before ++ joined (take n pieces))
     → Delivers law (stretch rules (before ++ joined (take n pieces)) first (lines_of e)) s m None

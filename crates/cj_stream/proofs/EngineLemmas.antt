@@ -1,5 +1,5 @@
--- What an engine holds, tells and delivers, from what its framer did.
-use Rattle.cj_stream.proofs.Common.{Bool, Counts, Delivers, End, EngineState, Faults, Going, HasRoom, HoldsFew, Invalid, IsBelow, IsBounded, IsWithin, LacksMemory, LimitPair, Line, List, Memory, None, Option, Peaks, Reading, Reads, Refused, Rules, Ruling, Scanned, Scanning, SinkLaw, Some, StandsFor, Stops, Tells, WriteFault, [], ap, append-nil, append_assoc, arith, begun, bytes_bound, closed, cond, ended_line, false, first_content, further, goes_on, held_by, is_lenient, judged, last_line, length, length-append, limits_of, lines, map, nat_lt, nat_tests, peaks_of, refl, refusal_from, refusal_in, rulings_closed, rulings_first, slice_get, some-none, stretch, sym, take, true, up_to, verdict, with_sink, ℕ, ◌++◌, ◌+◌, ◌<◌, ◌∙◌, ◌∷◌, ◌≡◌, ◌≤◌}
+-- What an engine holds, says and delivers, from what its splitter did.
+use Rattle.cj_stream.proofs.Common.{Bool, Counts, Delivers, End, EngineState, Faults, Going, HasRoom, HoldsFew, Invalid, IsBelow, IsBounded, IsWithin, LacksMemory, LimitPair, Line, List, Memory, None, Option, Peaks, Reading, Reads, Refused, Rules, Ruling, Scanned, Scanning, SinkContract, Some, StandsFor, Stops, IsEndAfter, WriteFault, [], ap, append-nil, append_assoc, arith, begun, bytes_bound, closed, cond, ended_line, false, first_content, further, goes_on, held_by, is_lenient, judged, last_line, length, length-append, limits_of, lines, map, nat_lt, nat_tests, peaks_of, refl, refusal_from, refusal_in, rulings_closed, rulings_first, slice_get, some-none, stretch, sym, take, true, up_to, verdict, with_sink, ℕ, ◌++◌, ◌+◌, ◌<◌, ◌∙◌, ◌∷◌, ◌≡◌, ◌≤◌}
 use Rattle.std.proofs.Common.{ltb}
 use Rattle.cj_stream.specs.Reading.{IsSound, Advances, IsNext, HasCause, stop_at}
 use Rattle.cj_stream.proofs.FirstLemmas.{take-front, lines-front, first-front, first-closed_lines}
@@ -113,16 +113,17 @@ next-refusal rules n place reason p q l h e good v on =
       refusal-append rules [] (map ended_line (closed p)) (l ∷ h.0) good,
     )
 
-pub Tells-cause : {S : Type 0} (law : SinkLaw S) (rules : Rules) (p q : List ℕ) (n : ℕ) (s t : S) (e : End)
+pub IsEndAfter-cause : {S : Type 0} (law : SinkContract S) (rules : Rules) (p q : List ℕ) (n : ℕ) (s t : S) (e : End)
     → n ≡ length (closed p)
-    → refusal_in rules (map ended_line (closed p)) ≡ None → HasCause law (stop_at rules p q n) s t e → Tells rules q n e
-Tells-cause law rules p q n s t (Refused number place reason) len good c =
+    → refusal_in rules (map ended_line (closed p)) ≡ None → HasCause law (stop_at rules p q n) s t e
+    → IsEndAfter rules q n e
+IsEndAfter-cause law rules p q n s t (Refused number place reason) len good c =
     (next-refusal rules number place reason p q c.0 c.1 (omega (arith, c.2, len)) good c.3 c.5, c.2)
-Tells-cause law rules p q n s t WriteFault len good c = tt
-Tells-cause law rules p q n s t Memory len good c = tt
-Tells-cause law rules p q n s t other len good c = c
+IsEndAfter-cause law rules p q n s t WriteFault len good c = tt
+IsEndAfter-cause law rules p q n s t Memory len good c = tt
+IsEndAfter-cause law rules p q n s t other len good c = c
 
-pub Faults-cause : {S : Type 0} (law : SinkLaw S) (rules : Rules) (p q : List ℕ) (n : ℕ) (s t : S) (e : End)
+pub Faults-cause : {S : Type 0} (law : SinkContract S) (rules : Rules) (p q : List ℕ) (n : ℕ) (s t : S) (e : End)
     → n ≡ length (closed p)
     → HasCause law (stop_at rules p q n) s t e → Faults law (up_to rules q n) s t (Some e)
 Faults-cause law rules p q n s t (Refused number place reason) len c = c.4
@@ -177,12 +178,13 @@ StandsFor-reads e p taken s room h sc = record {
   going = λ _. (h, sc, taken);
 }
 
-module _ {S : Type 0} (law : SinkLaw S) where
-  pub Tells-stops : (f g : Reading) (s t : S) (p more : List ℕ) (e : End) → Stops law (further p more) (with_sink f s) e
-      (with_sink g t) → Tells f.rules (p ++ more) g.lines e
-  Tells-stops f g s t p more e h =
+module _ {S : Type 0} (law : SinkContract S) where
+  pub IsEndAfter-stops : (f g : Reading) (s t : S) (p more : List ℕ) (e : End)
+      → Stops law (further p more) (with_sink f s) e
+      (with_sink g t) → IsEndAfter f.rules (p ++ more) g.lines e
+  IsEndAfter-stops f g s t p more e h =
       let good = rw h.rules at h.reads.counted.good in
-      Tells-cause law f.rules (p ++ h.done) (p ++ more) g.lines h.middle t e h.reads.lines good h.cause
+      IsEndAfter-cause law f.rules (p ++ h.done) (p ++ more) g.lines h.middle t e h.reads.lines good h.cause
 
   pub Delivers-advances : (f g : Reading) (s t : S) (p more : List ℕ) → Reads f p → Advances law (further p more)
       (with_sink f s) (with_sink g t)
@@ -227,8 +229,8 @@ none-added : (xs ys : List Ruling) → ◌≡◌ {A = List Ruling} [] (xs ++ ys)
 none-added [] ys e = sym e
 none-added (x ∷ xs) ys e = cc
 
--- what an end for want of memory tells: no line was dealt with, so the sink is as it was
-pub LacksMemory-stops : {S : Type 0} (law : SinkLaw S) (f g : Reading) (s t : S) (p more : List ℕ) (e : End)
+-- what an end for want of memory says: no line was handled, so the sink is as it was
+pub LacksMemory-stops : {S : Type 0} (law : SinkContract S) (f g : Reading) (s t : S) (p more : List ℕ) (e : End)
     → Stops law (further p more) (with_sink f s) e (with_sink g t) → e ≡ Memory
     → LacksMemory f.rules (p ++ more) g.lines × (t ≡ s)
 LacksMemory-stops law f g s t p more e h m =

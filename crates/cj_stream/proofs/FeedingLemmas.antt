@@ -1,10 +1,10 @@
--- What the states of a stream promise of a piece and of the end, from what their framer did.
-use Rattle.cj_stream.proofs.Common.{Carries, Complete, End, EngineState, Err, Feeds, Finishes, FinishesAll, FramerState, HeldUntil, IsBelow, IsFinished, LineEnd, List, Memory, None, Ok, OnOk, Option, Reads, Result, Scanned, SinkLaw, Some, StandsFor, Stops, TakesAll, TakesSome, WriteFault, [], answer_of, ap, append-nil, arith, closed, cond, contents, end_of, further, given, header_end, length, length-append, line_end, peaks_of, refl, some-none, state, subst, sym, with_sink, ℕ, ◌++◌, ◌+◌, ◌∙◌, ◌≡◌}
+-- What the states of a stream promise of a piece and of the end, from what their splitter did.
+use Rattle.cj_stream.proofs.Common.{Carries, Complete, End, EngineState, Err, Feeds, Finishes, FinishesAll, SplitterState, HeldUntil, IsBelow, IsFinished, LineEnd, List, Memory, None, Ok, OnOk, Option, Reads, Result, Scanned, SinkContract, Some, StandsFor, Stops, TakesAll, TakesSome, WriteFault, [], answer_of, ap, append-nil, arith, closed, cond, contents, end_of, further, given, header_end, length, length-append, line_end, peaks_of, refl, some-none, state, subst, sym, with_sink, ℕ, ◌++◌, ◌+◌, ◌∙◌, ◌≡◌}
 use Rattle.std.proofs.Common.{◌≢◌, is_none, IsErrOf}
 use Rattle.cj_stream.specs.declared.ending.HeaderEnd.{HeaderEnd}
 use Rattle.cj_stream.specs.declared.ending.HeaderEnd.TheVariants.{Complete as HeaderComplete, Refused as HeaderRefused, WriteFault as HeaderWriteFault, Memory as HeaderMemory}
 use Rattle.cj_stream.specs.declared.ending.LineEnd.TheVariants.{Complete as LineComplete, Refused as LineRefused, WriteFault as LineWriteFault}
-use Rattle.cj_stream.proofs.EngineLemmas.{Tells-stops, Delivers-advances, Delivers-stops, LacksMemory-stops, StandsFor-reads, StandsFor-stops, Going-reads}
+use Rattle.cj_stream.proofs.EngineLemmas.{IsEndAfter-stops, Delivers-advances, Delivers-stops, LacksMemory-stops, StandsFor-reads, StandsFor-stops, Going-reads}
 use Rattle.cj_stream.proofs.LeastLemmas.{held-scanned, least-finished, least-read, least-until}
 use Rattle.cj_stream.proofs.LineLemmas.{closed-grows}
 use Rattle.cj_stream.proofs.FinishLemmas.{Finishes-concludes, Finishes-delivers, StandsFor-finished, finished-ok, finishes-onward, peaks-finished}
@@ -38,7 +38,7 @@ pub never-lacks : {T : Type 0} (r : Result T LineEnd) → IsErrOf (answer_of lin
 never-lacks (Ok x) h = cc
 never-lacks (Err e) h = never-memory e cc
 
-module _ {S : Type 0} (law : SinkLaw S) (old : EngineState) (s : S) where
+module _ {S : Type 0} (law : SinkContract S) (old : EngineState) (s : S) where
   -- after an end, the same again
   pub Feeds-again : (bytes : List ℕ) (e : End) (new : EngineState) (t : S) → old.ended ≡ Some e → new ≡ old → t ≡ s
       → Feeds law bytes (with_sink old s) (Err e) (with_sink new t)
@@ -53,7 +53,7 @@ module _ {S : Type 0} (law : SinkLaw S) (old : EngineState) (s : S) where
     rises = below-same old;
     least = λ p st going. absurd (not-going old.ended e is going);
     going = tt;
-    told = λ p st going. absurd (not-going old.ended e is going);
+    said = λ p st going. absurd (not-going old.ended e is going);
     memory = λ p st going. absurd (not-going old.ended e is going);
     growth = λ going. absurd (not-going old.ended e is going);
     sink = λ p st going. absurd (not-going old.ended e is going);
@@ -79,7 +79,8 @@ module _ {S : Type 0} (law : SinkLaw S) (old : EngineState) (s : S) where
     sink = λ p st going. absurd (not-going old.ended e is going);
   })
 
-module _ {S : Type 0} (law : SinkLaw S) (old new : FramerState) (s t : S) (n : ℕ) {T : Type 0} (answer : Result T End)
+module _ {S : Type 0} (law : SinkContract S) (old new : SplitterState) (s t : S) (n : ℕ) {T : Type 0}
+    (answer : Result T End)
     (carries : Carries law (with_sink old s) answer (with_sink new t)) where
   limits : new.reading.rules.limits ≡ old.reading.rules.limits
   limits = ap (λ x. x.limits) carries.stays.rules
@@ -103,7 +104,7 @@ module _ {S : Type 0} (law : SinkLaw S) (old new : FramerState) (s t : S) (n : �
     rules = carries.stays.rules;
     stands = λ p st.
         StandsFor-reads (state new m None) (p ++ bytes) (omega (arith, (st.going refl).2, taken, length-append p bytes))
-        carries.framed.sound carries.framed.room (reads p st) (scanned p st);
+        carries.limited.sound carries.limited.room (reads p st) (scanned p st);
     onward = λ p st. omega (arith, (st.going refl).0.lines, (reads p st).lines, closed-grows p bytes);
     rises = below-rises;
     least = λ p st _.
@@ -111,7 +112,7 @@ module _ {S : Type 0} (law : SinkLaw S) (old new : FramerState) (s t : S) (n : �
         (held-scanned new.reading.rules.limits (closed (p ++ bytes)) new.scanning (scanned p st)) in
         rw (append-nil (p ++ bytes), limits) at k;
     going = λ p st. Going-reads (state new m None) (p ++ bytes) (reads p st) (scanned p st);
-    told = tt;
+    said = tt;
     memory = λ p st _ none. absurd (fault-not_ok Memory none);
     growth = λ _ none. absurd (fault-not_ok Memory none);
     sink = λ p st _. Delivers-advances law old.reading new.reading s t p bytes (st.going refl).0
@@ -138,7 +139,7 @@ module _ {S : Type 0} (law : SinkLaw S) (old new : FramerState) (s t : S) (n : �
     cause = λ _ fault. carries.cause (is ∙ ap Err (err-is fault));
     rules = carries.stays.rules;
     stands = λ p st. StandsFor-stops law (state old n None) (state new n (Some e)) s t p bytes e refl
-        carries.framed.sound carries.framed.room
+        carries.limited.sound carries.limited.room
         (rw limits (some.held p (st.going refl).0 (st.going refl).1)) (stop p st);
     onward = λ p st.
         omega (arith, (st.going refl).0.lines, (stop p st).reads.lines, closed-grows p (stop p st).done);
@@ -146,7 +147,7 @@ module _ {S : Type 0} (law : SinkLaw S) (old new : FramerState) (s t : S) (n : �
     least = λ p st _. least-until (state new n (Some e)) old.reading.rules.limits p bytes (stop p st).done
         (stop p st).left limits (stop p st).cut (stop p st).reads (least p (st.going refl).0 (st.going refl).1);
     going = tt;
-    told = λ p st _. Tells-stops law old.reading new.reading s t p bytes e (stop p st);
+    said = λ p st _. IsEndAfter-stops law old.reading new.reading s t p bytes e (stop p st);
     memory = λ p st _ none. LacksMemory-stops law old.reading new.reading s t p bytes e (stop p st) (err-is none);
     growth = λ _ none. carries.memory (is ∙ ap Err (err-is none));
     sink = λ p st _. Delivers-stops law old.reading new.reading s t p bytes e (st.going refl).0 (stop p st);
@@ -160,7 +161,7 @@ module _ {S : Type 0} (law : SinkLaw S) (old new : FramerState) (s t : S) (n : �
       err-is h = cc
 
 -- the end was come to, by what came of a last line
-module _ {S : Type 0} (law : SinkLaw S) (old new : FramerState) (s t : S) (n : ℕ) where
+module _ {S : Type 0} (law : SinkContract S) (old new : SplitterState) (s t : S) (n : ℕ) where
   pub IsFinished-finishes : (r : Result (Unit {0}) End) (e : End) → e ≡ end_of r
       → Carries law (with_sink old s) r (with_sink new t) → (r ≡ Err Memory → ⊥)
       → FinishesAll law (with_sink old s) r (with_sink new t)
@@ -172,7 +173,7 @@ module _ {S : Type 0} (law : SinkLaw S) (old new : FramerState) (s t : S) (n : �
     rules = carries.stays.rules;
     stands = λ p st.
         StandsFor-finished law old.reading new.reading s t p (st.going refl).0 r new.scanning n e st.bounded.bytes
-        (rw limits at carries.framed.room) (all.held p (st.going refl).0 (st.going refl).1) (done p st);
+        (rw limits at carries.limited.room) (all.held p (st.going refl).0 (st.going refl).1) (done p st);
     onward = λ p st. finishes-onward law old.reading new.reading s t p (st.going refl).0 r (done p st);
     rises = below-rises law old new s t n r carries;
     least = λ p st _.

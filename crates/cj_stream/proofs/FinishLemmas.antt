@@ -1,8 +1,8 @@
 -- What the end of a text makes of an engine.
-use Rattle.cj_stream.proofs.Common.{Complete, Concludes, Counts, Delivers, End, Err, Faults, Finishes, FinishesWith, HasRoom, HoldsFew, IsExact, IsLeft, IsWithin, LimitPair, Line, List, Memory, NoHeader, None, Ok, OnErr, OnOk, Reading, Reads, Refused, Result, Rules, Scanned, Scanning, ScansNext, Settles, SinkLaw, Some, StandsFor, WriteFault, [], answer_of, ap, append-nil, arith, begun, begun_after, bytes_bound, closed, contents, end_of, ended_line, ending, ending_of, exact_peaks, false, first_content, goes_on, greatest, held_length, inl, inr, is_lenient, judged_next, last_line, later_of, length, length-append, lines, map, max, nat_tests, next_verdict, refl, refusal_from, refusal_in, rulings_first, some-none, stretch, sym, take, take_all, true, unwrap_or, up_to, with_sink, ℕ, ◌++◌, ◌+◌, ◌<◌, ◌∙◌, ◌∷◌, ◌≡◌, ◌≤◌, ◌⊎◌}
+use Rattle.cj_stream.proofs.Common.{Complete, Concludes, Counts, Delivers, End, Err, Faults, Finishes, FinishesWith, HasRoom, HoldsFew, IsExact, IsLeft, IsWithin, LimitPair, Line, List, Memory, NoHeader, None, Ok, OnErr, OnOk, Reading, Reads, Refused, Result, Rules, Scanned, Scanning, ScansNext, Handles, SinkContract, Some, StandsFor, WriteFault, [], answer_of, ap, append-nil, arith, begun, begun_after, bytes_bound, closed, contents, end_of, ended_line, ending, ending_of, exact_peaks, false, first_content, goes_on, greatest, held_length, inl, inr, is_lenient, judged_next, last_line, later_of, length, length-append, lines, map, max, nat_tests, next_verdict, refl, refusal_from, refusal_in, rulings_first, some-none, stretch, sym, take, take_all, true, unwrap_or, up_to, with_sink, ℕ, ◌++◌, ◌+◌, ◌<◌, ◌∙◌, ◌∷◌, ◌≡◌, ◌≤◌, ◌⊎◌}
 use Rattle.std.proofs.Common.{eqb}
 use Rattle.cj_stream.proofs.LineLemmas.{lines-cut, none-from_length, begun_after-empty}
-use Rattle.cj_stream.proofs.DealtLemmas.{Came, passed, refused, failed, lacked, came}
+use Rattle.cj_stream.proofs.HandledLemmas.{Came, ended, refused, failed, lacked, came}
 use Rattle.cj_stream.proofs.ReadingLemmas.{length-map_lines, left-same, zero_or, Counted-next, greatest-later, held-nothing}
 use Rattle.cj_stream.proofs.GoodLemmas.{good-complete, good-refused}
 use Rattle.cj_stream.proofs.EngineLemmas.{held-below, peaks-bounded, same-peaks, get-next, Counts-front}
@@ -59,19 +59,20 @@ pub err-answer : {T E : Type 0} (ending : E → End) (P : Type 0) (r : Result T 
 err-answer ending P (Ok x) h = h
 err-answer ending P (Err x) h = h
 
--- a last line that is not empty was dealt with
-pub finishes-with : {S : Type 0} (law : SinkLaw S) (c : List ℕ) (f g : Reading) (s t : S) (r : Result (Unit {0}) End)
+-- a last line that is not empty was handled
+pub finishes-with : {S : Type 0} (law : SinkContract S) (c : List ℕ) (f g : Reading) (s t : S)
+    (r : Result (Unit {0}) End)
     → 0 < length c
-    → Settles law (judged_next f (is_lenient f) (next_verdict f c) (record { content = c; lf = false })) (with_sink f s)
+    → Handles law (judged_next f (is_lenient f) (next_verdict f c) (record { content = c; lf = false })) (with_sink f s)
     r (with_sink g t) → FinishesWith law c (with_sink f s) r (with_sink g t)
 finishes-with law [] f g s t r some d = absurd (omega arith)
 finishes-with law (b ∷ c) f g s t r some d = d
 
--- the lists after a last line was dealt with, and of a text without one
+-- the lists after a last line was handled, and of a text without one
 pub scanned-last : (f : Reading) (p : List ℕ) (a b : Scanning) → Reads f p → 0 < length (begun p)
     → Scanned f.rules.limits (closed p) a → ScansNext f a b → Scanned f.rules.limits (contents p) b
-scanned-last f p a b reads some s deal =
-    rw (lines-cut p) (go (begun p) some (deal (closed p) (begun p) (sym reads.lines) reads.begun s))
+scanned-last f p a b reads some s scan =
+    rw (lines-cut p) (go (begun p) some (scan (closed p) (begun p) (sym reads.lines) reads.begun s))
   where
     go : (c : List ℕ) → 0 < length c → Scanned f.rules.limits (closed p ++ c ∷ []) b
         → Scanned f.rules.limits (map (λ l. l.content) (map ended_line (closed p) ++ last_line c)) b
@@ -87,7 +88,7 @@ abbrev pub unended : List ℕ → Line
 unended c = record { content = c; lf = false }
 
 -- The end of p came, and this was answered: of no bytes, of lines that LF ended, and of a last line without LF.
-data CameLast {S : Type 0} (law : SinkLaw S) (f g : Reading) (s t : S) (p : List ℕ) :
+data CameLast {S : Type 0} (law : SinkContract S) (f g : Reading) (s t : S) (p : List ℕ) :
     Result (Unit {0}) End → Type 0 where
   nothing : lines p ≡ [] → f.lines ≡ 0 → begun p ≡ [] → g ≡ f → t ≡ s
       → CameLast law f g s t p (Err (Refused 1 0 NoHeader))
@@ -116,7 +117,7 @@ take-last p n e some =
 pub take-closed : (p : List ℕ) (n : ℕ) → n ≡ length (closed p) → take n (lines p) ≡ map ended_line (closed p)
 take-closed p n e = let k = lines-front n p [] e in rw (append-nil p) at k
 
-module _ {S : Type 0} (law : SinkLaw S) (f g : Reading) (s t : S) (p : List ℕ) (reads : Reads f p) where
+module _ {S : Type 0} (law : SinkContract S) (f g : Reading) (s t : S) (p : List ℕ) (reads : Reads f p) where
   came-none : (r : Result (Unit {0}) End) → begun p ≡ [] → FinishesWith law [] (with_sink f s) r (with_sink g t)
       → CameLast law f g s t p r
   came-none r e d = go (zero_or f.lines)
@@ -170,7 +171,7 @@ module _ {S : Type 0} (law : SinkLaw S) (f g : Reading) (s t : S) (p : List ℕ)
         ending-some f.rules (map ended_line (closed p)) [] (omega (arith, length-cs)) ∙ rw good refl,
         rw (append-nil (map ended_line (closed p))) (sym length-cs),
       )
-  concluded r (last x some (passed put refuses d fine k bad took)) =
+  concluded r (last x some (ended put refuses d fine k bad took)) =
       (ending-verdict some ∙ rw fine refl, count-last some d.lines)
   concluded r (last x some (refused place reason v on same still)) =
       let ends : goes_on f.rules (length (map ended_line (closed p)) + 1) ≡ false = rw length-cs on in
@@ -182,14 +183,14 @@ module _ {S : Type 0} (law : SinkLaw S) (f g : Reading) (s t : S) (p : List ℕ)
       → Concludes f.rules p g.lines (end_of r)
   Finishes-concludes r d = Concludes-concluded f.rules p g.lines (end_of r) (concluded r (came-last r d))
 
-  -- the counts are those of f where nothing was dealt with
+  -- the counts are those of f where nothing was handled
   counts-left : IsLeft f g → Counts f.rules p g.lines g.kept g.refused
   counts-left left = let k = Counts-front f p [] reads in rw left.same (rw (append-nil p) at k)
 
   counted : (r : Result (Unit {0}) End) → CameLast law f g s t p r → Counts f.rules p g.lines g.kept g.refused
   counted r (nothing none z e same still) = counts-left (left-same f g same)
   counted r (whole z e same still) = counts-left (left-same f g same)
-  counted r (last x some (passed put refuses d fine k bad took)) = record {
+  counted r (last x some (ended put refuses d fine k bad took)) = record {
     few = omega (arith, count-last some d.lines);
     counted = rw (all-taken some d.lines)
         (Counted-next f g (map ended_line (closed p)) (unended (begun p)) put refuses (sym length-cs) reads.counted d
@@ -204,15 +205,15 @@ module _ {S : Type 0} (law : SinkLaw S) (f g : Reading) (s t : S) (p : List ℕ)
   Counts-finished r d = counted r (came-last r d)
 
   -- the lists are within their peaks, and those have not changed; and no line is taken back
-  record Settled : Type 0 where
+  record Handled : Type 0 where
     pub rules : g.rules ≡ f.rules
     pub header : IsWithin g.header
     pub line : IsWithin g.line
     pub peaks : g.header.peak + g.line.peak ≡ f.header.peak + f.line.peak
     pub onward : f.lines ≤ g.lines
 
-  settled-left : IsLeft f g → Settled
-  settled-left left = rw left.same (record {
+  handled-left : IsLeft f g → Handled
+  handled-left left = rw left.same (record {
     rules = refl;
     header = reads.header_within;
     line = record { below_peak = reads.line_within.below_peak; below_limit = reads.line_within.below_limit };
@@ -220,30 +221,30 @@ module _ {S : Type 0} (law : SinkLaw S) (f g : Reading) (s t : S) (p : List ℕ)
     onward = omega arith;
   })
 
-  settled : (r : Result (Unit {0}) End) → CameLast law f g s t p r → Settled
-  settled r (nothing none z e same still) = settled-left (left-same f g same)
-  settled r (whole z e same still) = settled-left (left-same f g same)
-  settled r (last x some (passed put refuses d fine k bad took)) = record {
+  handled : (r : Result (Unit {0}) End) → CameLast law f g s t p r → Handled
+  handled r (nothing none z e same still) = handled-left (left-same f g same)
+  handled r (whole z e same still) = handled-left (left-same f g same)
+  handled r (last x some (ended put refuses d fine k bad took)) = record {
     rules = d.rules;
     header = rw d.header reads.header_within;
     line = d.line.within;
     peaks = rw d.header (omega (arith, d.line.peak));
     onward = omega (arith, d.lines);
   }
-  settled r (last x some (refused place reason v on same still)) = settled-left (left-same f g same)
-  settled r (last x some (failed v left leaves)) = settled-left left
-  settled r (last x some (lacked v none lf left still)) = settled-left left
+  handled r (last x some (refused place reason v on same still)) = handled-left (left-same f g same)
+  handled r (last x some (failed v left leaves)) = handled-left left
+  handled r (last x some (lacked v none lf left still)) = handled-left left
 
   pub finishes-onward : (r : Result (Unit {0}) End) → Finishes law p (with_sink f s) r (with_sink g t)
       → f.lines ≤ g.lines
-  finishes-onward r d = (settled r (came-last r d)).onward
+  finishes-onward r d = (handled r (came-last r d)).onward
 
   pub StandsFor-finished : (r : Result (Unit {0}) End) (sc : Scanning) (n : ℕ) (e : End)
       → f.header.peak + f.line.peak ≤ bytes_bound f.rules.limits p → HasRoom f.rules.limits sc
       → HoldsFew f.rules.limits (length (first_content p)) sc → Finishes law p (with_sink f s) r (with_sink g t)
       → StandsFor (record { reading = g; scanning = sc; taken = n; ended = Some e }) p
   StandsFor-finished r sc n e bounded room few d =
-      let k = settled r (came-last r d) in
+      let k = handled r (came-last r d) in
       let counts = Counts-finished r d in
       record {
         held = held-below (record { reading = g; scanning = sc; taken = n; ended = Some e }) k.header k.line
@@ -264,7 +265,7 @@ module _ {S : Type 0} (law : SinkLaw S) (f g : Reading) (s t : S) (p : List ℕ)
       let first : f.header.peak ≡ length (first_content p) = reads.peak ∙ ap length reads.header in
       let line = rw (e, begun_after-empty (closed p)) at reads.line_peak in
       rw same (omega (arith, later, first, line, held-nothing f.rules.limits))
-  peak r (last x some (passed put refuses d fine k bad took)) done =
+  peak r (last x some (ended put refuses d fine k bad took)) done =
       let none = held-nothing f.rules.limits in
       let more = greatest-later (held_length f.rules.limits) none (closed p) (begun p) in
       let later : greatest (held_length f.rules.limits) (later_of (contents p))
@@ -316,7 +317,7 @@ module _ {S : Type 0} (law : SinkLaw S) (f g : Reading) (s t : S) (p : List ℕ)
       → Delivers law (stretch f.rules p f.lines g.lines) s t (Some (end_of r))
   delivered r (nothing none z e same still) = quiet (Refused 1 0 NoHeader) (ap (λ x. x.lines) same) still
   delivered r (whole z e same still) = quiet Complete (ap (λ x. x.lines) same) still
-  delivered r (last x some (passed put refuses d fine k bad took)) = record {
+  delivered r (last x some (ended put refuses d fine k bad took)) = record {
     middle = t;
     took = More-line law.takes over-kept f.rules p f.lines g.lines (map ended_line (closed p)) (unended (begun p)) s t
         (take-closed p f.lines reads.lines) (all-taken some d.lines) took;

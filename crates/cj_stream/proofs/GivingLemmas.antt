@@ -1,16 +1,17 @@
 -- Pieces that were given one after another, to an engine or to a reader of lines, until it ended.
-use Rattle.cj_stream.proofs.Common.{Delivers, End, Ends, EngineState, Err, Fed, Feeds, IsFinished, List, None, Notes, Ok, Report, Rules, SinkLaw, StandsFor, TookWhole, [], ap, append-nil, append_assoc, arith, closed, given_after, in_pieces, joined, judged, length, lines_of, peaks_of, refl, refusal_in, rules_of, rulings_first, stretch, sym, take, with_sink, ℕ, ◌++◌, ◌+◌, ◌∙◌, ◌≡◌, ◌≤◌}
+use Rattle.cj_stream.proofs.Common.{Delivers, End, Ends, EngineState, Err, Fed, Feeds, IsFinished, List, None, Notes, Ok, Report, Rules, SinkContract, StandsFor, TookWhole, [], ap, append-nil, append_assoc, arith, closed, given_after, in_pieces, joined, judged, length, lines_of, peaks_of, refl, refusal_in, rules_of, rulings_first, stretch, sym, take, with_sink, ℕ, ◌++◌, ◌+◌, ◌∙◌, ◌≡◌, ◌≤◌}
 use Rattle.cj_stream.specs.declared.pieces.PiecesOutcome.{PiecesOutcome}
-use Rattle.cj_stream.proofs.CutLemmas.{TookWhole-left, EndsAt-told, EndsAt-concludes}
+use Rattle.cj_stream.proofs.CutLemmas.{TookWhole-left, EndsAt-said, EndsAt-concludes}
 use Rattle.cj_stream.proofs.EngineLemmas.{Going-reads}
 use Rattle.cj_stream.proofs.JoinedLemmas.{joined-all}
 use Rattle.cj_stream.proofs.FirstLemmas.{first-either, first-same}
 use Rattle.cj_stream.proofs.NoteLemmas.{Notes-none}
-use Rattle.cj_stream.proofs.RunLemmas.{Delivers-join, Ends-finished, Ends-fed, told-not_complete}
+use Rattle.cj_stream.proofs.RunLemmas.{Delivers-join, Ends-finished, Ends-fed, said-not_complete}
 use Rattle.cj_stream.proofs.TookLemmas.{More-none, More-over, More-then, over-kept, over-reported}
 
 -- after the first lines of a stream, so many, which are those of p
-module _ {S N : Type 0} (law : SinkLaw S) (notes : N → Report → N → Type 0) (rules : Rules) (p : List ℕ) (first : ℕ)
+module _ {S N : Type 0} (law : SinkContract S) (notes : N → Report → N → Type 0) (rules : Rules) (p : List ℕ)
+    (first : ℕ)
     (pieces : List (List ℕ)) where
   -- so many of the pieces were given, and none of them ended it
   pub record IsGiven (k : ℕ) (e : EngineState) (s t : S) (n m : N) : Type 0 where
@@ -96,7 +97,7 @@ module _ {S N : Type 0} (law : SinkLaw S) (notes : N → Report → N → Type 0
           let q = p ++ joined (take k pieces) in
           let st = given.stands.going given.going in
           let after = p ++ joined (take (k + 1) pieces) in
-          let told = let z = feeds.told q given.stands given.going in rw (text, given.under) at z in
+          let said = let z = feeds.said q given.stands given.going in rw (text, given.under) at z in
           let stands = let z = feeds.stands q given.stands in rw (given.going, text) at z in
           record {
             fed = record {
@@ -104,7 +105,7 @@ module _ {S N : Type 0} (law : SinkLaw S) (notes : N → Report → N → Type 0
               ended = feeds.ended;
               few = few;
               good = good;
-              at = EndsAt-told rules p pieces k (lines_of f) x told;
+              at = EndsAt-said rules p pieces k (lines_of f) x said;
               used = taken ∙ st.2;
               counts = let z = stands.counts in rw (feeds.rules, given.under) at z;
               memory = λ h.
@@ -114,9 +115,9 @@ module _ {S N : Type 0} (law : SinkLaw S) (notes : N → Report → N → Type 0
               held = stands.held;
               bounded = let z = stands.bounded in rw (feeds.rules, given.under) at z;
               least = let z = feeds.least q given.stands given.going in rw (text, given.under) at z;
-              exact = λ h. absurd (told-not_complete rules after (lines_of f) x told h);
+              exact = λ h. absurd (said-not_complete rules after (lines_of f) x said h);
             };
-            ends = Ends-fed rules after (lines_of f) (joined (take (k + 1) pieces) ≡ joined pieces) x told;
+            ends = Ends-fed rules after (lines_of f) (joined (take (k + 1) pieces) ≡ joined pieces) x said;
             taken =
                 let z = feeds.sink q given.stands given.going in
                 TookWhole-left law e rules p first pieces k (lines_of f) s t u x given.under st.0 given.took

@@ -1,5 +1,5 @@
--- What the headline says, by what a run tells, and by what pieces tell.
-use Rattle.cj_stream.proofs.Common.{Account, Appends, BeginsWell, Channel, Complete, Copies, End, Ends, Fate, HasPeaks, HasRisen, Headline, IsBounded, IsExact, IsUnhindered, IsUnread, Keeps, Kept, LacksMemory, Line, List, Memory, None, NotesPieces, NotesRun, Option, Outputs, Peaks, ReadFault, ReadLimit, Reason, Refused, RefusedMemory, Report, Rules, Run, SinkLaw, Some, Took, WriteFault, [], ap, append-nil, arith, begun, closed, ended_line, ending, in_pieces, inl, inr, joined, judged, judged_lines, judged_list, last_line, lines, map, output, outputs, refl, refusal_in, reported, slice_get, stream_of, subst, sym, tree_of, verdict, ℕ, ◌++◌, ◌∙◌, ◌∷◌, ◌≡◌, ◌⊎◌}
+-- What the headline says, by what a run says, and by what pieces say.
+use Rattle.cj_stream.proofs.Common.{Account, Appends, BeginsWell, Channel, Complete, Copies, End, Ends, Fate, HasPeaks, HasRisen, Headline, IsBounded, IsExact, IsUnhindered, IsUnread, Keeps, Kept, LacksMemory, Line, List, Memory, None, NotesPieces, NotesRun, Option, Outputs, Peaks, ReadFault, ReadLimit, Reason, Refused, RefusedMemory, Report, Rules, Run, SinkContract, Some, Took, WriteFault, [], ap, append-nil, arith, begun, closed, ended_line, ending, in_pieces, inl, inr, joined, judged, judged_lines, judged_list, last_line, lines, map, output, outputs, refl, refusal_in, reported, slice_get, stream_of, subst, sym, tree_of, verdict, ℕ, ◌++◌, ◌∙◌, ◌∷◌, ◌≡◌, ◌⊎◌}
 use Rattle.cj_stream.specs.Run.{fate_of, HeadlineOfRun, LacksRoom, Runs, Writes}
 use Rattle.cj_stream.specs.Meaning.Judged.{output_in, reported_in, ending_in}
 use Rattle.cj_stream.proofs.AgreeLemmas.{ending-in, output-in, reported-in}
@@ -83,7 +83,7 @@ Keeps-same (Some xs) = refl
 
 module _ {N : Type 0} (notes : N → Report → N → Type 0) (rules : Rules) (text given : List ℕ) (e : End) (peaks : Peaks)
     (old new : Outputs N) where
-  pub Headline-told : (IsUnhindered e → Appends old.bytes new.bytes (output rules text))
+  pub Headline-said : (IsUnhindered e → Appends old.bytes new.bytes (output rules text))
       → (IsUnhindered e → Took notes old.reports (reported rules text) new.reports)
       → (IsUnhindered e → e ≡ ending rules text)
       → (e ≡ WriteFault → HasRisen old.failures new.failures)
@@ -91,7 +91,7 @@ module _ {N : Type 0} (notes : N → Report → N → Type 0) (rules : Rules) (t
       → IsBounded rules.limits given peaks
       → (e ≡ Complete → IsExact rules.limits text peaks)
       → Headline notes (fate_of rules text given e peaks) old new
-  Headline-told writes gives ends cause memory held exact = record {
+  Headline-said writes gives ends cause memory held exact = record {
     js = judged_lines rules text;
     judged = list-are rules (lines text);
     writes = λ u. subst (λ bs. Appends old.bytes new.bytes bs) (output-in rules text) (writes u);
@@ -106,16 +106,16 @@ module _ {N : Type 0} (notes : N → Report → N → Type 0) (rules : Rules) (t
 module _ {N : Type 0} (notes : N → Report → N → Type 0) (a b : N) (rules : Rules) (r : List ℕ) (at_end : Type 0) (n : ℕ)
     (peaks : Peaks) (bounded : IsBounded rules.limits r peaks) where
   -- a run whose end is that of each text that begins so
-  told : (e : End) (old new : Channel) (rest : List ℕ) → (e ≡ ending rules (r ++ rest))
+  said : (e : End) (old new : Channel) (rest : List ℕ) → (e ≡ ending rules (r ++ rest))
       → Appends old.bytes new.bytes (output rules (r ++ rest)) → Took notes a (reported rules (r ++ rest)) b
       → (e ≡ WriteFault → HasRisen old.failures new.failures) → (e ≡ Memory → ⊥)
       → (e ≡ Complete → IsExact rules.limits (r ++ rest) peaks)
       → Headline notes (fate_of rules (r ++ rest) r e peaks) (outputs old a) (outputs new b)
-  told e old new rest ends writes gives cause granted exact =
-      Headline-told notes rules (r ++ rest) r e peaks (outputs old a) (outputs new b) (λ u. writes) (λ u. gives)
+  said e old new rest ends writes gives cause granted exact =
+      Headline-said notes rules (r ++ rest) r e peaks (outputs old a) (outputs new b) (λ u. writes) (λ u. gives)
       (λ u. ends) cause (λ m. absurd (granted m)) bounded exact
 
-  -- what a run over a writer tells is the headline, by its end
+  -- what a run over a writer says is the headline, by its end
   ended : (e : End) (old new : Channel) → Ends rules r n at_end e → (e ≡ Complete → IsExact rules.limits r peaks)
       → Writes (stream_of rules r) e old.bytes new.bytes → NotesRun notes (stream_of rules r) e a b
       → (e ≡ WriteFault → HasRisen old.failures new.failures)
@@ -125,7 +125,7 @@ module _ {N : Type 0} (notes : N → Report → N → Type 0) (a b : N) (rules :
   ended Complete old new ends exact w noted c rest lacks all u =
       let none = all ends.2 in
       let nothing : r ++ rest ≡ r = rw none (append-nil r) in
-      told Complete old new rest (rw nothing (sym ends.0)) (rw nothing w) (rw nothing noted) c complete-not_memory
+      said Complete old new rest (rw nothing (sym ends.0)) (rw nothing w) (rw nothing noted) c complete-not_memory
       (λ h. rw nothing (exact h))
   ended (Refused number place reason) old new ends exact w noted c rest lacks all u = go ends.2
     where
@@ -135,20 +135,20 @@ module _ {N : Type 0} (notes : N → Report → N → Type 0) (a b : N) (rules :
       go (inl end) =
           let none = all end in
           let nothing : r ++ rest ≡ r = rw none (append-nil r) in
-          told (Refused number place reason) old new rest (rw nothing (sym ends.0)) (rw nothing w) (rw nothing noted) c
+          said (Refused number place reason) old new rest (rw nothing (sym ends.0)) (rw nothing w) (rw nothing noted) c
           (refusal-not_memory number place reason)
           (λ h. absurd (refusal-not_complete number place reason h))
       go (inr refused) =
           let more = refused-more rules r rest (Refused number place reason) refused in
-          told (Refused number place reason) old new rest (sym more.0) (rw more.1 w) (rw more.1 noted) c
+          said (Refused number place reason) old new rest (sym more.0) (rw more.1 w) (rw more.1 noted) c
           (refusal-not_memory number place reason)
           (λ h. absurd (refusal-not_complete number place reason h))
   ended WriteFault old new ends exact w noted c rest lacks all u =
-      Headline-told notes rules (r ++ rest) r WriteFault peaks (outputs old a) (outputs new b) (λ h. absurd h)
+      Headline-said notes rules (r ++ rest) r WriteFault peaks (outputs old a) (outputs new b) (λ h. absurd h)
       (λ h. absurd h) (λ h. absurd h) c (λ m. absurd (fault-not_memory m)) bounded
       (λ h. absurd (fault-not_complete h))
   ended Memory old new ends exact w noted c rest lacks all u =
-      Headline-told notes rules (r ++ rest) r Memory peaks (outputs old a) (outputs new b) (λ h. absurd h)
+      Headline-said notes rules (r ++ rest) r Memory peaks (outputs old a) (outputs new b) (λ h. absurd h)
       (λ h. absurd h) (λ h. absurd h) c lacks bounded (λ h. absurd (memory-not_complete h))
   ended other old new ends exact w noted c rest lacks all u = absurd u
 
@@ -160,19 +160,19 @@ is_memory WriteFault = inr fault-not_memory
 is_memory Memory = inl refl
 is_memory other = inr (λ e. cc)
 
--- where memory was refused, no line was dealt with, and the sink is as before
-pub undealt : (run : Run) (at_end : Type 0) → Account run at_end → LacksRoom run (Unit {0}) → run.outcome.lines ≡ 0
-undealt run at_end account (inl start) =
+-- where memory was refused, no line was handled, and the sink is as before
+pub unhandled : (run : Run) (at_end : Type 0) → Account run at_end → LacksRoom run (Unit {0}) → run.outcome.lines ≡ 0
+unhandled run at_end account (inl start) =
     let few = rw start.1 at account.counts.few in omega (arith, few)
-undealt run at_end account (inr memory) = memory.none
+unhandled run at_end account (inr memory) = memory.none
 
-pub unput : {S : Type 0} (law : SinkLaw S) (run : Run) (at_end : Type 0) (s t : S) → Runs law run at_end s t
+pub unput : {S : Type 0} (law : SinkContract S) (run : Run) (at_end : Type 0) (s t : S) → Runs law run at_end s t
     → run.outcome.ended ≡ Memory → LacksRoom run (Unit {0}) → t ≡ s
 unput law run at_end s t runs is lacks =
     memory-sink law run.rules run.read run.outcome.lines s t run.outcome.ended is
-    (undealt run at_end runs.account lacks) runs.sink
+    (unhandled run at_end runs.account lacks) runs.sink
 
--- what a run over a writer tells is the headline
+-- what a run over a writer says is the headline
 pub Headline-run : {N : Type 0} (notes : N → Report → N → Type 0) (run : Run) (at_end : Type 0)
     (old new : Channel) (a b : N) → Account run at_end
     → Writes (stream_of run.rules run.read) run.outcome.ended old.bytes new.bytes
@@ -214,7 +214,7 @@ Headline-run notes run at_end old new a b account writes noted cause lacks kept 
     by (inl is) = room is (lacks is)
     by (inr other) = inr (of-texts (λ rest m. absurd (other m)))
 
--- ---- and the headline tells that of the stream
+-- ---- and the headline says that of the stream
 
 module _ {N : Type 0} (notes : N → Report → N → Type 0) (fate : Fate End) (old new : Outputs N)
     (h : Headline notes fate old new) where

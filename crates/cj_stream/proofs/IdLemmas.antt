@@ -13,7 +13,7 @@ use Rattle.std.proofs.lemmas.List.Folds.{list_any_at, list_any_none, list_any-ap
 use Rattle.std.proofs.lemmas.List.Sorted.{IsPermutation-append, IsPermutation-map, IsPermutation-refl, IsPermutation-trans, All-permutation, length_permutation, searchable_from_sorted, IsNonDecreasingBy-from_all_adjacent}
 use Rattle.std.proofs.lemmas.List.Sums.{sum_by-cons, sum_by-append, sum_by-take-le}
 use Rattle.cj_spans.specs.Tail.{tail_of}
-use Rattle.cj_stream.specs.Ids.{may_cut, IsCut, HasAllOf}
+use Rattle.cj_stream.specs.Ids.{may_cut, IsSlice, HasAllOf}
 
 -- keys have one order
 pub keys_total : IsTotalOrder compare_keys
@@ -198,16 +198,17 @@ pieces_more bytes id (n ∷ ns) h =
 
 module _ (bytes id : List ℕ) (utf8 : IsUtf8 id) where
   -- entries of the ids before tell the same ids
-  same_keys : (entries : List Entry) → All (IsCut bytes) entries → keys_at (bytes ++ id) entries ≡ keys_at bytes entries
+  same_keys : (entries : List Entry) → All (IsSlice bytes) entries
+      → keys_at (bytes ++ id) entries ≡ keys_at bytes entries
   same_keys [] within = refl
   same_keys (e ∷ entries) within =
-      let here : IsCut bytes e = within 0 e (omega arith) in
+      let here : IsSlice bytes e = within 0 e (omega arith) in
       let rest = same_keys entries (λ k d h. within (suc k) d (omega arith)) in
       let same : key_at (bytes ++ id) e ≡ key_at bytes e =
       ap (λ s. record { number = e.number; text = Some (chars s) }) (kept e here) in
       ap (λ k. k ∷ keys_at (bytes ++ id) entries) same ∙ ap (λ ks. key_at bytes e ∷ ks) rest
     where
-      kept : (e : Entry) → IsCut bytes e → piece (bytes ++ id) e.start e.end ≡ piece bytes e.start e.end
+      kept : (e : Entry) → IsSlice bytes e → piece (bytes ++ id) e.start e.end ≡ piece bytes e.start e.end
       kept e cut =
           let low : e.start ≤ length bytes = cut.1.0 in
           let short : e.end - e.start ≤ length (drop e.start bytes) =
@@ -219,7 +220,7 @@ module _ (bytes id : List ℕ) (utf8 : IsUtf8 id) where
           ∙ sym (piece_is bytes e.start e.end cut.0 cut.1 cut.2)
 
   -- the new id's entry is cut out of it
-  new_cut : (e : Entry) → e.start ≡ length bytes → e.end ≡ length (bytes ++ id) → IsCut (bytes ++ id) e
+  new_cut : (e : Entry) → e.start ≡ length bytes → e.end ≡ length (bytes ++ id) → IsSlice (bytes ++ id) e
   new_cut e start end = (
     omega (arith, start, end, length-append bytes id),
     subst (IsCharBoundary (bytes ++ id)) (sym start) (IsCharBoundary-at_seam (bytes ++ id) bytes id refl utf8),
@@ -231,14 +232,14 @@ module _ (bytes id : List ℕ) (utf8 : IsUtf8 id) where
       → key_at (bytes ++ id) e ≡ key_of (Some (chars id))
   new_key e n start end =
       let cut = new_cut e start end in
-      let told : piece (bytes ++ id) e.start e.end ≡ id =
+      let said : piece (bytes ++ id) e.start e.end ≡ id =
       piece_is (bytes ++ id) e.start e.end cut.0 cut.1 cut.2
       ∙ ap (take (e.end - e.start)) (drop_at bytes id e.start (sym start))
       ∙ take_all (e.end - e.start) id (omega (arith, start, end, length-append bytes id)) in
       let numbered : key_at (bytes ++ id) e
       ≡ record { number = tail_of (Some (chars id)); text = Some (chars (piece (bytes ++ id) e.start e.end)) } =
       ap (λ m. record { number = m; text = Some (chars (piece (bytes ++ id) e.start e.end)) }) n in
-      numbered ∙ ap (λ s. record { number = tail_of (Some (chars id)); text = Some (chars s) }) told
+      numbered ∙ ap (λ s. record { number = tail_of (Some (chars id)); text = Some (chars s) }) said
 
   -- the entries of one id more, sorted from a place on that joins the runs that were taken off
   pub indexed_more : (lengths : List ℕ) (entries sorted : List Entry) (runs left : List ℕ) (e : Entry) (count start : ℕ)
@@ -288,13 +289,13 @@ module _ (bytes id : List ℕ) (utf8 : IsUtf8 id) where
       (IsPermutation-append (keys_of ids) keys (key ∷ []) (key ∷ []) old.each (IsPermutation-refl (key ∷ []))) in
       record {
         held = sum_by-append (λ x. x) lengths (length id ∷ []) ∙ omega (arith, old.held, length-append bytes id);
-        within = All-permutation (IsCut more) (entries ++ e ∷ []) sorted moved
-            (All-append (IsCut more) entries (e ∷ []) (λ k d h. let cut = old.within k d h in (
+        within = All-permutation (IsSlice more) (entries ++ e ∷ []) sorted moved
+            (All-append (IsSlice more) entries (e ∷ []) (λ k d h. let cut = old.within k d h in (
               cut.0,
               seam_kept bytes id (get_or entries k d).start utf8 cut.1,
               seam_kept bytes id (get_or entries k d).end utf8 cut.2,
             ))
-            (All-cons (IsCut more) e [] (new_cut e begins ends) (All-nil (IsCut more))));
+            (All-cons (IsSlice more) e [] (new_cut e begins ends) (All-nil (IsSlice more))));
         each = IsPermutation-trans (keys_of (pieces more (lengths ++ length id ∷ [])))
             (keys_at more (entries ++ e ∷ [])) (keys_at more sorted)
             (subst (IsPermutation (keys_of (pieces more (lengths ++ length id ∷ [])))) (sym ended) each)
@@ -315,7 +316,7 @@ indexed_whole bytes lengths entries sorted runs count old moved up all =
     let long : length keys ≡ length sorted = length-map sorted (key_at bytes) in
     record {
       held = old.held;
-      within = All-permutation (IsCut bytes) entries sorted moved old.within;
+      within = All-permutation (IsSlice bytes) entries sorted moved old.within;
       each = IsPermutation-trans (keys_of (pieces bytes lengths)) (keys_at bytes entries) keys old.each
           (IsPermutation-map (key_at bytes) entries sorted moved);
       ordered = (

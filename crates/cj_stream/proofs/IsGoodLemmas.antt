@@ -76,6 +76,6 @@ module _ (rules : Rules) where
         omega (arith, ap length same) in
         let stop = stops (good rules s) next rest
         (no-more (good rules s) (good_from rules (good rules s) (next ∷ rest)) short) in
-        let told : refusal_in rules (lines s) ≡ Some stop.0 = ap (refusal_in rules) h
+        let said : refusal_in rules (lines s) ≡ Some stop.0 = ap (refusal_in rules) h
         ∙ (refusal-append rules [] (good rules s) (next ∷ rest) none ∙ stop.2) in
-        stop.1 ∙ ap (λ z. Some z) (sym (ending-refused rules (lines s) stop.0 told))
+        stop.1 ∙ ap (λ z. Some z) (sym (ending-refused rules (lines s) stop.0 said))

@@ -1,7 +1,7 @@
 -- What was held at most of a complete stream is what its judged lines say.
 use Rattle.cj_stream.proofs.Common.{Bool, Complete, HasPeaks, Invalid, IsExact, Judgement, Kept, Line, List, None, Option, Peaks, Reason, Refused, Rules, Some, Tree, Verdict, [], ap, arith, broken, cond, drop, ending, exact_peaks, false, first_content, greatest, held_length, is_blank, is_blank_byte, is_readable, is_text, judged_at, judged_later, judged_lines, judged_list, judged_nest, judged_size, later_of, length, lines, list_all, map, max, nat_tests, not, read_tree, refl, refusal_of, spelled, spelled_tree, subst, sunk, sym, tree_nest, tree_size, true, verdict_at, ℕ, ◌&&◌, ◌+◌, ◌<◌, ◌∙◌, ◌∷◌, ◌≡◌}
 use Rattle.cj_spans.proofs.Judgements.{judgement}
-use Rattle.cj_stream.specs.Bound.{is_legible as are_readable}
+use Rattle.cj_stream.specs.Bound.{are_legible}
 use Rattle.cj_stream.specs.Meaning.Bound.{held_bytes, is_legible, nest_if, peaks_in, size_if}
 use Rattle.cj_stream.specs.Meaning.Judged.{JudgedLine, ending_in}
 use Rattle.cj_stream.proofs.AgreeLemmas.{ending-in}
@@ -93,7 +93,7 @@ module _ (rules : Rules) where
 
   record SamePeaks (s : List ℕ) (js : List JudgedLine) : Type 0 where
     peaks : exact_peaks rules.limits s ≡ peaks_in rules.limits js
-    readable : are_readable rules.limits s ≡ list_all is_legible (drop 1 js)
+    readable : are_legible rules.limits s ≡ list_all is_legible (drop 1 js)
 
   headed-peaks : (s : List ℕ) (h : Tree) (l : Line) (ls : List Line) → lines s ≡ l ∷ ls
       → SamePeaks s (judged_at rules 1 None l ∷ judged_later rules h 2 ls)

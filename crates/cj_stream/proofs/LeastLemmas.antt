@@ -1,5 +1,5 @@
--- What was held at most is no less than the lines that were dealt with need.
-use Rattle.cj_stream.proofs.Common.{End, EngineState, Err, Finishes, HeldAll, HeldUntil, IsBelow, LimitPair, Line, List, Ok, OnOk, Reading, Reads, Result, Rises, Scanned, Scanning, SinkLaw, Stays, [], ap, append-nil, append_assoc, arith, begun, begun_after, closed, contents, ended_line, exact_peaks, first_content, first_lines, first_of, flat_map, greatest, held_length, last_line, later_of, length, limits_of, lines, lines_of, map, max, nat_tests, peaks_of, raw, refl, sym, take_all, whole, with_sink, ℕ, ◌++◌, ◌+◌, ◌∙◌, ◌∷◌, ◌≡◌, ◌≤◌}
+-- What was held at most is no less than the lines that were handled need.
+use Rattle.cj_stream.proofs.Common.{End, EngineState, Err, Finishes, HeldAll, HeldUntil, IsBelow, LimitPair, Line, List, Ok, OnOk, Reading, Reads, Result, Rises, Scanned, Scanning, SinkContract, Stays, [], ap, append-nil, append_assoc, arith, begun, begun_after, closed, contents, ended_line, exact_peaks, first_content, first_lines, first_of, flat_map, greatest, held_length, last_line, later_of, length, limits_of, lines, lines_of, map, max, nat_tests, peaks_of, raw, refl, sym, take_all, whole, with_sink, ℕ, ◌++◌, ◌+◌, ◌∙◌, ◌∷◌, ◌≡◌, ◌≤◌}
 use Rattle.cj_stream.proofs.FirstLemmas.{lines-front}
 use Rattle.cj_stream.proofs.FinishLemmas.{Finishes-concludes, contents-closed, contents-last, peaks-finished}
 use Rattle.cj_stream.proofs.GoodLemmas.{good-complete}
@@ -20,7 +20,7 @@ held-rises limits cs s t r k = record {
   opened = omega (arith, k.opened, r.opened);
 }
 
--- nothing more was dealt with
+-- nothing more was handled
 pub held-until : (limits : LimitPair) (p done left : List ℕ) (n : ℕ) (s t : Scanning) → n ≡ length (closed (p ++ done))
     → Scanned limits (closed (p ++ done)) s → Rises s t
     → HeldUntil limits p (done ++ left) n t
@@ -37,7 +37,7 @@ pub held-now : (limits : LimitPair) (p more : List ℕ) (n : ℕ) (s t : Scannin
 held-now limits p more n s t count k r =
     held-until limits p [] more n s t (rw (append-nil p) count) (rw (append-nil p) k) r
 
--- ---- the lines that were dealt with, seen as a stream
+-- ---- the lines that were handled, seen as a stream
 
 contents-ended : (cs : List (List ℕ)) → map (λ l. l.content) (map ended_line cs) ≡ cs
 contents-ended [] = refl
@@ -138,7 +138,7 @@ begun-held f q h =
 first-all : (n : ℕ) (p : List ℕ) → n ≡ length (lines p) → first_lines n p ≡ p
 first-all n p e = ap (λ ls. flat_map raw ls) (take_all n (lines p) (omega (arith, e))) ∙ (lines-are_lines p).joined
 
-module _ {S : Type 0} (law : SinkLaw S) where
+module _ {S : Type 0} (law : SinkContract S) where
   -- an error leaves the count of lines
   finished-err : (f g : Reading) (s t : S) (p : List ℕ) (e : End) → Finishes law p (with_sink f s) (Err e)
       (with_sink g t) → g.lines ≡ f.lines
@@ -151,8 +151,8 @@ module _ {S : Type 0} (law : SinkLaw S) where
       → Scanned (limits_of old) (closed p) old.scanning → OnOk r (Scanned (limits_of old) (contents p) new.scanning)
       → IsBelow (exact_peaks (limits_of old) (first_lines (lines_of new) p)) (peaks_of new)
   least-finished old new s t p (Ok x) reads d stays rises k now =
-      let told = Finishes-concludes law old.reading new.reading s t p reads (Ok x) d in
-      let all : lines_of new ≡ length (lines p) = told.1 ∙ ap length (good-complete old.reading.rules p told.0) in
+      let said = Finishes-concludes law old.reading new.reading s t p reads (Ok x) d in
+      let all : lines_of new ≡ length (lines p) = said.1 ∙ ap length (good-complete old.reading.rules p said.0) in
       rw (first-all (lines_of new) p all) (peaks-finished law old.reading new.reading s t p reads (Ok x) new.scanning d
       refl now).least
   least-finished old new s t p (Err e) reads d stays rises k now =

@@ -13,7 +13,7 @@ pub mod CountReportsLemmas
 pub mod CountRowLemmas
 pub mod Counted
 pub mod CutLemmas
-pub mod DealtLemmas
+pub mod HandledLemmas
 pub mod DeviceLemmas
 pub mod EngineLemmas
 pub mod FeedingLemmas

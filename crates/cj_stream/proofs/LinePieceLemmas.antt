@@ -1,9 +1,9 @@
 -- Pieces for a reader of lines, added up: what a sink took of them, and a sink of reports.
-use Rattle.cj_stream.proofs.Common.{Complete, Counts, Delivers, End, Ends, IsUnread, Item, LeavesNext, LineEnd, List, Memory, None, Notes, Option, Peaks, PutsPieces, Refused, Report, Rules, Ruling, SinkLaw, Some, Took, TookFront, TookOf, TookWhole, WriteFault, [], ap, append_assoc, arith, begun, closed, drop, ended_line, ending, given_after, good, in_pieces, inl, joined, judged, kept, kept_of, last_line, length, line_end, lines, map, prefixes, refl, refusal_in, rulings, rulings_first, rulings_good, stretch, subst, sym, take, take-append-le, whole, writes_law, ℕ, ◌++◌, ◌+◌, ◌∙◌, ◌≡◌, ◌≤◌, ◌⊎◌}
+use Rattle.cj_stream.proofs.Common.{Complete, Counts, Delivers, End, Ends, IsUnread, Item, LeavesNext, LineEnd, List, Memory, None, Notes, Option, Peaks, PutsPieces, Refused, Report, Rules, Ruling, SinkContract, Some, Took, TookFront, TookOf, TookWhole, WriteFault, [], ap, append_assoc, arith, begun, closed, drop, ended_line, ending, given_after, good, in_pieces, inl, joined, judged, kept, kept_of, last_line, length, line_end, lines, map, prefixes, refl, refusal_in, rulings, rulings_first, rulings_good, stretch, subst, sym, take, take-append-le, whole, writes_law, ℕ, ◌++◌, ◌+◌, ◌∙◌, ◌≡◌, ◌≤◌, ◌⊎◌}
 use Rattle.cj_stream.specs.declared.line_pieces.LinesOutcome.{LinesOutcome}
 use Rattle.cj_stream.specs.declared.ending.LineEnd.TheVariants.{Complete as LineComplete, Refused as LineRefused, WriteFault as LineWriteFault}
 use Rattle.cj_stream.specs.LinePieces.{kept_after, PutsLines, NotesLines, CopiesLines, later_pieces}
-use Rattle.cj_stream.proofs.CutLemmas.{given-told}
+use Rattle.cj_stream.proofs.CutLemmas.{given-said}
 use Rattle.cj_stream.proofs.FirstLemmas.{first-either, first-same, first-split, first-whole}
 use Rattle.cj_stream.proofs.IsLinesLemmas.{lines-whole}
 use Rattle.cj_stream.proofs.JoinedLemmas.{joined-next}
@@ -64,12 +64,12 @@ module _ (rules : Rules) (p : List ℕ) (n : ℕ) (first : n ≡ length (closed 
       → NotesLines notes (later_pieces rules p pieces n) (record { taken = k; peaks = peaks; ended = e }) a b
   lines-noted notes a b pieces k m none h LineComplete peaks ends = record {
     noted = λ _. all-taken notes over-reported (joined (take (k + 1) pieces)) (joined pieces) m a b ends.1
-        (given-told rules p pieces k Complete (inl ends.2) ends.0).1 h;
+        (given-said rules p pieces k Complete (inl ends.2) ends.0).1 h;
     fault = λ z. absurd (cc z);
   }
   lines-noted notes a b pieces k m none h (LineRefused line place reason) peaks ends = record {
     noted = λ _. all-taken notes over-reported (joined (take (k + 1) pieces)) (joined pieces) m a b ends.1
-        (given-told rules p pieces k (Refused line place reason) ends.2 ends.0).1 h;
+        (given-said rules p pieces k (Refused line place reason) ends.2 ends.0).1 h;
     fault = λ z. absurd (cc z);
   }
   lines-noted notes a b pieces k m none h LineWriteFault peaks ends =
@@ -80,7 +80,7 @@ module _ (rules : Rules) (p : List ℕ) (n : ℕ) (first : n ≡ length (closed 
             (first-split rules m text none) b b refl a h;
       }
 
-  module _ {S : Type 0} (law : SinkLaw S) (s t : S) where
+  module _ {S : Type 0} (law : SinkContract S) (s t : S) where
     -- what a sink took of pieces, and at the end, by the lines
     pub Delivers-whole : (pieces : List (List ℕ)) (k m : ℕ) (e : End)
         → TookWhole law (given_after p n (in_pieces rules pieces k) m) s t e
@@ -99,8 +99,8 @@ module _ (rules : Rules) (p : List ℕ) (n : ℕ) (first : n ≡ length (closed 
           → ending rules (p ++ given) ≡ e → m ≡ length (good rules (p ++ given))
           → (d : Delivers law (stretch rules (p ++ given) n m) s t (Some e)) → t ≡ d.middle
           → (ending rules (p ++ joined pieces) ≡ e) × Took law.takes s (kept_after rules n (p ++ joined pieces)) t
-      all-put e told ends all d still =
-          let same = given-told rules p pieces k e told ends in
+      all-put e said ends all d still =
+          let same = given-said rules p pieces k e said ends in
           (same.0, rw still (all-taken law.takes over-kept given (joined pieces) m s d.middle all same.1 d.took))
 
       -- after a fault, a prefix of what is kept of the pieces that were given was taken, with all of the whole lines of
@@ -151,14 +151,14 @@ module _ (rules : Rules) (p : List ℕ) (n : ℕ) (first : n ≡ length (closed 
             record { ends = λ h. absurd (h refl); took = λ h. absurd (h refl); fault = λ _. fault-put w }
 
 -- the same of a whole stream in pieces
-module _ {S : Type 0} (law : SinkLaw S) (rules : Rules) (pieces : List (List ℕ)) (n : ℕ) (s t : S)
+module _ {S : Type 0} (law : SinkContract S) (rules : Rules) (pieces : List (List ℕ)) (n : ℕ) (s t : S)
     (count features refusals : ℕ) (counts : Counts rules (joined (take (n + 1) pieces)) count features refusals) where
   all-pieces : (e : End) → (joined (take (n + 1) pieces) ≡ joined pieces)
       ⊎ (refusal_in rules (judged rules.limits (joined (take (n + 1) pieces))) ≡ Some e)
       → ending rules (joined (take (n + 1) pieces)) ≡ e → count ≡ length (good rules (joined (take (n + 1) pieces)))
       → (d : Delivers law (stretch rules (joined (take (n + 1) pieces)) 0 count) s t (Some e)) → t ≡ d.middle
       → (ending rules (joined pieces) ≡ e) × Took law.takes s (kept rules (joined pieces)) t
-  all-pieces e told ends all d still = all-put rules [] 0 refl law s t pieces n count e told ends all d still
+  all-pieces e said ends all d still = all-put rules [] 0 refl law s t pieces n count e said ends all d still
 
   pub PutsPieces-ends : (e : End)
       → Ends rules (joined (take (n + 1) pieces)) count (joined (take (n + 1) pieces) ≡ joined pieces) e

@@ -1,14 +1,14 @@
 -- What a sink of reports has noted of a text, line by line and call by call.
-use Rattle.cj_stream.proofs.Common.{Account, Bool, Collects, Complete, Delivers, End, Ends, EngineState, Err, Faults, Item, JudgedAs, Line, List, Memory, NoLf, None, Notes, NotesPieces, NotesRun, Ok, OnErr, OnOk, ReadFault, ReadLimit, Reading, Reads, Refused, Report, Result, Rules, Run, RunsNoting, Settles, SinkLaw, Some, StandsFor, Stores, Took, Verdict, WriteFault, [], ap, append-nil, append_assoc, arith, begun, closed, ended_line, false, good, in_pieces, joined, length, length-append, lines, lines_of, map, nat_tests, outcome_of, refl, refusal_in, reported, reported_first, reported_from, reported_of, reports_of, rules_of, ruling_after, rulings_first, stream_of, stretch, subst, suc, sym, take, told_verdict, true, up_to, verdict, with_sink, zero, ℕ, ◌++◌, ◌+◌, ◌<◌, ◌∙◌, ◌∷◌, ◌≡◌, ◌≤◌}
-use Rattle.cj_stream.proofs.CutLemmas.{given-told}
+use Rattle.cj_stream.proofs.Common.{Account, Bool, Collects, Complete, Delivers, End, Ends, EngineState, Err, Faults, Item, JudgedAs, Line, List, Memory, NoLf, None, Notes, NotesPieces, NotesRun, Ok, OnErr, OnOk, ReadFault, ReadLimit, Reading, Reads, Refused, Report, Result, Rules, Run, RunsNoting, Handles, SinkContract, Some, StandsFor, Stores, Took, Verdict, WriteFault, [], ap, append-nil, append_assoc, arith, begun, closed, ended_line, false, good, in_pieces, joined, length, length-append, lines, lines_of, map, nat_tests, outcome_of, refl, refusal_in, reported, reported_first, reported_from, reported_of, reports_of, rules_of, ruling_after, rulings_first, stream_of, stretch, subst, suc, sym, take, begun_verdict, true, up_to, verdict, with_sink, zero, ℕ, ◌++◌, ◌+◌, ◌<◌, ◌∙◌, ◌∷◌, ◌≡◌, ◌≤◌}
+use Rattle.cj_stream.proofs.CutLemmas.{given-said}
 use Rattle.cj_stream.proofs.EngineLemmas.{Counts-front}
 use Rattle.cj_stream.proofs.FinishLemmas.{take-closed, take-last, unended}
 use Rattle.cj_stream.proofs.FirstLemmas.{lines-front, first-split}
-use Rattle.cj_stream.proofs.OutputLemmas.{Runs-told}
+use Rattle.cj_stream.proofs.OutputLemmas.{Runs-said}
 use Rattle.cj_stream.proofs.RunLemmas.{Delivers-ended}
-use Rattle.cj_stream.proofs.ReadingLemmas.{length-map_lines, map_lines-append, next-verdict, told-verdict, Reads-stored}
+use Rattle.cj_stream.proofs.ReadingLemmas.{length-map_lines, map_lines-append, next-verdict, said-verdict, Reads-stored}
 use Rattle.cj_stream.proofs.LineLemmas.{closed-lf}
-use Rattle.cj_stream.proofs.StaysLemmas.{settled-err}
+use Rattle.cj_stream.proofs.StaysLemmas.{handled-err}
 use Rattle.cj_stream.proofs.TookLemmas.{More-all, More-line, More-none, More-then, front-took, over-reported}
 use Rattle.cj_stream.proofs.TookLemmas.{took-good, took-whole}
 use Rattle.cj_stream.specs.Run.{Runs}
@@ -47,30 +47,30 @@ module _ {N : Type 0} (notes : N → Report → N → Type 0) (rules : Rules) wh
       (good_first : refusal_in rules (take count (lines r)) ≡ None) (a : Notes notes (stretch rules r 0 count) n m)
     where
       -- what was noted, by the end of a run
-      pub NotesRun-told : (e : End) → Ends rules r count at_end e → (e ≡ Memory → count ≡ 0)
+      pub NotesRun-said : (e : End) → Ends rules r count at_end e → (e ≡ Memory → count ≡ 0)
           → NotesRun notes (stream_of rules r) e n m
-      NotesRun-told ReadFault ends none = took-whole notes over-reported rules r count n m ends.0 ends.1 a
-      NotesRun-told ReadLimit ends none = took-whole notes over-reported rules r count n m ends.0 ends.1 a
-      NotesRun-told WriteFault ends none =
+      NotesRun-said ReadFault ends none = took-whole notes over-reported rules r count n m ends.0 ends.1 a
+      NotesRun-said ReadLimit ends none = took-whole notes over-reported rules r count n m ends.0 ends.1 a
+      NotesRun-said WriteFault ends none =
           front-took notes over-reported rules r 0 (λ others a b. b ≡ a) count _ (first-split rules count r good_first)
           m m refl n a
-      NotesRun-told Memory ends none =
+      NotesRun-said Memory ends none =
           subst (λ k. Took notes n (reported_first rules k r) m) (none refl) (More-all notes over-reported a)
-      NotesRun-told other ends none = took-good notes over-reported rules r count n m ends.1 a
+      NotesRun-said other ends none = took-good notes over-reported rules r count n m ends.1 a
 
   -- what was noted of pieces, by the end
-  pub NotesPieces-told : (pieces : List (List ℕ)) (k count : ℕ) (n m : N) (e : End)
+  pub NotesPieces-said : (pieces : List (List ℕ)) (k count : ℕ) (n m : N) (e : End)
       → Ends rules (joined (take (k + 1) pieces)) count (joined (take (k + 1) pieces) ≡ joined pieces) e
       → (e ≡ ReadFault → ⊥) → (e ≡ ReadLimit → ⊥)
       → NotesRun notes (stream_of rules (joined (take (k + 1) pieces))) e n m
       → NotesPieces notes (in_pieces rules pieces k) e n m
-  NotesPieces-told pieces k count n m Complete ends u v h = rw (← ends.2) h
-  NotesPieces-told pieces k count n m (Refused number place reason) ends u v h =
-      let same = given-told rules [] pieces k (Refused number place reason) ends.2 ends.0 in
+  NotesPieces-said pieces k count n m Complete ends u v h = rw (← ends.2) h
+  NotesPieces-said pieces k count n m (Refused number place reason) ends u v h =
+      let same = given-said rules [] pieces k (Refused number place reason) ends.2 ends.0 in
       subst (λ ls. Took notes n (reported_from rules [] ls) m) (sym same.1) h
-  NotesPieces-told pieces k count n m ReadFault ends u v h = absurd (u refl)
-  NotesPieces-told pieces k count n m ReadLimit ends u v h = absurd (v refl)
-  NotesPieces-told pieces k count n m other ends u v h = h
+  NotesPieces-said pieces k count n m ReadFault ends u v h = absurd (u refl)
+  NotesPieces-said pieces k count n m ReadLimit ends u v h = absurd (v refl)
+  NotesPieces-said pieces k count n m other ends u v h = h
 
 -- ---- one line
 
@@ -88,22 +88,22 @@ module _ {N : Type 0} (notes : N → Report → N → Type 0) where
 
   -- what is reported of the begun line, by its result
   one-noted : (f : Reading) (p : List ℕ) (lf : Bool) (n m : N) → Reads f p
-      → Took notes n (reports_of (f.lines + 1) (told_verdict f)) m
+      → Took notes n (reports_of (f.lines + 1) (begun_verdict f)) m
       → Took notes n (reported_of (ruling_after f.rules (map ended_line (closed p))
       (record { content = begun p; lf = lf }) ∷ [])) m
   one-noted f p lf n m reads noted =
-      let told : told_verdict f ≡ verdict f.rules (map ended_line (closed p)) (begun p) =
-      told-verdict f (begun p) reads.begun ∙ next-verdict f p reads (begun p) in
+      let said : begun_verdict f ≡ verdict f.rules (map ended_line (closed p)) (begun p) =
+      said-verdict f (begun p) reads.begun ∙ next-verdict f p reads (begun p) in
       let at : f.lines + 1 ≡ length (map ended_line (closed p)) + 1 =
       omega (arith, reads.lines, length-map_lines (closed p)) in
-      let now = rw (told, at) at noted in
+      let now = rw (said, at) at noted in
       rw (append-nil (reports_of (length (map ended_line (closed p)) + 1)
       (verdict f.rules (map ended_line (closed p)) (begun p)))) now
 
   -- a part and an LF
   pub Notes-line : (f g h : Reading) (p part more : List ℕ) (n m : N) → Reads f p → NoLf part → Stores f part g
       → h.lines ≡ g.lines + 1
-      → Took notes n (reports_of (g.lines + 1) (told_verdict g)) m
+      → Took notes n (reports_of (g.lines + 1) (begun_verdict g)) m
       → Notes notes (stretch f.rules (p ++ (part ++ 10 ∷ more)) f.lines h.lines) n m
   Notes-line f g h p part more n m reads free st one noted =
       let q = p ++ part in
@@ -122,45 +122,48 @@ module _ {N : Type 0} (notes : N → Report → N → Type 0) where
 
   -- a last line
   pub Notes-last : (f g : Reading) (p : List ℕ) (n m : N) → Reads f p → 0 < length (begun p) → g.lines ≡ f.lines + 1
-      → Took notes n (reports_of (f.lines + 1) (told_verdict f)) m → Notes notes (stretch f.rules p f.lines g.lines) n m
+      → Took notes n (reports_of (f.lines + 1) (begun_verdict f)) m
+      → Notes notes (stretch f.rules p f.lines g.lines) n m
   Notes-last f g p n m reads some one noted =
       More-line notes over-reported f.rules p f.lines g.lines (map ended_line (closed p)) (unended (begun p)) n m
       (take-closed p f.lines reads.lines) (take-last p g.lines (omega (arith, one, reads.lines)) some)
       (one-noted f p false n m reads noted)
 
   -- what came of a last line
-  pub Notes-finished : {S : Type 0} (law : SinkLaw S) (on : Bool) (v : Verdict) (i : Item) (f g : Reading) (s t : S)
+  pub Notes-finished : {S : Type 0} (law : SinkContract S) (on : Bool) (v : Verdict) (i : Item) (f g : Reading)
+      (s t : S)
       (p : List ℕ) (n m : N) (r : Result (Unit {0}) End)
-      → Reads f p → 0 < length (begun p) → Settles law (JudgedAs (f.lines + 1) on v i) (with_sink f s) r (with_sink g t)
+      → Reads f p → 0 < length (begun p) → Handles law (JudgedAs (f.lines + 1) on v i) (with_sink f s) r (with_sink g t)
       → OnOk r (g.lines ≡ f.lines + 1)
-      → OnOk r (Took notes n (reports_of (f.lines + 1) (told_verdict f)) m) → OnErr r (m ≡ n)
+      → OnOk r (Took notes n (reports_of (f.lines + 1) (begun_verdict f)) m) → OnErr r (m ≡ n)
       → Notes notes (stretch f.rules p f.lines g.lines) n m
   Notes-finished law on v i f g s t p n m (Ok x) reads some d one noted silent = Notes-last f g p n m reads some one
       noted
   Notes-finished law on v i f g s t p n m (Err e) reads some d one noted silent =
-      Notes-none notes f.rules p f.lines g.lines n m (settled-err law on v i f g s t e d) silent
+      Notes-none notes f.rules p f.lines g.lines n m (handled-err law on v i f g s t e d) silent
 
 -- a run by what was noted of its lines
-pub Noting-told : {N : Type 0} (notes : N → Report → N → Type 0) (run : Run) (at_end : Type 0) (n m : N)
+pub Noting-said : {N : Type 0} (notes : N → Report → N → Type 0) (run : Run) (at_end : Type 0) (n m : N)
     → Account run at_end → (run.outcome.ended ≡ Memory → run.outcome.lines ≡ 0)
     → Notes notes (stretch run.rules run.read 0 run.outcome.lines) n m → RunsNoting notes run n m
-Noting-told notes run at_end n m account none a = record {
+Noting-said notes run at_end n m account none a = record {
   reports = a;
-  noted = NotesRun-told notes run.rules run.read at_end run.outcome.lines n m account.counts.counted.good a
+  noted = NotesRun-said notes run.rules run.read at_end run.outcome.lines n m account.counts.counted.good a
       run.outcome.ended account.ends none;
 }
 
 -- a run by what both sinks took of its lines
-pub Both-told : {S N : Type 0} (law : SinkLaw S) (notes : N → Report → N → Type 0) (run : Run) (at_end : Type 0)
+pub Both-said : {S N : Type 0} (law : SinkContract S) (notes : N → Report → N → Type 0) (run : Run) (at_end : Type 0)
     (s t : S) (n m : N) → Account run at_end → (run.outcome.ended ≡ Memory → run.outcome.lines ≡ 0)
     → Delivers law (stretch run.rules run.read 0 run.outcome.lines) s t (Some run.outcome.ended)
     → Notes notes (stretch run.rules run.read 0 run.outcome.lines) n m
     → Runs law run at_end s t × RunsNoting notes run n m
-Both-told law notes run at_end s t n m account none sink reports =
-    (Runs-told law run at_end s t account sink, Noting-told notes run at_end n m account none reports)
+Both-said law notes run at_end s t n m account none sink reports =
+    (Runs-said law run at_end s t account sink, Noting-said notes run at_end n m account none reports)
 
 -- a run that is left between two pieces, with an end that keeps the sink as it is
-pub Both-left : {S N : Type 0} (law : SinkLaw S) (notes : N → Report → N → Type 0) (e : EngineState) (rules : Rules)
+pub Both-left : {S N : Type 0} (law : SinkContract S) (notes : N → Report → N → Type 0) (e : EngineState)
+    (rules : Rules)
     (r : List ℕ) (at_end : Type 0) (s t : S) (n m : N) (end : End) → rules_of e ≡ rules → (end ≡ Complete → ⊥)
     → (end ≡ Memory → ⊥) → Ends (rules_of e) r (lines_of e) at_end end
     → ((m u : S) → u ≡ m → Faults law (up_to rules r (lines_of e)) m u (Some end)) → StandsFor e r
@@ -168,7 +171,7 @@ pub Both-left : {S N : Type 0} (law : SinkLaw S) (notes : N → Report → N →
     → Runs law (record { rules = rules; read = r; outcome = outcome_of e end }) at_end s t
     × RunsNoting notes (record { rules = rules; read = r; outcome = outcome_of e end }) n m
 Both-left law notes e rules r at_end s t n m end under unended granted ends still stands sink reports =
-    Both-told law notes (record { rules = rules; read = r; outcome = outcome_of e end }) at_end s t n m
+    Both-said law notes (record { rules = rules; read = r; outcome = outcome_of e end }) at_end s t n m
     (record {
       bounded = let k = stands.bounded in rw under at k;
       exact = λ x. absurd (unended x);
@@ -187,7 +190,7 @@ pub Noting-collected : (run : Run) (at_end : Type 0) → Account run at_end
     → (run.outcome.ended ≡ Memory → run.outcome.lines ≡ 0)
     → RunsNoting Collects run [] (reported_first run.rules run.outcome.lines run.read)
 Noting-collected run at_end account none =
-    Noting-told Collects run at_end [] (reported_first run.rules run.outcome.lines run.read) account none (record {
+    Noting-said Collects run at_end [] (reported_first run.rules run.outcome.lines run.read) account none (record {
       done = rulings_first run.rules run.outcome.lines run.read;
       grown = refl;
       took = Collects-all [] (reported_first run.rules run.outcome.lines run.read);

@@ -31,7 +31,7 @@ reported-short rules before (l ∷ ls) =
     one n LeftOut = omega arith
     one n Kept = omega arith
 
--- no more features are kept, and no more lines refused, than were dealt with
+-- no more features are kept, and no more lines refused, than were handled
 few-counted : (rules : Rules) (r : List ℕ) (n f k : ℕ) → Counts rules r n f k → (f ≤ n) × (k ≤ n)
 few-counted rules r n f k x =
     let ls = take n (lines r) in (
@@ -45,14 +45,14 @@ few-counted rules r n f k x =
       omega (arith, x.counted.refused, reported-short rules [] ls, length-take n (lines r)),
     )
 
--- the number of a refused line is that after the lines that were dealt with
+-- the number of a refused line is that after the lines that were handled
 capped-end : (rules : Rules) (r : List ℕ) (n m : ℕ) (at_end : Type 0) (e : End) → Ends rules r m at_end e → 1 ≤ n
     → n + m < 2 ^ 64 → capped_end (moved_end (n - 1) e) ≡ moved_end (n - 1) e
-capped-end rules r n m at_end (Refused number place reason) told some few =
-    let place_of = good-refused rules r number place reason told.0 in
-    let fits : capped (number + (n - 1)) ≡ number + (n - 1) = omega (arith, place_of, told.1, some, few) in
+capped-end rules r n m at_end (Refused number place reason) said some few =
+    let place_of = good-refused rules r number place reason said.0 in
+    let fits : capped (number + (n - 1)) ≡ number + (n - 1) = omega (arith, place_of, said.1, some, few) in
     ap (λ k. Refused k place reason) fits
-capped-end rules r n m at_end other told some few = refl
+capped-end rules r n m at_end other said some few = refl
 
 same-outcome : (l k r x y z : ℕ) (peaks : Peaks) (e f : End) → l ≡ x → k ≡ y → r ≡ z → e ≡ f
     → ◌≡◌ {A = Outcome} (record { lines = l; kept = k; refused = r; peaks = peaks; ended = e })
@@ -66,7 +66,7 @@ module _ (rules : Rules) (h a b : List ℕ) (cut : IsCut h a) (first second resu
         → first.lines + second.lines < 2 ^ 64
         → Account (run_over rules (headed h a) first) at_end → Account (run_over rules (headed h b) second) at_last
         → Account (run_over rules (headed h (a ++ b)) result) at_last
-    Account-then is told few x y =
+    Account-then is said few x y =
         let ends : Ends rules (headed h a) first.lines at_end Complete =
         subst (λ (e : End). Ends rules (headed h a) first.lines at_end e) is x.ends in
         let some : 1 ≤ first.lines = omega (arith, ends.1, ap length (front-good rules h a cut ends.0)) in
@@ -78,5 +78,5 @@ module _ (rules : Rules) (h a b : List ℕ) (cut : IsCut h a) (first second resu
         (omega (arith, few, of_first.0, of_second.0))
         (omega (arith, few, of_first.1, of_second.1))
         (capped-end rules (headed h b) first.lines second.lines at_last second.ended y.ends some few) in
-        subst (λ (o : Outcome). Account (run_over rules (headed h (a ++ b)) o) at_last) (sym (told ∙ same))
+        subst (λ (o : Outcome). Account (run_over rules (headed h (a ++ b)) o) at_last) (sym (said ∙ same))
         (Account-joined rules h a b cut first second at_end at_last is x y)

@@ -1,5 +1,5 @@
 -- The bytes that a writer gets in a run.
-use Rattle.cj_stream.proofs.Common.{Account, Appends, AppendsMore, AppendsPart, Complete, Counts, Delivers, End, Ends, Item, Keeps, LeavesNext, Line, List, Memory, None, Option, Puts, ReadFault, ReadLimit, Refused, Rules, Ruling, Run, SinkLaw, Some, Took, TookFront, WriteFault, [], ap, flat_map, flat_map-append, good, good_from, is_kept, item_after, kept, kept_first, kept_of, length, lines, output_first, prefixes, raw_item, refl, refusal_in, ruling_after, rulings, rulings_first, rulings_good, slice_get, stream_of, stretch, subst, take, true, up_to, verdict, whole, writes_law, ℕ, ◌++◌, ◌∙◌, ◌∷◌, ◌≡◌}
+use Rattle.cj_stream.proofs.Common.{Account, Appends, AppendsMore, AppendsPart, Complete, Counts, Delivers, End, Ends, Item, Keeps, LeavesNext, Line, List, Memory, None, Option, Puts, ReadFault, ReadLimit, Refused, Rules, Ruling, Run, SinkContract, Some, Took, TookFront, WriteFault, [], ap, flat_map, flat_map-append, good, good_from, is_kept, item_after, kept, kept_first, kept_of, length, lines, output_first, prefixes, raw_item, refl, refusal_in, ruling_after, rulings, rulings_first, rulings_good, slice_get, stream_of, stretch, subst, take, true, up_to, verdict, whole, writes_law, ℕ, ◌++◌, ◌∙◌, ◌∷◌, ◌≡◌}
 use Rattle.cj_stream.specs.Run.{Runs, Writes, WritesLines}
 use Rattle.cj_stream.proofs.FirstLemmas.{first-split}
 use Rattle.cj_stream.proofs.GoodLemmas.{drop-next, kept-head}
@@ -30,12 +30,13 @@ kept-next_line rules n r l h at k =
     )
 
 -- and what its failed step leaves
-pub next-left : {S : Type 0} (law : SinkLaw S) (rules : Rules) (before : List Line) (l : Line) (others : List Ruling)
+pub next-left : {S : Type 0} (law : SinkContract S) (rules : Rules) (before : List Line) (l : Line)
+    (others : List Ruling)
     (s t : S) → is_kept (verdict rules before l.content) ≡ true → law.leaves s (item_after rules before l) t
     → LeavesNext law.leaves (kept_of (ruling_after rules before l ∷ others)) s t
 next-left law rules before l others s t k leaves = rw k leaves
 
-module _ {S : Type 0} (law : SinkLaw S) (rules : Rules) (r : List ℕ) (at_end : Type 0) (s t : S)
+module _ {S : Type 0} (law : SinkContract S) (rules : Rules) (r : List ℕ) (at_end : Type 0) (s t : S)
     (n features refusals : ℕ) where
   -- a sink that was given all good lines, and then left as it was
   put-all : (e : End) (d : Delivers law (stretch rules r 0 n) s t (Some e)) → t ≡ d.middle
@@ -44,34 +45,35 @@ module _ {S : Type 0} (law : SinkLaw S) (rules : Rules) (r : List ℕ) (at_end :
       rw still (took-good law.takes over-kept rules r n s d.middle all d.took)
 
   -- what a sink took, by the end of the run
-  puts-told : (e : End) → Ends rules r n at_end e → Counts rules r n features refusals
+  puts-said : (e : End) → Ends rules r n at_end e → Counts rules r n features refusals
       → Delivers law (stretch rules r 0 n) s t (Some e) → Puts law (stream_of rules r) e s t
-  puts-told Complete ends counts d = put-all Complete d d.fault ends.1
-  puts-told (Refused number place reason) ends counts d = put-all (Refused number place reason) d d.fault ends.1
-  puts-told WriteFault ends counts d =
+  puts-said Complete ends counts d = put-all Complete d d.fault ends.1
+  puts-said (Refused number place reason) ends counts d = put-all (Refused number place reason) d d.fault ends.1
+  puts-said WriteFault ends counts d =
       let fault = d.fault in
       let next = kept-next_line rules n r fault.0 counts.counted.good fault.1 fault.2 in
       front-took law.takes over-kept rules r 0 (LeavesNext law.leaves) n _ next.1 d.middle t
       (next-left law rules (take n (lines r)) fault.0 next.0 d.middle t fault.2 fault.3) s d.took
-  puts-told Memory ends counts d =
+  puts-said Memory ends counts d =
       front-took law.takes over-kept rules r 0 (λ others a b. b ≡ a) n _ (first-split rules n r counts.counted.good)
       d.middle t d.fault s d.took
-  puts-told other ends counts d =
+  puts-said other ends counts d =
       rw d.fault (took-whole law.takes over-kept rules r n s d.middle ends.0 ends.1 d.took)
 
 -- a run by its account and by what the sink took
-pub Runs-told : {S : Type 0} (law : SinkLaw S) (run : Run) (at_end : Type 0) (s t : S) → Account run at_end
+pub Runs-said : {S : Type 0} (law : SinkContract S) (run : Run) (at_end : Type 0) (s t : S) → Account run at_end
     → Delivers law (stretch run.rules run.read 0 run.outcome.lines) s t (Some run.outcome.ended)
     → Runs law run at_end s t
-Runs-told law run at_end s t account sink = record {
+Runs-said law run at_end s t account sink = record {
   account = account;
   sink = sink;
-  puts = puts-told law run.rules run.read at_end s t run.outcome.lines run.outcome.kept run.outcome.refused
+  puts = puts-said law run.rules run.read at_end s t run.outcome.lines run.outcome.kept run.outcome.refused
       run.outcome.ended account.ends account.counts sink;
 }
 
--- where memory was refused before any line was dealt with, the sink is as it was
-pub memory-sink : {S : Type 0} (law : SinkLaw S) (rules : Rules) (q : List ℕ) (n : ℕ) (s t : S) (e : End) → e ≡ Memory
+-- where memory was refused before any line was handled, the sink is as it was
+pub memory-sink : {S : Type 0} (law : SinkContract S) (rules : Rules) (q : List ℕ) (n : ℕ) (s t : S) (e : End)
+    → e ≡ Memory
     → n ≡ 0
     → Delivers law (stretch rules q 0 n) s t (Some e) → t ≡ s
 memory-sink law rules q n s t e is none h =
@@ -128,24 +130,24 @@ module _ {S : Type 0} (contents : S → Option (List ℕ)) where
   Writes-puts failures rules r s t Memory h = (front-bytes (λ others a b. b ≡ a) no-bytes (kept rules r) [] s t h).0
   Writes-puts failures rules r s t other h = Took-appends contents s t (kept rules r) h
 
-  -- and by the lines that were dealt with
+  -- and by the lines that were handled
   module _ (failures : S → ℕ) (rules : Rules) (r : List ℕ) (n : ℕ) (s t : S) where
-    dealt-bytes : {e : End} (d : Delivers (writes_law contents failures) (stretch rules r 0 n) s t (Some e))
+    handled-bytes : {e : End} (d : Delivers (writes_law contents failures) (stretch rules r 0 n) s t (Some e))
         → Appends (contents s) (contents d.middle) (output_first rules n r)
-    dealt-bytes d =
+    handled-bytes d =
         Took-appends contents s d.middle (kept_first rules n r) (More-all writes over-kept d.took)
 
     still-bytes : {e : End} (d : Delivers (writes_law contents failures) (stretch rules r 0 n) s t (Some e))
         → t ≡ d.middle → Appends (contents s) (contents t) (output_first rules n r)
-    still-bytes d still = rw still (dealt-bytes d)
+    still-bytes d still = rw still (handled-bytes d)
 
     none-kept : (a : Option (List ℕ)) → Keeps a a
     none-kept None = tt
     none-kept (Some x) = refl
 
-    pub WritesLines-told : (e : End) → (e ≡ Memory → n ≡ 0) → Delivers (writes_law contents failures)
+    pub WritesLines-said : (e : End) → (e ≡ Memory → n ≡ 0) → Delivers (writes_law contents failures)
         (stretch rules r 0 n) s t (Some e) → WritesLines (up_to rules r n) e (contents s) (contents t)
-    WritesLines-told WriteFault none d =
+    WritesLines-said WriteFault none d =
         let fault = d.fault in
         record {
           line = fault.0;
@@ -155,10 +157,10 @@ module _ {S : Type 0} (contents : S → Option (List ℕ)) where
           rest = fault.3.rest;
           cut = fault.3.whole;
           grows = Appends-then (contents s) (contents d.middle) (contents t) (output_first rules n r) fault.3.front
-              (dealt-bytes d) fault.3.grows;
+              (handled-bytes d) fault.3.grows;
         }
-    WritesLines-told Memory none d =
+    WritesLines-said Memory none d =
         let nothing : n ≡ 0 = none refl in
         let same : t ≡ s = memory-sink (writes_law contents failures) rules r n s t Memory refl nothing d in
         (nothing, rw same (none-kept (contents s)))
-    WritesLines-told other none d = still-bytes d d.fault
+    WritesLines-said other none d = still-bytes d d.fault

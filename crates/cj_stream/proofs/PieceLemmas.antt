@@ -1,15 +1,15 @@
--- How a framer advances over a piece, and where it stops.
-use Rattle.cj_stream.proofs.Common.{Bool, End, Err, Invalid, IsLeft, Item, JudgedAs, LimitPair, LineTooLong, List, Memory, NoLf, Ok, Reading, Reads, Reason, Refused, Result, Rules, Settles, SinkLaw, Some, Stops, Stores, TookMore, Unstored, Verdict, WriteFault, [], ap, append-nil, append_assoc, arith, begun, begun_of, closed, ended_line, false, further, is_kept, is_lenient, judged_next, kept_of, length, length-append, lines, long_line, map, nat_tests, next_verdict, refl, ruling_after, rulings, rulings_closed, slice_get, subst, sym, told_verdict, true, with_sink, ℕ, ◌++◌, ◌+◌, ◌<◌, ◌∙◌, ◌∷◌, ◌≡◌}
+-- How a splitter advances over a piece, and where it stops.
+use Rattle.cj_stream.proofs.Common.{Bool, End, Err, Invalid, IsLeft, Item, JudgedAs, LimitPair, LineTooLong, List, Memory, NoLf, Ok, Reading, Reads, Reason, Refused, Result, Rules, Handles, SinkContract, Some, Stops, Stores, TookMore, Unstored, Verdict, WriteFault, [], ap, append-nil, append_assoc, arith, begun, begun_of, closed, ended_line, false, further, is_kept, is_lenient, judged_next, kept_of, length, length-append, lines, long_line, map, nat_tests, next_verdict, refl, ruling_after, rulings, rulings_closed, slice_get, subst, sym, begun_verdict, true, with_sink, ℕ, ◌++◌, ◌+◌, ◌<◌, ◌∙◌, ◌∷◌, ◌≡◌}
 use Rattle.std.proofs.Common.{ltb}
 use Rattle.cj_stream.specs.Reading.{IsBegun, Advances, IsNext, HasCause, stop_at}
 use Rattle.cj_stream.proofs.LineLemmas.{closed-more, begun-more, closed-lf, begun-lf, none-from_length}
 use Rattle.cj_stream.proofs.VerdictLemmas.{verdict-long}
-use Rattle.cj_stream.proofs.ReadingLemmas.{left-same, strict-first, Reads-left, Reads-stored, Reads-passed, held-whole, dropped-long, told-verdict, closed-next, map_lines-append}
+use Rattle.cj_stream.proofs.ReadingLemmas.{left-same, strict-first, Reads-left, Reads-stored, Reads-ended, held-whole, dropped-long, said-verdict, closed-next, map_lines-append}
 use Rattle.cj_stream.proofs.TookLemmas.{More-none, More-then, over-kept}
-use Rattle.cj_stream.proofs.DealtLemmas.{Came, passed, refused, failed, lacked, came}
+use Rattle.cj_stream.proofs.HandledLemmas.{Came, ended, refused, failed, lacked, came}
 use Rattle.cj_stream.proofs.EngineLemmas.{next-line}
 
-module _ {S : Type 0} (law : SinkLaw S) where
+module _ {S : Type 0} (law : SinkContract S) where
   -- nothing was put where no line was ended
   pub Puts-none : (rules : Rules) (p q : List ℕ) (s : S) → closed q ≡ closed p
       → TookMore law.takes kept_of (rulings_closed rules p) (rulings_closed rules q) s s
@@ -45,13 +45,13 @@ module _ {S : Type 0} (law : SinkLaw S) where
     puts = Puts-none f.rules p (p ++ part) s (closed-more p part n);
   }
 
-  -- the begun line, of which this came, was passed
+  -- the begun line, of which this came, ended
   advanced : (g h : Reading) (s t : S) (p : List ℕ) (r : Result (Unit {0}) End) → Reads g p
       → Came law g h s t (map ended_line (closed p)) (ended_line (begun p)) r → r ≡ Ok tt
       → Advances law (further p (10 ∷ [])) (with_sink g s) (with_sink h t)
-  advanced g h s t p r reads (passed put refuses x fine k bad took) ok = record {
+  advanced g h s t p r reads (ended put refuses x fine k bad took) ok = record {
     rules = x.rules;
-    reads = Reads-passed g h p put refuses reads x fine k bad;
+    reads = Reads-ended g h p put refuses reads x fine k bad;
     puts = record {
       done = ruling_after g.rules (map ended_line (closed p)) (ended_line (begun p)) ∷ [];
       grown = closed-next g.rules p;
@@ -61,49 +61,49 @@ module _ {S : Type 0} (law : SinkLaw S) where
   advanced g h s t p r reads other ok = cc
 
   -- what came of the begun line, told by its content, of which nothing is known where it is dropped
-  pub Settles-begun : (on : Bool) (g h : Reading) (s t : S) (c : List ℕ) (lf : Bool) (r : Result (Unit {0}) End)
+  pub Handles-begun : (on : Bool) (g h : Reading) (s t : S) (c : List ℕ) (lf : Bool) (r : Result (Unit {0}) End)
       → IsBegun g c
-      → Settles law (judged_next g on (told_verdict g) (record { content = begun_of g; lf = lf })) (with_sink g s) r
+      → Handles law (judged_next g on (begun_verdict g) (record { content = begun_of g; lf = lf })) (with_sink g s) r
       (with_sink h t)
-      → Settles law (judged_next g on (next_verdict g c) (record { content = c; lf = lf })) (with_sink g s) r
+      → Handles law (judged_next g on (next_verdict g c) (record { content = c; lf = lf })) (with_sink g s) r
       (with_sink h t)
-  Settles-begun on g h s t c lf r is d = go g.dropped refl
-      (subst (λ v. Settles law (judged_next g on v (record { content = begun_of g; lf = lf })) (with_sink g s) r
-      (with_sink h t)) (told-verdict g c is) d)
+  Handles-begun on g h s t c lf r is d = go g.dropped refl
+      (subst (λ v. Handles law (judged_next g on v (record { content = begun_of g; lf = lf })) (with_sink g s) r
+      (with_sink h t)) (said-verdict g c is) d)
     where
       no-item : (x : Item) (place : ℕ) (reason : Reason) (v : Verdict) → v ≡ Invalid place reason
-          → Settles law (JudgedAs (g.lines + 1) on v x) (with_sink g s) r (with_sink h t)
-          → Settles law (judged_next g on v (record { content = c; lf = lf })) (with_sink g s) r (with_sink h t)
+          → Handles law (JudgedAs (g.lines + 1) on v x) (with_sink g s) r (with_sink h t)
+          → Handles law (judged_next g on v (record { content = c; lf = lf })) (with_sink g s) r (with_sink h t)
       no-item x place reason v e k =
           grind (arith, nat_tests)
 
-      go : (b : Bool) → g.dropped ≡ b → Settles law (judged_next g on (next_verdict g c)
+      go : (b : Bool) → g.dropped ≡ b → Handles law (judged_next g on (next_verdict g c)
           (record { content = begun_of g; lf = lf })) (with_sink g s) r (with_sink h t)
-          → Settles law (judged_next g on (next_verdict g c) (record { content = c; lf = lf })) (with_sink g s) r
+          → Handles law (judged_next g on (next_verdict g c) (record { content = c; lf = lf })) (with_sink g s) r
           (with_sink h t)
       go true dropped k =
           no-item _ g.rules.limits.line LineTooLong (next_verdict g c)
           (verdict-long g.rules _ _ c (dropped-long g c is dropped)) k
-      go false held k = subst (λ x. Settles law (judged_next g on (next_verdict g c) (record { content = x; lf = lf }))
+      go false held k = subst (λ x. Handles law (judged_next g on (next_verdict g c) (record { content = x; lf = lf }))
           (with_sink g s) r (with_sink h t)) (held-whole g c is held).0 k
 
   -- what came of the first line, which nothing goes on after if it is refused
-  pub Settles-first : (g h : Reading) (s t : S) (v : Verdict) (i : Item) (r : Result (Unit {0}) End) → g.lines ≡ 0
-      → Settles law (JudgedAs (g.lines + 1) false v i) (with_sink g s) r (with_sink h t)
-      → Settles law (JudgedAs (g.lines + 1) (is_lenient g) v i) (with_sink g s) r (with_sink h t)
-  Settles-first g h s t v i r first d = subst (λ on. Settles law (JudgedAs (g.lines + 1) on v i) (with_sink g s) r
+  pub Handles-first : (g h : Reading) (s t : S) (v : Verdict) (i : Item) (r : Result (Unit {0}) End) → g.lines ≡ 0
+      → Handles law (JudgedAs (g.lines + 1) false v i) (with_sink g s) r (with_sink h t)
+      → Handles law (JudgedAs (g.lines + 1) (is_lenient g) v i) (with_sink g s) r (with_sink h t)
+  Handles-first g h s t v i r first d = subst (λ on. Handles law (JudgedAs (g.lines + 1) on v i) (with_sink g s) r
       (with_sink h t)) (sym (strict-first g first)) d
 
   -- a part and an LF
   pub Advances-line : {f g h : Reading} {s t : S} {p part : List ℕ} {r : Result (Unit {0}) End} → Reads f p → NoLf part
       → Stores f part g
-      → Settles law (judged_next g (is_lenient g) (told_verdict g) (ended_line (begun_of g))) (with_sink g s) r
+      → Handles law (judged_next g (is_lenient g) (begun_verdict g) (ended_line (begun_of g))) (with_sink g s) r
       (with_sink h t) → r ≡ Ok tt
       → Advances law (further p (part ++ 10 ∷ [])) (with_sink f s) (with_sink h t)
   Advances-line {f} {g} {h} {s} {t} {p} {part} {r} reads n st d ok =
       let a = Advances-stored {s = s} reads n st in
-      let told = Settles-begun (is_lenient g) g h s t (begun (p ++ part)) true r a.reads.begun d in
-      let now = came law g h s t (p ++ part) a.reads (ended_line (begun (p ++ part))) r told in
+      let said = Handles-begun (is_lenient g) g h s t (begun (p ++ part)) true r a.reads.begun d in
+      let now = came law g h s t (p ++ part) a.reads (ended_line (begun (p ++ part))) r said in
       Advances-then a (advanced g h s t (p ++ part) r a.reads now ok)
 
   pub Stops-later : {f g h : Reading} {s t u : S} {p a b : List ℕ} {e : End}
@@ -201,7 +201,7 @@ module _ {S : Type 0} (law : SinkLaw S) where
       → IsNext g.rules.limits p q (ended_line (begun p))
       → Came law g h s t (map ended_line (closed p)) (ended_line (begun p)) r → r ≡ Err e
       → IsLeft g h × HasCause law (stop_at g.rules p q g.lines) s t e
-  caused g h s t p q r e reads next (passed put refuses x fine k bad took) err = cc
+  caused g h s t p q r e reads next (ended put refuses x fine k bad took) err = cc
   caused g h s t p q r e reads next (refused place reason v on same still) err =
       let is : e ≡ Refused (g.lines + 1) place reason = cc in
       (left-same g h same, rw is (ended_line (begun p), next, refl, v, still, on))
@@ -223,17 +223,17 @@ module _ {S : Type 0} (law : SinkLaw S) where
         ),
       )
 
-  -- a part that is stored, and a line that is not dealt with
-  pub Stops-undealt : {f g h : Reading} {s t : S} {p part : List ℕ} (more : List ℕ) {r : Result (Unit {0}) End}
+  -- a part that is stored, and a line that is not handled
+  pub Stops-unhandled : {f g h : Reading} {s t : S} {p part : List ℕ} (more : List ℕ) {r : Result (Unit {0}) End}
       {e : End}
       → Reads f p → NoLf part → Stores f part g
-      → Settles law (judged_next g (is_lenient g) (told_verdict g) (ended_line (begun_of g))) (with_sink g s) r
+      → Handles law (judged_next g (is_lenient g) (begun_verdict g) (ended_line (begun_of g))) (with_sink g s) r
       (with_sink h t) → r ≡ Err e
       → Stops law (further p (part ++ 10 ∷ more)) (with_sink f s) e (with_sink h t)
-  Stops-undealt {f} {g} {h} {s} {t} {p} {part} more {r} {e} reads n st d err =
+  Stops-unhandled {f} {g} {h} {s} {t} {p} {part} more {r} {e} reads n st d err =
       let a = Advances-stored {s = s} reads n st in
-      let told = Settles-begun (is_lenient g) g h s t (begun (p ++ part)) true r a.reads.begun d in
-      let now = came law g h s t (p ++ part) a.reads (ended_line (begun (p ++ part))) r told in
+      let said = Handles-begun (is_lenient g) g h s t (begun (p ++ part)) true r a.reads.begun d in
+      let now = came law g h s t (p ++ part) a.reads (ended_line (begun (p ++ part))) r said in
       let u = caused g h s t (p ++ part) (p ++ (part ++ 10 ∷ more)) r e a.reads
       (IsNext-ended g.rules.limits p part more) now err in
       record {

@@ -1,5 +1,5 @@
--- What a framer has read after it stored a part, and after it dealt with a line.
-use Rattle.cj_stream.proofs.Common.{AreCounted, Bool, Invalid, IsLeft, IsWithin, Item, LimitPair, Line, LineTooLong, List, NoLf, None, Passes, Reading, Reads, Rules, Ruling, Stores, Tree, [], ap, append-nil, arith, begun, begun_after, begun_later, begun_of, closed, cond, ended_line, false, filter, filter-append, first_content, first_of, flat_map-append, goes_on, greatest, header_of, held_length, inl, inr, is_feature, is_lenient, item_after, item_at, kept_of, later_of, length, length-append, length-map, map, map-append, max, nat_lt, nat_tests, next_item, next_verdict, refl, reported_of, ruling_after, rulings, rulings_closed, suc, sym, told_verdict, true, verdict, verdict_at, zero, ℕ, ◌&&◌, ◌++◌, ◌+◌, ◌<◌, ◌∙◌, ◌∷◌, ◌≡◌, ◌≤◌, ◌⊎◌}
+-- What a splitter has read after it stored a part, and after it handled a line.
+use Rattle.cj_stream.proofs.Common.{AreCounted, Bool, Invalid, IsLeft, IsWithin, Item, LimitPair, Line, LineTooLong, List, NoLf, None, EndsLine, Reading, Reads, Rules, Ruling, Stores, Tree, [], ap, append-nil, arith, begun, begun_after, begun_later, begun_of, closed, cond, ended_line, false, filter, filter-append, first_content, first_of, flat_map-append, goes_on, greatest, header_of, held_length, inl, inr, is_feature, is_lenient, item_after, item_at, kept_of, later_of, length, length-append, length-map, map, map-append, max, nat_lt, nat_tests, next_item, next_verdict, refl, reported_of, ruling_after, rulings, rulings_closed, suc, sym, begun_verdict, true, verdict, verdict_at, zero, ℕ, ◌&&◌, ◌++◌, ◌+◌, ◌<◌, ◌∙◌, ◌∷◌, ◌≡◌, ◌≤◌, ◌⊎◌}
 use Rattle.std.proofs.Common.{eqb, ltb, ltb-true}
 use Rattle.cj_stream.specs.Reading.{held_header, stored, IsBegun, Fits, Drops, StaysDropped}
 use Rattle.cj_stream.proofs.LineLemmas.{closed-more, begun-more, closed-lf, begun-lf, first_of-some, first_of-lf, begun_after-some, begun_after-empty, none-from_length}
@@ -64,8 +64,8 @@ has-begun f c is (inl some) =
     grind (arith, nat_tests)
 
 -- its verdict, by what is known of it
-pub told-verdict : (f : Reading) (c : List ℕ) → IsBegun f c → told_verdict f ≡ next_verdict f c
-told-verdict f c is = go f.dropped refl
+pub said-verdict : (f : Reading) (c : List ℕ) → IsBegun f c → begun_verdict f ≡ next_verdict f c
+said-verdict f c is = go f.dropped refl
   where
     go : (b : Bool) → f.dropped ≡ b
         → cond f.dropped (Invalid f.rules.limits.line LineTooLong) (next_verdict f (begun_of f)) ≡ next_verdict f c
@@ -328,7 +328,7 @@ count-more false n = omega arith
 
 -- the counts after one line more
 pub Counted-next : (f g : Reading) (xs : List Line) (l : Line) (put refused : Bool) → f.lines ≡ length xs
-    → AreCounted (rulings f.rules [] xs) f.kept f.refused → Passes put refused f g
+    → AreCounted (rulings f.rules [] xs) f.kept f.refused → EndsLine put refused f g
     → (ruling_after f.rules xs l).end ≡ None → put ≡ (ruling_after f.rules xs l).kept
     → length (ruling_after f.rules xs l).reports ≡ cond refused 1 0
     → AreCounted (rulings f.rules [] (xs ++ l ∷ [])) g.kept g.refused
@@ -372,12 +372,12 @@ greatest-later measure none (c ∷ cs) b = omega (arith, greatest-append measure
 pub held-nothing : (limits : LimitPair) → held_length limits [] ≡ 0
 held-nothing limits = omega arith
 
-pub Reads-passed : (f g : Reading) (p : List ℕ) (put refused : Bool) → Reads f p → Passes put refused f g
+pub Reads-ended : (f g : Reading) (p : List ℕ) (put refused : Bool) → Reads f p → EndsLine put refused f g
     → (ruling_after f.rules (map ended_line (closed p)) (ended_line (begun p))).end ≡ None
     → put ≡ (ruling_after f.rules (map ended_line (closed p)) (ended_line (begun p))).kept
     → length (ruling_after f.rules (map ended_line (closed p)) (ended_line (begun p))).reports ≡ cond refused 1 0
     → Reads g (p ++ 10 ∷ [])
-Reads-passed f g p put refused h s fine k bad = record {
+Reads-ended f g p put refused h s fine k bad = record {
   lines = rw (closed-lf p [], s.lines, h.lines) (sym (length-append (closed p) (begun p ∷ [])));
   begun = rw (begun-lf p [])
       (record {

@@ -1,5 +1,5 @@
 -- How the calls of a run add up.
-use Rattle.cj_stream.proofs.Common.{Complete, Concludes, Consumes, Counts, Delivers, End, Ends, EngineState, Faults, HasRisen, IfSome, IsBelow, IsUnread, Keeps, List, Memory, None, Option, ReadFault, ReadLimit, Reading, Reads, Refused, Rules, Run, Scanned, SinkLaw, Some, Tells, TookOf, WriteFault, [], ap, append-nil, append_assoc, arith, closed, ending, exact_peaks, first_lines, inl, inr, judged, kept_of, length, length-append, limits_of, lines, lines_of, nat_tests, peaks_of, refl, refusal_in, rules_of, rulings_first, stretch, subst, suc, sym, up_to, whole, zero, ℕ, ◌++◌, ◌<◌, ◌∙◌, ◌∷◌, ◌≡◌, ◌≤◌}
+use Rattle.cj_stream.proofs.Common.{Complete, Concludes, Consumes, Counts, Delivers, End, Ends, EngineState, Faults, HasRisen, IfSome, IsBelow, IsUnread, Keeps, List, Memory, None, Option, ReadFault, ReadLimit, Reading, Reads, Refused, Rules, Run, Scanned, SinkContract, Some, IsEndAfter, TookOf, WriteFault, [], ap, append-nil, append_assoc, arith, closed, ending, exact_peaks, first_lines, inl, inr, judged, kept_of, length, length-append, limits_of, lines, lines_of, nat_tests, peaks_of, refl, refusal_in, rules_of, rulings_first, stretch, subst, suc, sym, up_to, whole, zero, ℕ, ◌++◌, ◌<◌, ◌∙◌, ◌∷◌, ◌≡◌, ◌≤◌}
 use Rattle.std.proofs.Common.{◌≢◌}
 use Rattle.cj_stream.specs.Engine.{EngineFailsToGrow, HasFailedToGrow}
 use Rattle.cj_stream.specs.Run.{Gave, HeldBegun, IsLastRead, IsReadWithin, LacksRoom, Runs, StopsInTime}
@@ -25,7 +25,7 @@ Consumes-kept (Some a) (Some b) None x p q = absurd q
 Consumes-kept (Some a) (Some b) (Some c) x p q = p ∙ ap (λ z. x ++ z) (sym q)
 
 -- what a sink takes of two steps, one after the other
-pub Delivers-join : {S : Type 0} {law : SinkLaw S} {rules : Rules} {r q : List ℕ} {from n m : ℕ} {s t u : S}
+pub Delivers-join : {S : Type 0} {law : SinkContract S} {rules : Rules} {r q : List ℕ} {from n m : ℕ} {s t u : S}
     {e : Option End} → rulings_first rules from q ≡ rulings_first rules from r
     → rulings_first rules n q ≡ rulings_first rules n r
     → Delivers law (stretch rules r from n) s t None → Delivers law (stretch rules q n m) t u e
@@ -39,7 +39,7 @@ Delivers-join {S} {law} {rules} {r} {q} {from} {n} {m} {s} {t} {u} first same h 
   fault = k.fault;
 }
 
-pub Delivers-then : {S : Type 0} {law : SinkLaw S} {rules : Rules} {r q : List ℕ} {n m : ℕ} {s t u : S}
+pub Delivers-then : {S : Type 0} {law : SinkContract S} {rules : Rules} {r q : List ℕ} {n m : ℕ} {s t u : S}
     {e : Option End} → rulings_first rules n q ≡ rulings_first rules n r → Delivers law (stretch rules r 0 n) s t None
     → Delivers law (stretch rules q n m) t u e → Delivers law (stretch rules q 0 m) s u e
 Delivers-then same h k = Delivers-join refl same h k
@@ -52,17 +52,17 @@ Ends-finished rules r n at_end WriteFault h c = tt
 Ends-finished rules r n at_end Memory h c = tt
 Ends-finished rules r n at_end other h c = absurd c
 
-pub ending-told : (rules : Rules) (q : List ℕ) (e : End) → refusal_in rules (judged rules.limits q) ≡ Some e
+pub ending-said : (rules : Rules) (q : List ℕ) (e : End) → refusal_in rules (judged rules.limits q) ≡ Some e
     → ending rules q ≡ e
-ending-told rules q e h =
+ending-said rules q e h =
     let x = judged-front rules.limits q in
     ending-refused rules (lines q) e (rw x.1 (refusal-stays rules [] (judged rules.limits q) x.0 e h))
 
-pub Ends-fed : (rules : Rules) (r : List ℕ) (n : ℕ) (at_end : Type 0) (e : End) → Tells rules r n e
+pub Ends-fed : (rules : Rules) (r : List ℕ) (n : ℕ) (at_end : Type 0) (e : End) → IsEndAfter rules r n e
     → Ends rules r n at_end e
 Ends-fed rules r n at_end (Refused number place reason) c =
-    let told = ending-told rules r (Refused number place reason) c.0 in
-    (told, omega (arith, c.1, good-refused rules r number place reason told), inr c.0)
+    let said = ending-said rules r (Refused number place reason) c.0 in
+    (said, omega (arith, c.1, good-refused rules r number place reason said), inr c.0)
 Ends-fed rules r n at_end WriteFault c = tt
 Ends-fed rules r n at_end Memory c = tt
 Ends-fed rules r n at_end other c = absurd c
@@ -73,7 +73,7 @@ pub whole-good : (e : EngineState) (r : List ℕ) → Reads e.reading r → (ref
 whole-good e r h = (rw (lines-whole r) h.counted.good, rw (lines-whole r) (h.lines ∙ sym (length-map_lines (closed r))))
 
 -- a step that keeps the sink as it is, with an end
-pub Delivers-ended : {S : Type 0} (law : SinkLaw S) (rules : Rules) (r : List ℕ) (n : ℕ) (s t : S) (e : End)
+pub Delivers-ended : {S : Type 0} (law : SinkContract S) (rules : Rules) (r : List ℕ) (n : ℕ) (s t : S) (e : End)
     → ((m u : S) → u ≡ m → Faults law (up_to rules r n) m u (Some e)) → Delivers law (stretch rules r 0 n) s t None
     → Delivers law (stretch rules r 0 n) s t (Some e)
 Delivers-ended law rules r n s t e still h = record {
@@ -102,7 +102,7 @@ pub Consumes-none : (a : Option (List ℕ)) → Consumes a a []
 Consumes-none None = tt
 Consumes-none (Some a) = refl
 
-pub Runs-memory : {S : Type 0} (law : SinkLaw S) (rules : Rules) (at_end : Type 0) (s : S)
+pub Runs-memory : {S : Type 0} (law : SinkContract S) (rules : Rules) (at_end : Type 0) (s : S)
     → Runs law (record {
       rules = rules;
       read = [];
@@ -136,12 +136,12 @@ last-none Memory = omega arith
 last-none other = refl
 
 -- a piece gave it
-pub last-piece : (rules : Rules) (q : List ℕ) (n : ℕ) (e : End) (piece : List ℕ) → Tells rules q n e
+pub last-piece : (rules : Rules) (q : List ℕ) (n : ℕ) (e : End) (piece : List ℕ) → IsEndAfter rules q n e
     → length piece ≤ 8192 → IsLastRead e piece
-last-piece rules q n (Refused number place reason) piece told few = few
-last-piece rules q n WriteFault piece told few = few
-last-piece rules q n Memory piece told few = few
-last-piece rules q n other piece told few = absurd told
+last-piece rules q n (Refused number place reason) piece said few = few
+last-piece rules q n WriteFault piece said few = few
+last-piece rules q n Memory piece said few = few
+last-piece rules q n other piece said few = absurd said
 
 -- before these last bytes no line was the end
 pub stops-after : {at_start : Type 0} (f : Reading) (run : Run) (front last : List ℕ) → Reads f front
@@ -205,11 +205,11 @@ Stops-memory rules at_start start =
     grind (arith, nat_tests)
 
 -- an end by a piece, a fault or the read limit is no completion
-pub told-not_complete : (rules : Rules) (q : List ℕ) (n : ℕ) (e : End) → Tells rules q n e → e ≡ Complete → ⊥
-told-not_complete rules q n (Refused number place reason) c h = cc
-told-not_complete rules q n WriteFault c h = cc
-told-not_complete rules q n Memory c h = cc
-told-not_complete rules q n other c h = c
+pub said-not_complete : (rules : Rules) (q : List ℕ) (n : ℕ) (e : End) → IsEndAfter rules q n e → e ≡ Complete → ⊥
+said-not_complete rules q n (Refused number place reason) c h = cc
+said-not_complete rules q n WriteFault c h = cc
+said-not_complete rules q n Memory c h = cc
+said-not_complete rules q n other c h = c
 
 pub fault-not_complete : ReadFault ≡ Complete → ⊥
 fault-not_complete h = cc
@@ -225,7 +225,8 @@ Gave-finished reads n ReadLimit lt u = absurd u
 Gave-finished reads n other lt u = omega arith
 
 -- the end by a piece, which the last of the reads may have given
-pub Gave-fed : (rules : Rules) (q : List ℕ) (m reads n : ℕ) (e : End) → n ≤ reads → Tells rules q m e → Gave reads n e
+pub Gave-fed : (rules : Rules) (q : List ℕ) (m reads n : ℕ) (e : End) → n ≤ reads → IsEndAfter rules q m e
+    → Gave reads n e
 Gave-fed rules q m reads n (Refused number place reason) le h = le
 Gave-fed rules q m reads n WriteFault le h = le
 Gave-fed rules q m reads n Memory le h = le
@@ -258,7 +259,7 @@ enough-memory (Some a) reads e is = λ few limit. absurd (apart (sym is ∙ limi
     apart : Memory ≡ ReadLimit → ⊥
     apart h = cc
 
--- by no read no line is dealt with
+-- by no read no line is handled
 pub none-counted : (rules : Rules) (reads : ℕ) (r : List ℕ) (n features refusals : ℕ) (e : End) → reads ≡ 0
     → e ≡ ReadLimit → IsReadWithin reads r e → Counts rules r n features refusals → (n ≡ 0) × (features ≡ 0)
 none-counted rules reads [] zero features refusals e nothing is w h = (refl, h.counted.kept)

@@ -29,7 +29,7 @@ pub few-scanned : (limits : LimitPair) (cs : List (List ℕ)) (f : Scanning) (h 
     → length (first_of cs []) ≤ h → HoldsFew limits h f
 few-scanned limits cs f h s le = omega (arith, s.header_law, s.line_law, le)
 
--- ---- a line that was dealt with
+-- ---- a line that was handled
 
 -- what lists have held, once all is known of it
 held-exact : (all : Bool) (n peak : ℕ) → peak ≡ n → HasHeld all n peak
@@ -73,9 +73,9 @@ unspelled (spelled t json shallow) h = cc
 unspelled (broken i at none) h = (refl, refl)
 unspelled (sunk i at) h = (refl, refl)
 
-pub unread-told : (limits : LimitPair) (c : List ℕ) → list_all is_blank_byte c ≡ false
+pub unread-said : (limits : LimitPair) (c : List ℕ) → list_all is_blank_byte c ≡ false
     → is_utf8 c && is_spelled (judgement c limits.depth) ≡ false → IsUnread limits c
-unread-told limits c blank bad =
+unread-said limits c blank bad =
     grind (arith, nat_tests)
 
 -- ---- a later line that was scanned
@@ -97,7 +97,7 @@ pub scans-unread : (limits : LimitPair) (c : List ℕ) (f g : Scanning) → HasR
 scans-unread limits c f g room short same k u =
     grind (arith, nat_tests)
 
--- it was dealt with
+-- it was handled
 scanned-later : (limits : LimitPair) (c : List ℕ) (f g h : Scanning) → Forgets g h → ScansLine limits c f g
     → (cs : List (List ℕ)) → 0 < length cs → Scanned limits cs f → Scanned limits (cs ++ c ∷ []) h
 scanned-later limits c f g h k line [] later s = absurd (omega arith)
@@ -152,7 +152,7 @@ first-part p part more n =
 pub few-more : (limits : LimitPair) (h i : ℕ) (f : Scanning) → h ≤ i → HoldsFew limits h f → HoldsFew limits i f
 few-more limits h i f le s = omega (arith, le, s)
 
--- ---- a part that was stored, and its line dealt with
+-- ---- a part that was stored, and its line handled
 
 module _ (f g : Reading) (p part : List ℕ) (now mid new : Scanning) (reads : Reads f p) (n : NoLf part)
     (st : Stores f part g) (same : mid ≡ now) (s : Scanned f.rules.limits (closed p) now) where
@@ -160,16 +160,16 @@ module _ (f g : Reading) (p part : List ℕ) (now mid new : Scanning) (reads : R
   before = rw (same, st.rules) s
 
   pub scanned-line : ScansNext g mid new → Scanned f.rules.limits (closed (p ++ (part ++ 10 ∷ []))) new
-  scanned-line deal =
-      let k = deal (closed p) (begun p ++ part) (sym (st.lines ∙ reads.lines)) (IsBegun-stored f g p part reads st)
+  scanned-line scan =
+      let k = scan (closed p) (begun p ++ part) (sym (st.lines ∙ reads.lines)) (IsBegun-stored f g p part reads st)
       before in
       let j = rw st.rules at k in
       rw (closed-line p part n) j
 
   pub few-line : (more : List ℕ) → HoldsFewNext g mid new
       → HoldsFew f.rules.limits (length (first_content (p ++ (part ++ 10 ∷ more)))) new
-  few-line more deal =
-      let k = deal (closed p) (begun p ++ part) (sym (st.lines ∙ reads.lines)) (IsBegun-stored f g p part reads st)
+  few-line more scan =
+      let k = scan (closed p) (begun p ++ part) (sym (st.lines ∙ reads.lines)) (IsBegun-stored f g p part reads st)
       before in
       let j = rw st.rules at k in
       few-more f.rules.limits (length (first_of (closed p) (begun p ++ part)))

@@ -1,5 +1,5 @@
 -- What stays of a reading, whatever comes of some bytes.
-use Rattle.cj_stream.proofs.Common.{Blank, Bool, End, Err, Invalid, Item, JudgedAs, Kept, LeftOut, Ok, Reading, Result, Settles, SinkLaw, Stays, Verdict, ap, arith, false, inl, inr, refl, true, with_sink, ◌+◌, ◌∙◌, ◌≡◌}
+use Rattle.cj_stream.proofs.Common.{Blank, Bool, End, Err, Invalid, Item, JudgedAs, Kept, LeftOut, Ok, Reading, Result, Handles, SinkContract, Stays, Verdict, ap, arith, false, inl, inr, refl, true, with_sink, ◌+◌, ◌∙◌, ◌≡◌}
 
 pub Stays-same : (f g : Reading) → g ≡ f → Stays f g
 Stays-same f g e = rw e (record { rules = refl; header_rises = omega arith; line_rises = omega arith })
@@ -12,12 +12,12 @@ Stays-then f g h a b = record {
 }
 
 -- an error leaves the count of lines
-pub settled-err : {S : Type 0} (law : SinkLaw S) (on : Bool) (v : Verdict) (i : Item) (f g : Reading) (s t : S)
-    (e : End) → Settles law (JudgedAs (f.lines + 1) on v i) (with_sink f s) (Err e) (with_sink g t) → g.lines ≡ f.lines
-settled-err law true (Invalid at why) i f g s t e (inl d) = let ok : ◌≡◌ {A = Result (Unit {0}) End} (Err e) (Ok tt) =
+pub handled-err : {S : Type 0} (law : SinkContract S) (on : Bool) (v : Verdict) (i : Item) (f g : Reading) (s t : S)
+    (e : End) → Handles law (JudgedAs (f.lines + 1) on v i) (with_sink f s) (Err e) (with_sink g t) → g.lines ≡ f.lines
+handled-err law true (Invalid at why) i f g s t e (inl d) = let ok : ◌≡◌ {A = Result (Unit {0}) End} (Err e) (Ok tt) =
     d.0.0 in cc
-settled-err law false (Invalid at why) i f g s t e (inl d) = ap (λ x. x.lines) d.0.1
-settled-err law on Blank i f g s t e (inl d) = let ok : ◌≡◌ {A = Result (Unit {0}) End} (Err e) (Ok tt) = d.0 in cc
-settled-err law on LeftOut i f g s t e (inl d) = let ok : ◌≡◌ {A = Result (Unit {0}) End} (Err e) (Ok tt) = d.0 in cc
-settled-err law on Kept i f g s t e (inl d) = ap (λ x. x.lines) d.1.same
-settled-err law on v i f g s t e (inr m) = ap (λ x. x.lines) m.1.same
+handled-err law false (Invalid at why) i f g s t e (inl d) = ap (λ x. x.lines) d.0.1
+handled-err law on Blank i f g s t e (inl d) = let ok : ◌≡◌ {A = Result (Unit {0}) End} (Err e) (Ok tt) = d.0 in cc
+handled-err law on LeftOut i f g s t e (inl d) = let ok : ◌≡◌ {A = Result (Unit {0}) End} (Err e) (Ok tt) = d.0 in cc
+handled-err law on Kept i f g s t e (inl d) = ap (λ x. x.lines) d.1.same
+handled-err law on v i f g s t e (inr m) = ap (λ x. x.lines) m.1.same

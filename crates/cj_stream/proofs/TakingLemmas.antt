@@ -1,12 +1,12 @@
--- What a framer has taken with a part of a line, or with its last part and LF.
-use Rattle.cj_stream.proofs.Common.{End, Err, FramerState, HoldsFewNext, List, NoLf, Ok, Result, ScansNext, Settles, SinkLaw, Stores, TakesAll, TakesSome, Unstored, [], closed, is_lenient, judged_begun, newline, told_verdict, true, with_sink, ℕ, ◌++◌, ◌∷◌, ◌≡◌}
-use Rattle.cj_stream.proofs.PieceLemmas.{Advances-line, Advances-stored, Stops-undealt, Stops-unstored, Stops-unstored_last}
+-- What a splitter has taken with a part of a line, or with its last part and LF.
+use Rattle.cj_stream.proofs.Common.{End, Err, SplitterState, HoldsFewNext, List, NoLf, Ok, Result, ScansNext, Handles, SinkContract, Stores, TakesAll, TakesSome, Unstored, [], closed, is_lenient, judged_begun, newline, begun_verdict, true, with_sink, ℕ, ◌++◌, ◌∷◌, ◌≡◌}
+use Rattle.cj_stream.proofs.PieceLemmas.{Advances-line, Advances-stored, Stops-unhandled, Stops-unstored, Stops-unstored_last}
 use Rattle.cj_stream.proofs.ScanningLemmas.{few-line, few-scanned, first-closed, scanned-begun, scanned-line}
 
-module _ {S : Type 0} (law : SinkLaw S) where
-  module _ (f : FramerState) (s : S) (part : List ℕ) (free : NoLf part) where
+module _ {S : Type 0} (law : SinkContract S) where
+  module _ (f : SplitterState) (s : S) (part : List ℕ) (free : NoLf part) where
     -- a part that is stored
-    pub TakesAll-stored : (g : FramerState) → Stores f.reading part g.reading → g.scanning ≡ f.scanning
+    pub TakesAll-stored : (g : SplitterState) → Stores f.reading part g.reading → g.scanning ≡ f.scanning
         → TakesAll law part (with_sink f s) (with_sink g s)
     TakesAll-stored g stored same = record {
       advances = λ q reads. Advances-stored law reads free stored;
@@ -29,15 +29,15 @@ module _ {S : Type 0} (law : SinkLaw S) where
           (first-closed q part);
     }
 
-    module _ (g h : FramerState) (t : S) (stored : Stores f.reading part g.reading) (same : g.scanning ≡ f.scanning)
+    module _ (g h : SplitterState) (t : S) (stored : Stores f.reading part g.reading) (same : g.scanning ≡ f.scanning)
         (r : Result (Unit {0}) End)
-        (settles : Settles law (judged_begun g.reading (is_lenient g.reading) (told_verdict g.reading) true)
+        (handles : Handles law (judged_begun g.reading (is_lenient g.reading) (begun_verdict g.reading) true)
         (with_sink g.reading s) r (with_sink h.reading t)) where
-      -- LF comes after it, and the line is dealt with
+      -- LF comes after it, and the line is handled
       pub TakesAll-line : r ≡ Ok tt → ScansNext g.reading g.scanning h.scanning
           → TakesAll law (part ++ newline ∷ []) (with_sink f s) (with_sink h t)
       TakesAll-line ok scans = record {
-        advances = λ q reads. Advances-line law reads free stored settles ok;
+        advances = λ q reads. Advances-line law reads free stored handles ok;
         scanned = λ q reads scanned. scanned-line f.reading g.reading q part f.scanning g.scanning h.scanning reads free
             stored same scanned scans;
       }
@@ -46,7 +46,7 @@ module _ {S : Type 0} (law : SinkLaw S) where
       pub TakesSome-line : (more : List ℕ) (e : End) → r ≡ Err e → HoldsFewNext g.reading g.scanning h.scanning
           → TakesSome law (part ++ newline ∷ more) (with_sink f s) e (with_sink h t)
       TakesSome-line more e err few = record {
-        stops = λ q reads. Stops-undealt law more reads free stored settles err;
+        stops = λ q reads. Stops-unhandled law more reads free stored handles err;
         held = λ q reads scanned. few-line f.reading g.reading q part f.scanning g.scanning h.scanning reads free stored
             same scanned more few;
       }

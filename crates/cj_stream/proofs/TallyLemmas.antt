@@ -1,7 +1,7 @@
 -- Counts of what a sink took.
 use Rattle.cj_stream.proofs.Common.{End, Item, LeavesNext, List, Memory, None, Option, Puts, PutsPieces, ReadFault, ReadLimit, Rules, Some, Took, Tree, WriteFault, [], ap, arith, cond, filter, in_pieces, is_feature, is_header, is_some, joined, kept, length, min, never_fails, not, stream_of, take, whole, ℕ, ◌++◌, ◌+◌, ◌-◌, ◌^◌, ◌∙◌, ◌∷◌, ◌≡◌, ◌≤◌}
 use Rattle.cj_stream.specs.declared.sink.CountSink.{CountSink}
-use Rattle.cj_stream.specs.CountSink.{Counts, CountsBy, no_counts, counts_of, CountsRun, CountsPieces}
+use Rattle.cj_stream.specs.CountSink.{CountsItem, CountsBy, no_counts, counts_of, CountsRun, CountsPieces}
 
 -- both counts are those of another sink
 both : (a b : CountSink) → a.headers ≡ b.headers → a.features ≡ b.features → a ≡ b
@@ -12,8 +12,8 @@ both a b h k =
     first ∙ ap (λ z. record { headers = b.headers; features = z }) k
 
 -- a sink that counted some items goes up by them
-counts-more : (a b : CountSink) (is : List Item) → a.headers ≤ 2 ^ 64 - 1 → a.features ≤ 2 ^ 64 - 1 → Took Counts a is b
-    → (b.headers ≡ min (a.headers + length (filter is_header is)) (2 ^ 64 - 1))
+counts-more : (a b : CountSink) (is : List Item) → a.headers ≤ 2 ^ 64 - 1 → a.features ≤ 2 ^ 64 - 1
+    → Took CountsItem a is b → (b.headers ≡ min (a.headers + length (filter is_header is)) (2 ^ 64 - 1))
     × (b.features ≡ min (a.features + length (filter is_feature is)) (2 ^ 64 - 1))
 counts-more a b [] h k took = (omega (arith, h, ap (λ s. s.headers) took), omega (arith, k, ap (λ s. s.features) took))
 counts-more a b (i ∷ is) h k took = step i.header (λ p q. counts-more took.0 b is p q took.2) took.1
@@ -35,7 +35,7 @@ counts-more a b (i ∷ is) h k took = step i.header (λ p q. counts-more took.0 
         (omega (arith, later.0, c.1), omega (arith, later.1, c.0))
 
 -- a new sink that counted some items has their counts
-counts-all : (b : CountSink) (is : List Item) → Took Counts (no_counts) is b → b ≡ counts_of is
+counts-all : (b : CountSink) (is : List Item) → Took CountsItem (no_counts) is b → b ≡ counts_of is
 counts-all b is took =
     let all = counts-more (no_counts) b is (omega arith) (omega arith) took in
     both b (counts_of is) (omega (arith, all.0)) (omega (arith, all.1))
@@ -45,7 +45,7 @@ never [] m c k = k
 never (i ∷ is) m c k = k
 
 -- what a run has counted, by its end
-pub CountsRun-puts : (rules : Rules) (r : List ℕ) (c : CountSink) (e : End) → Puts (never_fails Counts)
+pub CountsRun-puts : (rules : Rules) (r : List ℕ) (c : CountSink) (e : End) → Puts (never_fails CountsItem)
     (stream_of rules r) e (no_counts) c → CountsRun (stream_of rules r) e c
 CountsRun-puts rules r c ReadFault h = counts-all c (kept rules (whole r)) h
 CountsRun-puts rules r c ReadLimit h = counts-all c (kept rules (whole r)) h
@@ -56,7 +56,7 @@ CountsRun-puts rules r c other h = counts-all c (kept rules r) h
 
 -- what was counted of pieces
 pub CountsPieces-puts : (rules : Rules) (pieces : List (List ℕ)) (n : ℕ) (c : CountSink) (e : End)
-    → PutsPieces (never_fails Counts) (in_pieces rules pieces n) e (no_counts) c
+    → PutsPieces (never_fails CountsItem) (in_pieces rules pieces n) e (no_counts) c
     → CountsPieces (in_pieces rules pieces n) e c
 CountsPieces-puts rules pieces n c ReadFault h = h
 CountsPieces-puts rules pieces n c ReadLimit h = h

@@ -1,6 +1,6 @@
 -- The counts of a run over pieces are of the whole stream.
 use Rattle.cj_stream.proofs.Common.{Complete, Counts, CountsAll, End, Ends, IsUnhindered, IsUnread, List, Memory, Peaks, Refused, Rules, Some, WriteFault, [], ap, ending, filter, good, inl, is_feature, joined, judged, kept, kept_of, length, refusal_in, reported_of, take, ℕ, ◌+◌, ◌∙◌, ◌≡◌, ◌⊎◌}
-use Rattle.cj_stream.proofs.CutLemmas.{given-told}
+use Rattle.cj_stream.proofs.CutLemmas.{given-said}
 use Rattle.cj_stream.proofs.FirstLemmas.{first-good}
 
 module _ (rules : Rules) (count features refusals : ℕ) (peaks : Peaks) where
@@ -31,8 +31,8 @@ module _ (rules : Rules) (count features refusals : ℕ) (peaks : Peaks) where
       → ending rules (joined (take (k + 1) pieces)) ≡ e → count ≡ length (good rules (joined (take (k + 1) pieces)))
       → CountsAll rules (joined pieces)
       (record { lines = count; kept = features; refused = refusals; peaks = peaks; ended = e })
-  given-counted pieces k e h told ends all =
-      let same = given-told rules [] pieces k e told ends in
+  given-counted pieces k e h said ends all =
+      let same = given-said rules [] pieces k e said ends in
       same-counted (joined (take (k + 1) pieces)) (joined pieces) e same.1
       (all-counted (joined (take (k + 1) pieces)) e h all)
 

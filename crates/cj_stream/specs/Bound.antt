@@ -62,12 +62,12 @@ abbrev pub is_readable : LimitPair → List ℕ → Bool
 is_readable limits c = is_text limits c && (list_all is_blank_byte c || is_spelled (judgement c limits.depth))
 
 -- all later lines of a stream are so
-abbrev pub is_legible : LimitPair → List ℕ → Bool
-is_legible limits s = list_all (is_readable limits) (later_of (contents s))
+abbrev pub are_legible : LimitPair → List ℕ → Bool
+are_legible limits s = list_all (is_readable limits) (later_of (contents s))
 
 -- The peaks of a complete stream, as a run reports them. The bytes are exact. Tokens and open containers are, too,
 -- where all later lines are blank or spell a tree; a line that is neither may have added to these before that was seen.
 pub record IsExact (limits : LimitPair) (s : List ℕ) (peaks : Peaks) : Type 0 where
   pub bytes : peaks.bytes ≡ (exact_peaks limits s).bytes
   pub least : IsBelow (exact_peaks limits s) peaks
-  pub legible : is_legible limits s ≡ true → peaks ≡ exact_peaks limits s
+  pub legible : are_legible limits s ≡ true → peaks ≡ exact_peaks limits s

@@ -1,4 +1,4 @@
--- What a framer is as one value, what always holds of it, and what each call that takes bytes or ends the stream
+-- What a splitter is as one value, what always holds of it, and what each call that takes bytes or ends the stream
 -- carries on.
 use Rattle.std.specs.Prelude.{◌<◌, ◌≤◌, List, ◌++◌, ℕ, Result, OnOk, IsErrOf, length}
 use Rattle.cj_stream.specs.declared.ending.End.{End}
@@ -7,35 +7,36 @@ use Rattle.cj_stream.specs.Bound.{contents}
 use Rattle.cj_stream.specs.Lines.{closed, first_content}
 use Rattle.cj_stream.specs.Reading.{Reading, IsSound, Stays, Reads, further, Advances, Stops, Finishes}
 use Rattle.cj_stream.specs.Scanning.{Scanning, Scanned, HoldsFew, HasRoom, IsReady, ListsFailToGrow, Rises}
-use Rattle.cj_stream.specs.Sink.{SinkLaw, WithSink, with_sink, HasRisen}
+use Rattle.cj_stream.specs.Sink.{SinkContract, WithSink, with_sink, HasRisen}
 
 -- what is held of bytes, and of trees
-pub record FramerState : Type 0 where
+pub record SplitterState : Type 0 where
   pub reading : Reading
   pub scanning : Scanning
 
 -- what always holds: all lists have their limits, and none is above its own
-pub record IsFramed (f : FramerState) : Type 0 where
+pub record IsLimited (f : SplitterState) : Type 0 where
   pub sound : IsSound f.reading
   pub room : HasRoom f.reading.rules.limits f.scanning
 
 -- However a call ends, the rules stay, no peak falls, and no list is above its limit. A write fault has its cause
--- in the sink, and want of memory in a growth that failed; and it comes before the header is dealt with, or not at
+-- in the sink, and want of memory in a growth that failed; and it comes before the header is handled, or not at
 -- all
-pub record Carries {S T : Type 0} (law : SinkLaw S) (old : WithSink FramerState S) (answer : Result T End)
-    (new : WithSink FramerState S) : Type 0 where
+pub record Carries {S T : Type 0} (law : SinkContract S) (old : WithSink SplitterState S) (answer : Result T End)
+    (new : WithSink SplitterState S) : Type 0 where
   pub stays : Stays old.state.reading new.state.reading
   pub rises : Rises old.state.scanning new.state.scanning
-  pub framed : IsFramed new.state
+  pub limited : IsLimited new.state
   pub counts : law.failures old.sink ≤ law.failures new.sink
   pub cause : IsErrOf answer WriteFault → HasRisen (law.failures old.sink) (law.failures new.sink)
   pub memory : IsErrOf answer Memory
       → ListsFailToGrow old.state.reading old.state.scanning new.state.reading new.state.scanning
   pub late : 0 < old.state.reading.lines → IsReady new.state.reading new.state.scanning
 
--- these bytes were all taken: framer and sink have advanced over them, and what is held of trees is that of the lines
--- that were dealt with
-pub record TakesAll {S : Type 0} (law : SinkLaw S) (bytes : List ℕ) (old new : WithSink FramerState S) : Type 0 where
+-- these bytes were all taken: splitter and sink have advanced over them, and what is held of trees is that of the lines
+-- that were handled
+pub record TakesAll {S : Type 0} (law : SinkContract S) (bytes : List ℕ)
+    (old new : WithSink SplitterState S) : Type 0 where
   pub advances : (p : List ℕ) → Reads old.state.reading p
       → Advances law (further p bytes) (with_sink old.state.reading old.sink) (with_sink new.state.reading new.sink)
   pub scanned : (p : List ℕ) → Reads old.state.reading p
@@ -43,8 +44,8 @@ pub record TakesAll {S : Type 0} (law : SinkLaw S) (bytes : List ℕ) (old new :
       → Scanned old.state.reading.rules.limits (closed (p ++ bytes)) new.state.scanning
 
 -- reading stopped within these bytes, by this end, and no more was held of trees than the bytes allow
-pub record TakesSome {S : Type 0} (law : SinkLaw S) (bytes : List ℕ) (old : WithSink FramerState S) (end : End)
-    (new : WithSink FramerState S) : Type 0 where
+pub record TakesSome {S : Type 0} (law : SinkContract S) (bytes : List ℕ) (old : WithSink SplitterState S) (end : End)
+    (new : WithSink SplitterState S) : Type 0 where
   pub stops : (p : List ℕ) → Reads old.state.reading p
       → Stops law (further p bytes) (with_sink old.state.reading old.sink) end (with_sink new.state.reading new.sink)
   pub held : (p : List ℕ) → Reads old.state.reading p
@@ -52,8 +53,9 @@ pub record TakesSome {S : Type 0} (law : SinkLaw S) (bytes : List ℕ) (old : Wi
       → HoldsFew old.state.reading.rules.limits (length (first_content (p ++ bytes))) new.state.scanning
 
 -- the stream ended here, and this was answered
-pub record FinishesAll {S : Type 0} (law : SinkLaw S) (old : WithSink FramerState S) (answer : Result (Unit {0}) End)
-    (new : WithSink FramerState S) : Type 0 where
+pub record FinishesAll {S : Type 0} (law : SinkContract S) (old : WithSink SplitterState S)
+    (answer : Result (Unit {0}) End)
+    (new : WithSink SplitterState S) : Type 0 where
   pub answers : (p : List ℕ) → Reads old.state.reading p
       → Finishes law p (with_sink old.state.reading old.sink) answer (with_sink new.state.reading new.sink)
   pub scanned : OnOk answer ((p : List ℕ) → Reads old.state.reading p

@@ -25,8 +25,8 @@ abbrev pub CountsBy : CountSink → Option Tree → CountSink → Type 0
 CountsBy a None b = (b.headers ≡ one_more a.headers) × (b.features ≡ a.features)
 CountsBy a (Some header) b = (b.features ≡ one_more a.features) × (b.headers ≡ a.headers)
 
-abbrev pub Counts : CountSink → Item → CountSink → Type 0
-Counts a i b = CountsBy a i.header b
+abbrev pub CountsItem : CountSink → Item → CountSink → Type 0
+CountsItem a i b = CountsBy a i.header b
 
 -- ---- some items
 

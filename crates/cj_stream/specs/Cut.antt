@@ -13,7 +13,7 @@ use Rattle.cj_stream.specs.Meaning.Bound.{IsBounded}
 use Rattle.cj_stream.specs.Bound.{IsBelow, IsExact, exact_peaks, first_lines}
 use Rattle.cj_stream.specs.Engine.{EngineState, Counts, Delivers, rules_of, lines_of, refused_of, held_by, peaks_of}
 use Rattle.cj_stream.specs.Reading.{LacksMemory}
-use Rattle.cj_stream.specs.Sink.{SinkLaw, prefixes, TookFront, LeavesNext, AppendsPart}
+use Rattle.cj_stream.specs.Sink.{SinkContract, prefixes, TookFront, LeavesNext, AppendsPart}
 use Rattle.cj_stream.specs.Meaning.Outputs.{Took}
 
 -- a stream that was given in pieces: the rules, all of the pieces, and how many of them were wholly taken
@@ -45,7 +45,7 @@ PutsFront takes then cut s t =
 -- a sink that was given a cut stream: it took what is kept of the whole stream, whose ending is the answer; or, after a
 -- fault, a prefix of it, by the pieces that were given: a write fault leaves of the sink what the next step may, and
 -- refused memory all
-abbrev pub PutsPieces : {S : Type 0} → SinkLaw S → InPieces → End → S → S → Type 0
+abbrev pub PutsPieces : {S : Type 0} → SinkContract S → InPieces → End → S → S → Type 0
 PutsPieces law cut Complete s t = (ending cut.rules (all_of cut) ≡ Complete)
     × Took law.takes s (kept cut.rules (all_of cut)) t
 PutsPieces law cut (Refused number place reason) s t =
@@ -103,38 +103,39 @@ EndsAt rules before pieces n WriteFault = Unit {0}
 EndsAt rules before pieces n Memory = Unit {0}
 
 -- the bytes before, and those of the pieces that were wholly taken; and of these and the next piece
-abbrev pub taken_by : List ℕ → List (List ℕ) → PiecesOutcome → List ℕ
-taken_by before pieces outcome = before ++ joined (take outcome.taken pieces)
+abbrev pub bytes_taken : List ℕ → List (List ℕ) → PiecesOutcome → List ℕ
+bytes_taken before pieces outcome = before ++ joined (take outcome.taken pieces)
 
-abbrev pub given_to : List ℕ → List (List ℕ) → PiecesOutcome → List ℕ
-given_to before pieces outcome = before ++ joined (take (outcome.taken + 1) pieces)
+abbrev pub bytes_given : List ℕ → List (List ℕ) → PiecesOutcome → List ℕ
+bytes_given before pieces outcome = before ++ joined (take (outcome.taken + 1) pieces)
 
 -- An engine that stood for the bytes before, and had not ended, was given these pieces and then the end, until it
 -- ended. So many of the pieces were wholly taken, of which nothing that could be judged was refused, and it counts
--- their bytes. Its other counts are of the lines that it dealt with, of all bytes that were given. Memory is refused
+-- their bytes. Its other counts are of the lines that it handled, of all bytes that were given. Memory is refused
 -- with a valid first line alone. What it is said to have held at most is what its lists have held at most, within the
--- bound for the bytes that were given, no less than the lines that it dealt with need, and exact where the end is
+-- bound for the bytes that were given, no less than the lines that it handled need, and exact where the end is
 -- complete.
 pub record Fed (rules : Rules) (before : List ℕ) (pieces : List (List ℕ)) (outcome : PiecesOutcome)
     (engine : EngineState) : Type 0 where
   pub under : rules_of engine ≡ rules
   pub ended : engine.ended ≡ Some outcome.ended
   pub few : outcome.taken ≤ length pieces
-  pub good : refusal_in rules (judged rules.limits (taken_by before pieces outcome)) ≡ None
+  pub good : refusal_in rules (judged rules.limits (bytes_taken before pieces outcome)) ≡ None
   pub at : EndsAt rules before pieces outcome.taken outcome.ended
-  pub used : engine.taken ≡ length (taken_by before pieces outcome)
+  pub used : engine.taken ≡ length (bytes_taken before pieces outcome)
   pub counts :
-      Counts rules (given_to before pieces outcome) (lines_of engine) engine.reading.kept (refused_of engine)
-  pub memory : outcome.ended ≡ Memory → LacksMemory rules (given_to before pieces outcome) (lines_of engine)
+      Counts rules (bytes_given before pieces outcome) (lines_of engine) engine.reading.kept (refused_of engine)
+  pub memory : outcome.ended ≡ Memory → LacksMemory rules (bytes_given before pieces outcome) (lines_of engine)
   pub peaks : outcome.peaks ≡ peaks_of engine
   pub held : IsBelow (held_by engine) outcome.peaks
-  pub bounded : IsBounded rules.limits (given_to before pieces outcome) outcome.peaks
+  pub bounded : IsBounded rules.limits (bytes_given before pieces outcome) outcome.peaks
   pub least :
-      IsBelow (exact_peaks rules.limits (first_lines (lines_of engine) (given_to before pieces outcome))) outcome.peaks
+      IsBelow (exact_peaks rules.limits (first_lines (lines_of engine) (bytes_given before pieces outcome)))
+      outcome.peaks
   pub exact : outcome.ended ≡ Complete → IsExact rules.limits (before ++ joined pieces) outcome.peaks
 
 -- Pieces that were given after the bytes before. These have this number of first lines of a stream. `lines` counts
--- those that were dealt with in the end.
+-- those that were handled in the end.
 pub record GivenAfter : Type 0 where
   pub before : List ℕ
   pub first : ℕ
@@ -146,7 +147,7 @@ given_after before first cut n = record { before = before; first = first; cut = 
 
 -- A sink took what is kept of the pieces that were wholly taken, after the first lines. No whole line was refused by
 -- then. The end came by the next piece, or after the last one.
-pub record TookWhole {S : Type 0} (law : SinkLaw S) (later : GivenAfter) (s t : S) (e : End) : Type 0 where
+pub record TookWhole {S : Type 0} (law : SinkContract S) (later : GivenAfter) (s t : S) (e : End) : Type 0 where
   pub middle : S
   pub good : refusal_in later.cut.rules (lines (whole (later.before ++ taken_of later.cut))) ≡ None
   pub taken : Delivers law

@@ -5,7 +5,7 @@ use Rattle.cj_budget.specs.Meaning.Limits.{LimitPair}
 use Rattle.cj_budget.specs.declared.limits.Peaks.{Peaks}
 use Rattle.cj_stream.specs.declared.ending.End.{End}
 use Rattle.cj_stream.specs.declared.ending.End.TheVariants.{Complete, Refused, WriteFault, Memory}
-use Rattle.cj_stream.specs.Carrying.{FramerState}
+use Rattle.cj_stream.specs.Carrying.{SplitterState}
 use Rattle.cj_stream.specs.Meaning.Lines.{Line, lines}
 use Rattle.cj_stream.specs.Lines.{closed, first_content, whole, begun_later}
 use Rattle.cj_stream.specs.Meaning.Rules.{Rules}
@@ -15,7 +15,7 @@ use Rattle.cj_stream.specs.Meaning.Bound.{IsBounded, of_first}
 use Rattle.cj_stream.specs.Bound.{IsBelow, tree_size}
 use Rattle.cj_stream.specs.Reading.{Reading, Reads, stored}
 use Rattle.cj_stream.specs.Scanning.{Scanning, Scanned, ListsFailToGrow}
-use Rattle.cj_stream.specs.Sink.{SinkLaw, TookOf}
+use Rattle.cj_stream.specs.Sink.{SinkContract, TookOf}
 
 -- what a contract sees of an engine: the bytes and the tokens that it holds of a stream, the bytes it has taken, and
 -- the end it has come to
@@ -25,8 +25,8 @@ pub record EngineState : Type 0 where
   pub taken : ℕ
   pub ended : Option End
 
--- what is seen of a framer, of the bytes it has taken, and of the end it has come to
-abbrev pub state : FramerState → ℕ → Option End → EngineState
+-- what is seen of a splitter, of the bytes it has taken, and of the end it has come to
+abbrev pub state : SplitterState → ℕ → Option End → EngineState
 state f taken ended = record { reading = f.reading; scanning = f.scanning; taken = taken; ended = ended }
 
 -- the rules that it judges by, and the limits among them
@@ -36,7 +36,7 @@ rules_of e = e.reading.rules
 abbrev pub limits_of : EngineState → LimitPair
 limits_of e = e.reading.rules.limits
 
--- the lines that were dealt with, and those of them that were refused
+-- the lines that were handled, and those of them that were refused
 abbrev pub lines_of : EngineState → ℕ
 lines_of e = e.reading.lines
 
@@ -89,7 +89,7 @@ abbrev pub given : EngineState → List ℕ → List ℕ → List ℕ
 given e p piece = if is_none e.ended then p ++ piece else p
 
 -- what a fault on the line after these may leave, if the end is a write fault, and else nothing
-abbrev pub Faults : {S : Type 0} → SinkLaw S → UpTo → S → S → Option End → Type 0
+abbrev pub Faults : {S : Type 0} → SinkContract S → UpTo → S → S → Option End → Type 0
 Faults law first s t (Some WriteFault) =
     (l : Line) × (slice_get (lines first.bytes) first.lines ≡ Some l)
     × (is_kept (verdict first.rules (take first.lines (lines first.bytes)) l.content) ≡ true)
@@ -97,12 +97,12 @@ Faults law first s t (Some WriteFault) =
 Faults law first s t other = t ≡ s
 
 -- the sink has taken the kept ones of these lines, and after a write fault what that leaves
-pub record Delivers {S : Type 0} (law : SinkLaw S) (part : Stretch) (s t : S) (ended : Option End) : Type 0 where
+pub record Delivers {S : Type 0} (law : SinkContract S) (part : Stretch) (s t : S) (ended : Option End) : Type 0 where
   pub middle : S
   pub took : TookOf law.takes kept_of part s middle
   pub fault : Faults law (up_to part.rules part.bytes part.to) middle t ended
 
--- nothing that could be judged of these bytes was the end: all whole lines are dealt with, and what is held are the
+-- nothing that could be judged of these bytes was the end: all whole lines are handled, and what is held are the
 -- bytes of the first line and of the begun one, unless that is too long, and the tokens of the first line if it is
 -- whole
 pub record Going (e : EngineState) (q : List ℕ) : Type 0 where
@@ -114,15 +114,15 @@ pub record Going (e : EngineState) (q : List ℕ) : Type 0 where
     depth = 0;
   }
 
--- what an end tells of the lines of q that can be judged, after n of them
-abbrev pub Tells : Rules → List ℕ → ℕ → End → Type 0
-Tells rules q n (Refused number place reason) =
+-- what an end says of the lines of q that can be judged, after n of them
+abbrev pub IsEndAfter : Rules → List ℕ → ℕ → End → Type 0
+IsEndAfter rules q n (Refused number place reason) =
     (refusal_in rules (judged rules.limits q) ≡ Some (Refused number place reason)) × (number ≡ n + 1)
-Tells rules q n WriteFault = Unit {0}
-Tells rules q n Memory = Unit {0}
-Tells rules q n other = ⊥
+IsEndAfter rules q n WriteFault = Unit {0}
+IsEndAfter rules q n Memory = Unit {0}
+IsEndAfter rules q n other = ⊥
 
--- what the end of a stream tells of it, after n of its lines: its ending, after all good lines
+-- what the end of a stream says of it, after n of its lines: its ending, after all good lines
 abbrev pub Concludes : Rules → List ℕ → ℕ → End → Type 0
 Concludes rules p n Complete = (ending rules p ≡ Complete) × (n ≡ length (good rules p))
 Concludes rules p n (Refused number place reason) = (ending rules p ≡ Refused number place reason)

@@ -4,16 +4,16 @@ use Rattle.cj_stream.specs.declared.ending.End.{End}
 use Rattle.cj_stream.specs.declared.ending.End.TheVariants.{Complete, WriteFault, Memory}
 use Rattle.cj_stream.specs.Bound.{IsBelow, IsExact, exact_peaks, first_lines}
 use Rattle.cj_stream.specs.Engine.{EngineState, StandsFor, EngineFailsToGrow, given, rules_of, limits_of, lines_of}
-use Rattle.cj_stream.specs.Engine.{peaks_of, Delivers, Going, Tells, Concludes}
+use Rattle.cj_stream.specs.Engine.{peaks_of, Delivers, Going, IsEndAfter, Concludes}
 use Rattle.cj_stream.specs.Reading.{LacksMemory}
-use Rattle.cj_stream.specs.Sink.{SinkLaw, WithSink, HasRisen}
+use Rattle.cj_stream.specs.Sink.{SinkContract, WithSink, HasRisen}
 use Rattle.cj_stream.specs.Verdict.{stretch}
 
 -- These bytes were given, and this was answered. An error is the end of the stream, and a write fault has its cause in
 -- the sink. What it stands for and may hold goes on, no line is taken back, and no less was held at most than the lines
--- that were dealt with need. The answer tells of all bytes so far: that nothing was refused that could be judged, or
+-- that were handled need. The answer is of all bytes so far: that nothing was refused that could be judged, or
 -- what was, or where memory lacks, because of a growth that failed, and what the sink has taken by that.
-pub record Feeds {S : Type 0} (law : SinkLaw S) (bytes : List ℕ) (old : WithSink EngineState S)
+pub record Feeds {S : Type 0} (law : SinkContract S) (bytes : List ℕ) (old : WithSink EngineState S)
     (answer : Result (Unit {0}) End) (new : WithSink EngineState S) : Type 0 where
   pub unended : OnOk answer (new.state.ended ≡ None)
   pub ended : IfErr answer (λ e. new.state.ended ≡ Some e)
@@ -27,8 +27,8 @@ pub record Feeds {S : Type 0} (law : SinkLaw S) (bytes : List ℕ) (old : WithSi
   pub least : (p : List ℕ) → StandsFor old.state p → old.state.ended ≡ None
       → IsBelow (exact_peaks (limits_of old.state) (first_lines (lines_of new.state) (p ++ bytes))) (peaks_of new.state)
   pub going : OnOk answer ((p : List ℕ) → StandsFor old.state p → Going new.state (p ++ bytes))
-  pub told : IfErr answer (λ e. (p : List ℕ) → StandsFor old.state p → old.state.ended ≡ None
-      → Tells (rules_of old.state) (p ++ bytes) (lines_of new.state) e)
+  pub said : IfErr answer (λ e. (p : List ℕ) → StandsFor old.state p → old.state.ended ≡ None
+      → IsEndAfter (rules_of old.state) (p ++ bytes) (lines_of new.state) e)
   pub memory : (p : List ℕ) → StandsFor old.state p → old.state.ended ≡ None → IsErrOf answer Memory
       → LacksMemory (rules_of old.state) (p ++ bytes) (lines_of new.state) × (new.sink ≡ old.sink)
   pub growth : old.state.ended ≡ None → IsErrOf answer Memory → EngineFailsToGrow old.state new.state
@@ -38,9 +38,9 @@ pub record Feeds {S : Type 0} (law : SinkLaw S) (bytes : List ℕ) (old : WithSi
 
 -- The stream ended here, and this was answered, which is never want of memory. A write fault has its cause in the sink.
 -- What it stands for and may hold goes on, no line is taken back, and no less was held at most than the lines that were
--- dealt with need. The answer is the ending of all bytes, after all good lines, with what was held at most where it is
+-- handled need. The answer is the ending of all bytes, after all good lines, with what was held at most where it is
 -- complete, and what the sink has taken by that.
-pub record IsFinished {S : Type 0} (law : SinkLaw S) (old : WithSink EngineState S) (answer : End)
+pub record IsFinished {S : Type 0} (law : SinkContract S) (old : WithSink EngineState S) (answer : End)
     (new : WithSink EngineState S) : Type 0 where
   pub ended : new.state.ended ≡ Some answer
   pub counts : law.failures old.sink ≤ law.failures new.sink

@@ -65,12 +65,12 @@ AreRuns keys [] = keys ≡ []
 AreRuns keys (n ∷ ns) = (n ≤ length keys) × Ascend (take n keys) × AreRuns (drop n keys) ns
 
 -- a text may be cut where the id of an entry begins and where it ends
-abbrev pub IsCut : List ℕ → Entry → Type 0
-IsCut bytes entry = (entry.start ≤ entry.end) × IsCharBoundary bytes entry.start × IsCharBoundary bytes entry.end
+abbrev pub IsSlice : List ℕ → Entry → Type 0
+IsSlice bytes entry = (entry.start ≤ entry.end) × IsCharBoundary bytes entry.start × IsCharBoundary bytes entry.end
 
 -- ids of these lengths follow one another, each has its entry, and the entries are in runs of these lengths
 pub record AreIndexed (bytes : List ℕ) (lengths : List ℕ) (entries : List Entry) (runs : List ℕ) : Type 0 where
   pub held : sum lengths ≡ length bytes
-  pub within : All (IsCut bytes) entries
+  pub within : All (IsSlice bytes) entries
   pub each : IsPermutation (keys_of (pieces bytes lengths)) (keys_at bytes entries)
   pub ordered : AreRuns (keys_at bytes entries) runs

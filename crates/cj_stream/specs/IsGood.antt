@@ -8,7 +8,7 @@ use Rattle.cj_stream.specs.Meaning.Rules.{Rules}
 use Rattle.cj_stream.specs.Verdict.{verdict, refusal_of}
 
 -- these are a prefix of all
-pub record IsFront (ls all : List Line) : Type 0 where
+pub record ArePrefix (ls all : List Line) : Type 0 where
   pub rest : List Line
   pub whole : all ≡ ls ++ rest
 
@@ -19,9 +19,9 @@ NoneRefused rules ls = (before : List Line) (l : Line) (after : List Line) → l
 
 -- the longest prefix of the lines of a stream in which no refusal is an end
 pub record AreGood (rules : Rules) (s : List ℕ) (ls : List Line) : Type 0 where
-  pub front : IsFront ls (lines s)
+  pub front : ArePrefix ls (lines s)
   pub unrefused : NoneRefused rules ls
-  pub longest : (others : List Line) → IsFront others (lines s) → NoneRefused rules others → length others ≤ length ls
+  pub longest : (others : List Line) → ArePrefix others (lines s) → NoneRefused rules others → length others ≤ length ls
 
 -- the end of a stream of which all lines are handled: it is complete, but for a stream without a line
 abbrev pub EndsWell : List Line → End → Type 0

@@ -1,4 +1,4 @@
--- What is told of a line as a text, and what its tokens show.
+-- What is said of a line as a text, and what its tokens show.
 use Rattle.std.specs.Prelude.{◌≡◌, ℕ, ◌<◌, ◌≤◌, List, length, Option, Some, Result, Ok, Err, false, IsTrue}
 use Rattle.cj_spans.specs.declared.finding.Finding.{Finding}
 use Rattle.cj_spans.specs.declared.token.Token.{Token}
@@ -51,6 +51,6 @@ pub record KeepsHeader (c : List ℕ) (rules : Rules) (tokens : List Token) (par
   pub parts_of : ArePartsOf (tree_of rules.limits.depth c) known
   pub for_box : parts_box known ≡ needs_box rules.criteria
 
--- once the first line was dealt with, the header is kept
+-- once the first line was handled, the header is kept
 abbrev pub KeepsFirst : Reading → Scanning → Option HeaderParts → Type 0
 KeepsFirst f s parts = 0 < f.lines → KeepsHeader f.header.elements f.rules s.header.elements parts

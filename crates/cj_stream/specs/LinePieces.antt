@@ -15,7 +15,7 @@ use Rattle.cj_stream.specs.Ending.{line_end}
 use Rattle.cj_stream.specs.Items.{Item, raw_item}
 use Rattle.cj_stream.specs.Meaning.Headline.{Fate}
 use Rattle.cj_stream.specs.Meaning.Outputs.{Outputs, Took}
-use Rattle.cj_stream.specs.Sink.{SinkLaw, prefixes, TookFront, LeavesNext, AppendsPart, HasRisen}
+use Rattle.cj_stream.specs.Sink.{SinkContract, prefixes, TookFront, LeavesNext, AppendsPart, HasRisen}
 use Rattle.cj_stream.specs.Meaning.Rules.{Rules}
 use Rattle.cj_stream.specs.Verdict.{kept, kept_first, reported, reported_first, ending}
 
@@ -34,7 +34,7 @@ reported_after rules n s = drop (length (reported_first rules n s)) (reported ru
 abbrev pub pieces_outcome : LinesOutcome → PiecesOutcome
 pieces_outcome o = record { taken = o.taken; peaks = o.peaks; ended = line_end o.ended }
 
--- pieces of a stream after the bytes before, whose lines were dealt with; `lines` counts these
+-- pieces of a stream after the bytes before, whose lines were handled; `lines` counts these
 pub record LaterPieces : Type 0 where
   pub rules : Rules
   pub before : List ℕ
@@ -57,7 +57,7 @@ later_given later k = later.before ++ joined (take (k + 1) later.pieces)
 -- A sink that was given these pieces. Unless a step of it failed, the end is the ending of the whole stream, and it
 -- took what is kept of it after those lines. After a fault it took a prefix of that, of the pieces that were given,
 -- with all that is kept of the whole lines of those that were wholly taken, and then what the failed step leaves.
-pub record PutsLines {S : Type 0} (law : SinkLaw S) (later : LaterPieces) (outcome : LinesOutcome) (s t : S) :
+pub record PutsLines {S : Type 0} (law : SinkContract S) (later : LaterPieces) (outcome : LinesOutcome) (s t : S) :
     Type 0 where
   pub ends : outcome.ended ≢ WriteFault → line_end outcome.ended ≡ ending later.rules (later_whole later)
   pub took : outcome.ended ≢ WriteFault → Took law.takes s (kept_after later.rules later.lines (later_whole later)) t
@@ -86,10 +86,10 @@ pub record CopiesLines (later : LaterPieces) (outcome : LinesOutcome) (old new :
   pub more : outcome.ended ≡ WriteFault
       → AppendsMore old new (output_after later.rules later.lines (whole (later_taken later outcome.taken)))
 
--- The headline of a stream whose first n lines were dealt with: there is no case for want of memory. Where no write
+-- The headline of a stream whose first n lines were handled: there is no case for want of memory. Where no write
 -- failed, the writer has got exactly what the output has after those lines, what is reported of the others was noted,
--- and the end is the ending of the whole; a write fault is told only where a write has failed; and whatever came, what
--- was held is within the bound, and told at a complete end.
+-- and the end is the ending of the whole; there is a write fault only where a write has failed; and whatever came, what
+-- was held is within the bound, and exact at a complete end.
 pub record HeadlineOfLines {N : Type 0} (notes : N → Report → N → Type 0) (n : ℕ) (fate : Fate LineEnd)
     (old new : Outputs N) : Type 0 where
   pub writes : fate.end ≢ WriteFault

@@ -5,7 +5,7 @@ use Rattle.cj_stream.specs.declared.output.Output.{Output}
 use Rattle.cj_stream.specs.declared.output.WriteFault.{WriteFault}
 use Rattle.cj_stream.specs.Items.{raw_item}
 use Rattle.cj_stream.specs.Meaning.Outputs.{Outputs}
-use Rattle.cj_stream.specs.Sink.{SinkLaw, AppendsPart}
+use Rattle.cj_stream.specs.Sink.{SinkContract, AppendsPart}
 
 -- the writer
 abbrev pub output_writer : {W : Type 0} → Output W → W
@@ -39,7 +39,7 @@ channel contents o = record {
 }
 
 -- the law of a sink that writes: the bytes that it holds grow by those of an item, and a fault leaves a prefix of these
-abbrev pub writes_law : {S : Type 0} → (S → Option (List ℕ)) → (S → ℕ) → SinkLaw S
+abbrev pub writes_law : {S : Type 0} → (S → Option (List ℕ)) → (S → ℕ) → SinkContract S
 writes_law contents failures = record {
   takes = λ a i b. Appends (contents a) (contents b) (raw_item i);
   leaves = λ a i b. AppendsPart (contents a) (contents b) (raw_item i);
@@ -47,5 +47,5 @@ writes_law contents failures = record {
 }
 
 -- that of an output, which writes to its writer
-abbrev pub output_law : {W : Type 0} → (W → Option (List ℕ)) → SinkLaw (Output W)
+abbrev pub output_law : {W : Type 0} → (W → Option (List ℕ)) → SinkContract (Output W)
 output_law contents = writes_law (λ o. contents (output_writer o)) output_failures

@@ -6,8 +6,8 @@ use Rattle.std.specs.Prelude.{slice_get}
 use Rattle.cj_budget.specs.Bounded.{BoundedList, IsWithin, Becomes}
 use Rattle.cj_budget.specs.Meaning.Limits.{LimitPair}
 use Rattle.cj_budget.specs.Limits.{InLine}
-use Rattle.cj_stream.specs.declared.desk.Desk.{Desk}
-use Rattle.cj_stream.specs.declared.store.Store.{Store}
+use Rattle.cj_stream.specs.declared.validator.Validator.{Validator}
+use Rattle.cj_stream.specs.declared.line_buffer.LineBuffer.{LineBuffer}
 use Rattle.cj_spans.specs.declared.reason.Reason.TheVariants.{NoHeader, LineTooLong}
 use Rattle.cj_stream.specs.declared.ending.End.{End}
 use Rattle.cj_stream.specs.declared.ending.End.TheVariants.{Refused, WriteFault, Memory}
@@ -22,9 +22,9 @@ use Rattle.cj_stream.specs.Verdict.{verdict_at, verdict, item_after, is_kept, go
 use Rattle.cj_stream.specs.Verdict.{rulings_closed}
 use Rattle.cj_stream.specs.Meaning.Bound.{greatest}
 use Rattle.cj_stream.specs.Bound.{held_length}
-use Rattle.cj_stream.specs.Sink.{SinkLaw, WithSink, TookMore}
+use Rattle.cj_stream.specs.Sink.{SinkContract, WithSink, TookMore}
 
--- the rules, the content of the first line, the content of a later line that has begun, how many lines were dealt with,
+-- the rules, the content of the first line, the content of a later line that has begun, how many lines were handled,
 -- how many features were kept and how many lines refused, and whether the begun line is dropped since it is too long
 pub record Reading : Type 0 where
   pub rules : Rules
@@ -36,7 +36,7 @@ pub record Reading : Type 0 where
   pub dropped : Bool
 
 -- what is held of bytes, beside what they are judged by, how many features were kept and how many lines refused
-abbrev pub reading : Store → Desk → ℕ → ℕ → Reading
+abbrev pub reading : LineBuffer → Validator → ℕ → ℕ → Reading
 reading s d kept refused = record {
   rules = rules_for d.limits d.query.now d.options;
   header = s.header;
@@ -76,8 +76,8 @@ pub record IsBegun (f : Reading) (c : List ℕ) : Type 0 where
   pub dropped : f.dropped ≡ nat_lt f.rules.limits.line (length c)
 
 -- the verdict on the begun line, by what is known of it
-abbrev pub told_verdict : Reading → Verdict
-told_verdict f = if f.dropped then Invalid f.rules.limits.line LineTooLong else next_verdict f (begun_of f)
+abbrev pub begun_verdict : Reading → Verdict
+begun_verdict f = if f.dropped then Invalid f.rules.limits.line LineTooLong else next_verdict f (begun_of f)
 
 -- the line limit is in range, both lists have it, and no more features are kept, nor lines refused, than there are
 -- lines
@@ -122,8 +122,8 @@ pub record Stores (old : Reading) (part : List ℕ) (new : Reading) : Type 0 whe
   pub refused : new.refused ≡ old.refused
   pub grows : Fits old part new ⊎ Drops old part new ⊎ StaysDropped old new
 
--- the begun line was dealt with, and put to the sink or not, and refused or not
-pub record Passes (put refuses : Bool) (old new : Reading) : Type 0 where
+-- the begun line was handled, and put to the sink or not, and refused or not
+pub record EndsLine (put refuses : Bool) (old new : Reading) : Type 0 where
   pub rules : new.rules ≡ old.rules
   pub lines : new.lines ≡ old.lines + 1
   pub kept : new.kept ≡ (if put && nat_lt 0 old.lines then old.kept + 1 else old.kept)
@@ -133,13 +133,13 @@ pub record Passes (put refuses : Bool) (old new : Reading) : Type 0 where
   pub line : Becomes old.line [] new.line
 
 -- the same, with more room for later lines, or not, and this count of failed growths
-abbrev pub widened : Reading → Bool → ℕ → Reading
-widened f room failed = record f { line = record f.line { reserved = room; failed_growths = failed } }
+abbrev pub with_room : Reading → Bool → ℕ → Reading
+with_room f room failed = record f { line = record f.line { reserved = room; failed_growths = failed } }
 
 -- nothing has changed but that there may be more room for later lines, or that a growth of it failed
 pub record IsLeft (f g : Reading) : Type 0 where
   pub room : IsTrue f.line.reserved → IsTrue g.line.reserved
-  pub same : g ≡ widened f g.line.reserved g.line.failed_growths
+  pub same : g ≡ with_room f g.line.reserved g.line.failed_growths
 
 -- what a line is judged as: its number, whether reading goes on after it if it is refused, the verdict on it, and the
 -- item that it is
@@ -153,29 +153,29 @@ judged_next f on v l = JudgedAs (f.lines + 1) on v (next_item f l)
 abbrev pub judged_begun : Reading → Bool → Verdict → Bool → DueLine
 judged_begun f on v lf = judged_next f on v (record { content = begun_of f; lf = lf })
 
--- a line was refused, which would be this end: where reading goes on after it, it is dealt with, and else it is the end
+-- a line was refused, which would be this end: where reading goes on after it, it is handled, and else it is the end
 abbrev pub Refuses : Bool → End → Reading → Result (Unit {0}) End → Reading → Type 0
-Refuses true e old answer new = (answer ≡ Ok tt) × Passes false true old new
+Refuses true e old answer new = (answer ≡ Ok tt) × EndsLine false true old new
 Refuses false e old answer new = (answer ≡ Err e) × (new ≡ old)
 
 -- what comes of a line, by its verdict
-abbrev pub Deals : {S : Type 0} → SinkLaw S → DueLine → WithSink Reading S → Result (Unit {0}) End
+abbrev pub HandlesLine : {S : Type 0} → SinkContract S → DueLine → WithSink Reading S → Result (Unit {0}) End
     → WithSink Reading S → Type 0
-Deals law (JudgedAs number on (Invalid place reason) i) old answer new =
+HandlesLine law (JudgedAs number on (Invalid place reason) i) old answer new =
     Refuses on (Refused number place reason) old.state answer new.state × (new.sink ≡ old.sink)
-Deals law (JudgedAs number on Blank i) old answer new =
-    (answer ≡ Ok tt) × Passes false false old.state new.state × (new.sink ≡ old.sink)
-Deals law (JudgedAs number on LeftOut i) old answer new =
-    (answer ≡ Ok tt) × Passes false false old.state new.state × (new.sink ≡ old.sink)
-Deals law (JudgedAs number on Kept i) old answer new =
-    MatchResult answer (λ _. Passes true false old.state new.state × law.takes old.sink i new.sink)
+HandlesLine law (JudgedAs number on Blank i) old answer new =
+    (answer ≡ Ok tt) × EndsLine false false old.state new.state × (new.sink ≡ old.sink)
+HandlesLine law (JudgedAs number on LeftOut i) old answer new =
+    (answer ≡ Ok tt) × EndsLine false false old.state new.state × (new.sink ≡ old.sink)
+HandlesLine law (JudgedAs number on Kept i) old answer new =
+    MatchResult answer (λ _. EndsLine true false old.state new.state × law.takes old.sink i new.sink)
     (λ e. (e ≡ WriteFault) × IsLeft old.state new.state × law.leaves old.sink i new.sink)
 
 -- what comes of a line with this verdict, or no memory was granted for later lines, and nothing comes of it; so it is
 -- only with a valid first line that LF ended
-abbrev pub Settles : {S : Type 0} → SinkLaw S → DueLine → WithSink Reading S → Result (Unit {0}) End
+abbrev pub Handles : {S : Type 0} → SinkContract S → DueLine → WithSink Reading S → Result (Unit {0}) End
     → WithSink Reading S → Type 0
-Settles law (JudgedAs number on v i) old answer new = Deals law (JudgedAs number on v i) old answer new
+Handles law (JudgedAs number on v i) old answer new = HandlesLine law (JudgedAs number on v i) old answer new
     ⊎ ((answer ≡ Err Memory) × IsLeft old.state new.state × (new.sink ≡ old.sink) × (old.state.lines ≡ 0)
     × (v ≡ Kept) × (i.line.lf ≡ true))
 
@@ -202,7 +202,7 @@ abbrev pub further : List ℕ → List ℕ → Further
 further read more = record { read = read; more = more }
 
 -- the further bytes have been read too, and the sink has what is kept of them
-pub record Advances {S : Type 0} (law : SinkLaw S) (bytes : Further) (old new : WithSink Reading S) : Type 0 where
+pub record Advances {S : Type 0} (law : SinkContract S) (bytes : Further) (old new : WithSink Reading S) : Type 0 where
   pub rules : new.state.rules ≡ old.state.rules
   pub reads : Reads new.state (bytes.read ++ bytes.more)
   pub puts : TookMore law.takes kept_of (rulings_closed old.state.rules bytes.read)
@@ -213,7 +213,7 @@ abbrev pub IsNext : LimitPair → List ℕ → List ℕ → Line → Type 0
 IsNext limits p q l = (others : List Line) × (judged limits q ≡ map ended_line (closed p) ++ l ∷ others)
 
 -- no memory was granted for later lines, after n lines of q: the first line is valid and LF ended it, and no line was
--- dealt with
+-- handled
 pub record LacksMemory (rules : Rules) (q : List ℕ) (n : ℕ) : Type 0 where
   pub none : n ≡ 0
   pub header : List ℕ
@@ -230,12 +230,12 @@ pub record StopAt : Type 0 where
 abbrev pub stop_at : Rules → List ℕ → List ℕ → ℕ → StopAt
 stop_at rules done all n = record { rules = rules; done = done; all = all; lines = n }
 
--- the lines that were dealt with there
+-- the lines that were handled there
 abbrev pub lines_done : StopAt → List Line
 lines_done at = map ended_line (closed at.done)
 
 -- why reading stopped there, and what the sink is then
-abbrev pub HasCause : {S : Type 0} → SinkLaw S → StopAt → S → S → End → Type 0
+abbrev pub HasCause : {S : Type 0} → SinkContract S → StopAt → S → S → End → Type 0
 HasCause law at s t (Refused number place reason) =
     (l : Line) × IsNext at.rules.limits at.done at.all l × (number ≡ at.lines + 1)
     × (verdict at.rules (lines_done at) l.content ≡ Invalid place reason) × (t ≡ s)
@@ -248,7 +248,7 @@ HasCause law at s t Memory = (t ≡ s) × LacksMemory at.rules at.all at.lines
 HasCause law at s t other = ⊥
 
 -- reading stopped within the further bytes
-pub record Stops {S : Type 0} (law : SinkLaw S) (bytes : Further) (old : WithSink Reading S) (end : End)
+pub record Stops {S : Type 0} (law : SinkContract S) (bytes : Further) (old : WithSink Reading S) (end : End)
     (new : WithSink Reading S) : Type 0 where
   pub done : List ℕ
   pub left : List ℕ
@@ -268,15 +268,15 @@ pub record Stays (f g : Reading) : Type 0 where
   pub line_rises : f.line.peak ≤ g.line.peak
 
 -- what comes of the end of a stream, where this is the begun line: of a last line, and of a stream without one
-abbrev pub FinishesWith : {S : Type 0} → SinkLaw S → List ℕ → WithSink Reading S → Result (Unit {0}) End
+abbrev pub FinishesWith : {S : Type 0} → SinkContract S → List ℕ → WithSink Reading S → Result (Unit {0}) End
     → WithSink Reading S → Type 0
 FinishesWith law [] old answer new =
     (answer ≡ (if old.state.lines == 0 then Err (Refused 1 0 NoHeader) else Ok tt))
     × (new.state ≡ old.state) × (new.sink ≡ old.sink)
 FinishesWith law (b ∷ c) old answer new =
-    Settles law (judged_next old.state (is_lenient old.state) (next_verdict old.state (b ∷ c))
+    Handles law (judged_next old.state (is_lenient old.state) (next_verdict old.state (b ∷ c))
     (record { content = b ∷ c; lf = false })) old answer new
 
-abbrev pub Finishes : {S : Type 0} → SinkLaw S → List ℕ → WithSink Reading S → Result (Unit {0}) End
+abbrev pub Finishes : {S : Type 0} → SinkContract S → List ℕ → WithSink Reading S → Result (Unit {0}) End
     → WithSink Reading S → Type 0
 Finishes law p old answer new = FinishesWith law (begun p) old answer new

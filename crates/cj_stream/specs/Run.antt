@@ -21,7 +21,7 @@ use Rattle.cj_stream.specs.Meaning.Headline.{Fate, Headline}
 use Rattle.cj_stream.specs.Engine.{EngineState, Counts, Delivers, lines_of, refused_of, peaks_of}
 use Rattle.cj_stream.specs.Reading.{LacksMemory}
 use Rattle.cj_stream.specs.ReportSink.{Notes, NotesRun}
-use Rattle.cj_stream.specs.Sink.{SinkLaw, prefixes, TookFront, LeavesNext, AppendsPart}
+use Rattle.cj_stream.specs.Sink.{SinkContract, prefixes, TookFront, LeavesNext, AppendsPart}
 use Rattle.cj_stream.specs.Meaning.Outputs.{Outputs, Took}
 
 -- what became of a stream
@@ -44,7 +44,7 @@ outcome_of e end = record {
   ended = end;
 }
 
--- what the end of a run tells of the bytes r that it read, after n of their lines; `at_end` says that r is all there
+-- what the end of a run says of the bytes r that it read, after n of their lines; `at_end` says that r is all there
 -- was. A line is refused before that only if LF ended it or it is too long. Reading was cut short where a read failed,
 -- or the reads ran out.
 abbrev pub Ends : Rules → List ℕ → ℕ → Type 0 → End → Type 0
@@ -74,7 +74,7 @@ pub record CountsAll (rules : Rules) (s : List ℕ) (outcome : Outcome) : Type 0
 -- what a sink took of the bytes that were read, by the end of the run: what is kept of them, or of their whole lines
 -- where a read failed or the reads ran out; or a prefix of that, and then what a failed step of the next one may leave,
 -- or nothing more where memory was refused
-abbrev pub Puts : {S : Type 0} → SinkLaw S → Stream → End → S → S → Type 0
+abbrev pub Puts : {S : Type 0} → SinkContract S → Stream → End → S → S → Type 0
 Puts law r Complete s t = Took law.takes s (kept r.rules r.bytes) t
 Puts law r (Refused number place reason) s t = Took law.takes s (kept r.rules r.bytes) t
 Puts law r WriteFault s t =
@@ -107,7 +107,7 @@ IsLastRead Memory last = length last ≤ 8192
 IsLastRead other last = last ≡ []
 
 -- why memory was refused to a run: its reader was not read, as `at_start` says, and nothing was held; or the first line
--- is valid, LF ended it, and no line was dealt with
+-- is valid, LF ended it, and no line was handled
 abbrev pub LacksRoom : Run → Type 0 → Type 0
 LacksRoom run at_start =
     (at_start × (run.read ≡ []) × (run.outcome.peaks ≡ record { bytes = 0; tokens = 0; depth = 0 }))
@@ -123,9 +123,9 @@ HeldBegun run Memory = Unit {0}
 HeldBegun run cut_short = (exact_peaks run.rules.limits run.read).bytes ≤ run.outcome.peaks.bytes
 
 -- A run stops in time. Before its last read nothing that can be judged of what it had read was refused; and all whole
--- lines were dealt with, so no write had failed, and no memory was refused. After a read fault, and where the reads ran
+-- lines were handled, so no write had failed, and no memory was refused. After a read fault, and where the reads ran
 -- out, this is so of all that it read. Memory is refused before a read, or by a valid first line; `at_start` says that
--- the reader is as before. No less was held at most than the lines that were dealt with need.
+-- the reader is as before. No less was held at most than the lines that were handled need.
 pub record StopsInTime (run : Run) (at_start : Type 0) : Type 0 where
   pub front : List ℕ
   pub last : List ℕ
@@ -137,9 +137,9 @@ pub record StopsInTime (run : Run) (at_start : Type 0) : Type 0 where
   pub least : IsBelow (exact_peaks run.rules.limits (first_lines run.outcome.lines run.read)) run.outcome.peaks
   pub begun : HeldBegun run run.outcome.ended
 
--- a run from one state of a sink to another: its account, and what the sink took, by the lines that were dealt with and
+-- a run from one state of a sink to another: its account, and what the sink took, by the lines that were handled and
 -- by the end
-pub record Runs {S : Type 0} (law : SinkLaw S) (run : Run) (at_end : Type 0) (old new : S) : Type 0 where
+pub record Runs {S : Type 0} (law : SinkContract S) (run : Run) (at_end : Type 0) (old new : S) : Type 0 where
   pub account : Account run at_end
   pub sink : Delivers law (stretch run.rules run.read 0 run.outcome.lines) old new (Some run.outcome.ended)
   pub puts : Puts law (stream_of run.rules run.read) run.outcome.ended old new
@@ -186,7 +186,7 @@ pub record WritesNext (first : UpTo) (old new : Option (List ℕ)) : Type 0 wher
   pub cut : raw line ≡ front ++ rest
   pub grows : Appends old new (output_first first.rules first.lines first.bytes ++ front)
 
--- the same by the lines that were dealt with: their output, and a prefix of the next one where its write failed; and
+-- the same by the lines that were handled: their output, and a prefix of the next one where its write failed; and
 -- where memory was refused nothing, of no line
 abbrev pub WritesLines : UpTo → End → Option (List ℕ) → Option (List ℕ) → Type 0
 WritesLines first WriteFault old new = WritesNext first old new

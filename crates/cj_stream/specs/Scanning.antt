@@ -10,7 +10,7 @@ use Rattle.cj_budget.specs.Limits.{InDepth}
 use Rattle.cj_spans.specs.declared.token.Token.{Token}
 use Rattle.cj_spans.specs.Meaning.Judgement.{judged_size, judged_nest}
 use Rattle.cj_spans.proofs.Judgements.{judgement}
-use Rattle.cj_stream.specs.declared.desk.Desk.{Desk}
+use Rattle.cj_stream.specs.declared.validator.Validator.{Validator}
 use Rattle.cj_stream.specs.Lines.{closed, first_of, later_of}
 use Rattle.cj_stream.specs.Reading.{Reading, IsBegun}
 use Rattle.cj_stream.specs.Bound.{tree_size, tree_nest, is_readable}
@@ -22,8 +22,8 @@ pub record Scanning : Type 0 where
   pub line : BoundedList Token
   pub opened : BoundedList ℕ
 
--- what a desk holds of trees
-abbrev pub scanning : Desk → Scanning
+-- what a validator holds of trees
+abbrev pub scanning : Validator → Scanning
 scanning d = record { header = d.header_tokens; line = d.line_tokens; opened = d.opened }
 
 -- the depth limit is in range, no list is longer than its peak, nor the peak above the limit, which is what a line
@@ -46,7 +46,7 @@ pub record HasHeld (all : Bool) (count peak : ℕ) : Type 0 where
 abbrev pub are_readable : LimitPair → List (List ℕ) → Bool
 are_readable limits cs = list_all (is_readable limits) (later_of cs)
 
--- the lines with these contents were dealt with: the tokens of the first are held, and of the later ones none; what
+-- the lines with these contents were handled: the tokens of the first are held, and of the later ones none; what
 -- was held at most is exact, unless a later line cannot be read, and within what the bytes allow
 pub record Scanned (limits : LimitPair) (cs : List (List ℕ)) (s : Scanning) : Type 0 where
   pub header : length s.header.elements ≡ of_first (tree_size limits) cs
@@ -76,7 +76,7 @@ pub record HeldUntil (limits : LimitPair) (p more : List ℕ) (n : ℕ) (s : Sca
   pub lines : n ≡ length (closed (p ++ done))
   pub held : HeldAll limits (closed (p ++ done)) s
 
--- the begun line of f was dealt with: what is held of trees is that of one line more, whatever lines came before it
+-- the begun line of f was handled: what is held of trees is that of one line more, whatever lines came before it
 abbrev pub ScansNext : Reading → Scanning → Scanning → Type 0
 ScansNext f old new = (cs : List (List ℕ)) (c : List ℕ) → length cs ≡ f.lines → IsBegun f c
     → Scanned f.rules.limits cs old → Scanned f.rules.limits (cs ++ c ∷ []) new
@@ -137,7 +137,7 @@ abbrev pub ListsFailToGrow : Reading → Scanning → Reading → Scanning → T
 ListsFailToGrow f s g t =
     HasRisen f.line.failed_growths g.line.failed_growths ⊎ HasRisen s.line.failed_growths t.line.failed_growths
 
--- the lists of a line that was dealt with are emptied
+-- the lists of a line that was handled are emptied
 pub record Forgets (old new : Scanning) : Type 0 where
   pub header : new.header ≡ old.header
   pub line : Becomes old.line [] new.line

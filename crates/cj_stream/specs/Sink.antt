@@ -8,13 +8,13 @@ pub use Rattle.cj_budget.specs.Meaning.Counts.{HasRisen}
 pub use Rattle.cj_budget.specs.Counts.{counted}
 
 -- the law of a sink: what one whole item makes of it, what a fault may leave of it, and how often its device has failed
-pub record SinkLaw (S : Type 0) : Type 1 where
+pub record SinkContract (S : Type 0) : Type 1 where
   pub takes : S → Item → S → Type 0
   pub leaves : S → Item → S → Type 0
   pub failures : S → ℕ
 
 -- the law of a sink that never fails
-abbrev pub never_fails : {S : Type 0} → (S → Item → S → Type 0) → SinkLaw S
+abbrev pub never_fails : {S : Type 0} → (S → Item → S → Type 0) → SinkContract S
 never_fails takes = record { takes = takes; leaves = λ old i new. ⊥; failures = λ s. 0 }
 
 -- what is held of a stream, and the sink that its lines go to

@@ -1,4 +1,4 @@
--- What holds where nothing is told: all features are asked for, and no option is set.
+-- What holds where nothing is asked for: all features are asked for, and no option is set.
 use Rattle.std.specs.Prelude.{false, None}
 use Rattle.cj_stream.specs.Meaning.Criteria.{Criteria}
 use Rattle.cj_stream.specs.Meaning.Rules.{OptionSet}

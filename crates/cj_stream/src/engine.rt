@@ -1,13 +1,13 @@
 //! The engine: it takes a stream in pieces, and puts each kept line to a sink.
 //!
 //! It is in one of two states. In the first it reads the header, and in the second the later lines.
-//! How many lines were dealt with says which: none, or at least one. In the first state the framer
+//! How many lines were handled says which: none, or at least one. In the first state the splitter
 //! may allocate, so an end may be a lack of memory. In the second it never allocates.
 //!
 //! [`crate::HeaderReader`] and [`crate::LineReader`] are the same two states as types. Each is over
-//! a framer too, and promises the same of a piece and of the end (`Feeds`, `IsFinished`).
+//! a splitter too, and promises the same of a piece and of the end (`Feeds`, `IsFinished`).
 //!
-//! A piece that ends the stream is not counted as taken, even if some of its lines were dealt with.
+//! A piece that ends the stream is not counted as taken, even if some of its lines were handled.
 ghost use Rattle.std.specs.Prelude.{◌≡◌, ◌≢◌, ◌+◌, ◌++◌, ◌^◌, ◌≤◌, ◌<◌, ℕ, List, [], length, OnOk, OnErr, IfOk, Some};
 ghost use Rattle.std.specs.Prelude.{None, Err};
 ghost use Rattle.cj_stream.specs.Feeding.{Feeds, IsFinished};
@@ -18,7 +18,7 @@ ghost use Rattle.cj_stream.specs.Sink.{with_sink};
 ghost use Rattle.cj_stream.specs.Verdict.{stretch};
 
 use crate::ending::{End, HeaderEnd, LineEnd};
-use crate::framer::Framer;
+use crate::line_splitter::LineSplitter;
 use crate::options::Options;
 use crate::query::Query;
 use crate::report_sink::ReportSink;
@@ -32,7 +32,7 @@ use std::marker::Model;
 /// After an end, every call returns that end again and changes nothing.
 #[derive(Drop)]
 pub struct Engine<'q> {
-    framer: Framer<'q>,
+    splitter: LineSplitter<'q>,
     taken: u64,
     ended: Option<End>,
 }
@@ -45,12 +45,12 @@ impl<'q> Model for Engine<'q> {
 
     ghost Value = { EngineState };
 
-    ghost view = { λ e. state e.framer e.taken e.ended };
+    ghost view = { λ e. state e.splitter e.taken e.ended };
 
-    ghost invariant = { λ e. (e.ended ≡ None → e.framer.reading.lines ≤ e.taken) × (e.taken ≤ 2 ^ 60)
-        × (e.ended ≡ None → IsReady e.framer.reading e.framer.scanning)
-        × (e.ended ≡ None → e.framer.reading.lines ≡ 0 → e.framer.reading.dropped ≡ false)
-        × (e.ended ≡ Some Memory → e.framer.reading.lines ≡ 0) };
+    ghost invariant = { λ e. (e.ended ≡ None → e.splitter.reading.lines ≤ e.taken) × (e.taken ≤ 2 ^ 60)
+        × (e.ended ≡ None → IsReady e.splitter.reading e.splitter.scanning)
+        × (e.ended ≡ None → e.splitter.reading.lines ≡ 0 → e.splitter.reading.dropped ≡ false)
+        × (e.ended ≡ Some Memory → e.splitter.reading.lines ≡ 0) };
 }
 
 impl<'q> Engine<'q> {
@@ -73,7 +73,7 @@ impl<'q> Engine<'q> {
             × (e.taken ≡ 0)) }
     {
         Ok(Engine {
-            framer: Framer::open(alloc, limits, query, options)?,
+            splitter: LineSplitter::open(alloc, limits, query, options)?,
             taken: 0,
             ended: None,
         })
@@ -94,7 +94,7 @@ impl<'q> Engine<'q> {
         ensures taken { OnOk result (self.new.taken ≡ self.old.taken + length piece.now) }
         ensures untaken { OnErr result (self.new.taken ≡ self.old.taken) }
 
-        // Once a line was dealt with, memory cannot be refused any more.
+        // Once a line was handled, memory cannot be refused any more.
         ensures late { 0 < lines_of self.old → result ≢ Err End.Memory }
 
         // What the result says of all bytes so far, and of the sinks.
@@ -106,7 +106,7 @@ impl<'q> Engine<'q> {
         if let Some(end) = self.ended {
             return Err(end);
         }
-        match self.framer.take(piece, sink, reports) {
+        match self.splitter.take(piece, sink, reports) {
             Ok(()) => {
                 self.taken += piece.len() as u64;
                 Ok(())
@@ -118,7 +118,7 @@ impl<'q> Engine<'q> {
         }
     }
 
-    /// Ends the stream, and deals with a last line that has no LF.
+    /// Ends the stream, and handles a last line that has no LF.
     pub fn finish<S: LineSink, N: ReportSink>(&mut self, sink: &mut S, reports: &mut N) -> End
         ensures again { (e : End) → self.old.ended ≡ Some e →
             (result ≡ e) × (self.new ≡ self.old) × (sink.new ≡ sink.old) × (reports.new ≡ reports.old) }
@@ -131,10 +131,10 @@ impl<'q> Engine<'q> {
         if let Some(end) = self.ended {
             return end;
         }
-        let end = if self.framer.lines() > 0 {
-            End::from(LineEnd::after(self.framer.finish(sink, reports)))
+        let end = if self.splitter.lines() > 0 {
+            End::from(LineEnd::after(self.splitter.finish(sink, reports)))
         } else {
-            End::from(HeaderEnd::after(self.framer.finish_first(sink)))
+            End::from(HeaderEnd::after(self.splitter.finish_first(sink)))
         };
         self.ended = Some(end);
         end
@@ -153,35 +153,35 @@ impl<'q> Engine<'q> {
     pub fn held(&self) -> Peaks
         ensures { result ≡ held_by self.now }
     {
-        self.framer.held()
+        self.splitter.held()
     }
 
     /// Returns the peaks: the most of each that the engine held.
     pub fn peaks(&self) -> Peaks
         ensures { result ≡ peaks_of self.now }
     {
-        self.framer.peaks()
+        self.splitter.peaks()
     }
 
-    /// Returns how many lines were dealt with: the header, features, blank lines, and invalid lines
+    /// Returns how many lines were handled: the header, features, blank lines, and invalid lines
     /// after which reading went on.
     pub fn lines(&self) -> u64
         ensures { result ≡ lines_of self.now }
     {
-        self.framer.lines()
+        self.splitter.lines()
     }
 
     /// Returns how many features the sink took.
     pub fn kept(&self) -> u64
         ensures { result ≡ self.now.reading.kept }
     {
-        self.framer.kept()
+        self.splitter.kept()
     }
 
     /// Returns the number of invalid lines after which reading went on.
     pub fn refused(&self) -> u64
         ensures { result ≡ refused_of self.now }
     {
-        self.framer.refused()
+        self.splitter.refused()
     }
 }

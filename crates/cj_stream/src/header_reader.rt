@@ -18,8 +18,8 @@ ghost use Rattle.cj_stream.specs.Engine.{StandsFor, rules_of, lines_of, refused_
 ghost use Rattle.cj_stream.specs.Sink.{with_sink};
 
 use crate::ending::HeaderEnd;
-use crate::framer::Framer;
 use crate::line_reader::LineReader;
+use crate::line_splitter::LineSplitter;
 use crate::options::Options;
 use crate::query::Query;
 use crate::sink::LineSink;
@@ -42,7 +42,7 @@ pub struct Progress {
 /// After an end, every call returns that end again and changes nothing.
 #[derive(Drop)]
 pub struct HeaderReader<'q> {
-    framer: Framer<'q>,
+    splitter: LineSplitter<'q>,
     taken: u64,
     ended: Option<HeaderEnd>,
 }
@@ -56,12 +56,12 @@ impl<'q> Model for HeaderReader<'q> {
 
     ghost Value = { EngineState };
 
-    ghost view = { λ e. state e.framer e.taken (option_map header_end e.ended) };
+    ghost view = { λ e. state e.splitter e.taken (option_map header_end e.ended) };
 
-    ghost invariant = { λ e. (e.framer.reading.lines ≤ 1) × (e.ended ≡ None → e.framer.reading.lines ≤ e.taken)
-        × (e.taken ≤ 2 ^ 60) × (e.ended ≡ None → IsReady e.framer.reading e.framer.scanning)
-        × (e.ended ≡ None → e.framer.reading.lines ≡ 0 → e.framer.reading.dropped ≡ false)
-        × (e.ended ≡ Some Memory → e.framer.reading.lines ≡ 0) };
+    ghost invariant = { λ e. (e.splitter.reading.lines ≤ 1) × (e.ended ≡ None → e.splitter.reading.lines ≤ e.taken)
+        × (e.taken ≤ 2 ^ 60) × (e.ended ≡ None → IsReady e.splitter.reading e.splitter.scanning)
+        × (e.ended ≡ None → e.splitter.reading.lines ≡ 0 → e.splitter.reading.dropped ≡ false)
+        × (e.ended ≡ Some Memory → e.splitter.reading.lines ≡ 0) };
 }
 
 impl<'q> HeaderReader<'q> {
@@ -85,7 +85,7 @@ impl<'q> HeaderReader<'q> {
         ensures reserved { IfOk result (λ e. IsReady e.reading e.scanning) }
     {
         Ok(HeaderReader {
-            framer: Framer::open(alloc, limits, query, options)?,
+            splitter: LineSplitter::open(alloc, limits, query, options)?,
             taken: 0,
             ended: None,
         })
@@ -121,7 +121,7 @@ impl<'q> HeaderReader<'q> {
         if let Some(end) = self.ended {
             return Err(end);
         }
-        match self.framer.take_front(piece, sink) {
+        match self.splitter.take_front(piece, sink) {
             Ok(progress) => {
                 self.taken += progress.used as u64;
                 Ok(progress)
@@ -133,7 +133,7 @@ impl<'q> HeaderReader<'q> {
         }
     }
 
-    /// Ends the stream, and deals with a first line that has no LF. It allocates nothing.
+    /// Ends the stream, and handles a first line that has no LF. It allocates nothing.
     pub fn finish<S: LineSink>(&mut self, sink: &mut S) -> HeaderEnd
         requires unaccepted { ¬ IsAccepted self.old }
         ensures again { (e : HeaderEnd) → self.old.ended ≡ Some (header_end e) →
@@ -146,7 +146,7 @@ impl<'q> HeaderReader<'q> {
         if let Some(end) = self.ended {
             return end;
         }
-        let end = HeaderEnd::after(self.framer.finish_first(sink));
+        let end = HeaderEnd::after(self.splitter.finish_first(sink));
         self.ended = Some(end);
         end
     }
@@ -155,7 +155,7 @@ impl<'q> HeaderReader<'q> {
     pub fn accepted(&self) -> bool
         ensures { IsTrue result ↔ IsAccepted self.now }
     {
-        self.ended.is_none() && self.framer.lines() > 0
+        self.ended.is_none() && self.splitter.lines() > 0
     }
 
     /// Returns the reader of the lines after an accepted header. It allocates nothing.
@@ -165,11 +165,11 @@ impl<'q> HeaderReader<'q> {
         ensures reserved { IsReady result.reading result.scanning }
     {
         let HeaderReader {
-            framer,
+            splitter,
             taken,
             ended: _,
         } = self;
-        LineReader::of(framer, taken)
+        LineReader::of(splitter, taken)
     }
 
     /// Returns the number of bytes used by calls of `feed` that returned `Ok`.
@@ -185,35 +185,35 @@ impl<'q> HeaderReader<'q> {
     pub fn held(&self) -> Peaks
         ensures { result ≡ held_by self.now }
     {
-        self.framer.held()
+        self.splitter.held()
     }
 
     /// Returns the peaks: the most of each that the reader held.
     pub fn peaks(&self) -> Peaks
         ensures { result ≡ peaks_of self.now }
     {
-        self.framer.peaks()
+        self.splitter.peaks()
     }
 
-    /// Returns how many lines were dealt with: none, or the header.
+    /// Returns how many lines were handled: none, or the header.
     pub fn lines(&self) -> u64
         ensures value { result ≡ lines_of self.now }
         ensures few { result ≤ 1 }
     {
-        self.framer.lines()
+        self.splitter.lines()
     }
 
     /// Returns how many features the sink took: none.
     pub fn kept(&self) -> u64
         ensures { result ≡ self.now.reading.kept }
     {
-        self.framer.kept()
+        self.splitter.kept()
     }
 
     /// Returns the number of invalid lines after which reading went on: none.
     pub fn refused(&self) -> u64
         ensures { result ≡ refused_of self.now }
     {
-        self.framer.refused()
+        self.splitter.refused()
     }
 }

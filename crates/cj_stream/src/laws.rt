@@ -19,7 +19,7 @@ ghost use Rattle.cj_budget.specs.declared.limits.Peaks.{Peaks};
 ghost use Rattle.cj_stream.specs.Bound.{IsExact, exact_peaks};
 ghost use Rattle.cj_stream.specs.CountReports.{count_of, no_reports, CountsReportsOfRun};
 ghost use Rattle.cj_stream.specs.CountReports.{CountsReportsOfPieces};
-ghost use Rattle.cj_stream.specs.CountSink.{no_counts, Counts, CountsRun, CountsPieces};
+ghost use Rattle.cj_stream.specs.CountSink.{no_counts, CountsItem, CountsRun, CountsPieces};
 ghost use Rattle.cj_stream.specs.Meaning.Lines.{Line, ended_line, lines};
 ghost use Rattle.cj_stream.specs.Lines.{joined, later_of, NoLf, whole};
 ghost use Rattle.cj_stream.specs.Cut.{Copies, PutsPieces, InPieces};
@@ -125,8 +125,8 @@ pub fn good_lines_are_all_or_none()
         → good rules r ≡ [] }
 {}
 
-/// If the first invalid line is the end, no handled line is invalid, so nothing is reported. The peaks
-/// of a complete stream are then known exactly, as each later line is blank or spells a tree.
+/// If the first invalid line is the end, no handled line is invalid, so nothing is reported. The
+/// peaks of a complete stream are then known exactly, as each later line is blank or spells a tree.
 pub fn first_invalid_line_is_the_end()
     ensures unreported { (rules : Rules) (r : List ℕ) → rules.options.keep_going ≡ false → reported rules r ≡ [] }
     ensures unreported_first { (rules : Rules) (r : List ℕ) (n : ℕ) → rules.options.keep_going ≡ false
@@ -143,7 +143,8 @@ pub fn first_invalid_line_is_the_end()
 ///   first part, followed by that of the second part without its header.
 /// - The number of a line in the second part is greater by the number of later lines in the first
 ///   part. The ending is that of the second part, with its line moved in this way.
-/// - The handled lines, the kept features and the reported lines add up, with the header counted once.
+/// - The handled lines, the kept features and the reported lines add up, with the header counted
+///   once.
 ///
 /// For any endings, each peak is the greater one of both parts. The first part may itself be joined
 /// from two, so the law holds for any number of parts.
@@ -241,9 +242,9 @@ pub fn good_lines_are_kept()
 /// A `CountSink` that starts at zero counts what it takes: in a run, given its end, and of pieces.
 pub fn puts_are_counted()
     ensures runs { (r : Stream) (e : End) (c : CountSink)
-        → Puts (never_fails Counts) r e no_counts c → CountsRun r e c }
+        → Puts (never_fails CountsItem) r e no_counts c → CountsRun r e c }
     ensures pieces { (cut : InPieces) (e : End) (c : CountSink)
-        → PutsPieces (never_fails Counts) cut e no_counts c → CountsPieces cut e c }
+        → PutsPieces (never_fails CountsItem) cut e no_counts c → CountsPieces cut e c }
 {}
 
 /// A `CountReports` that starts at zero counts what it notes: of the first lines of a stream, in a
@@ -265,7 +266,7 @@ pub fn puts_are_tallied()
         → PutsPieces (never_fails Tallies) cut e start t → TalliesPieces cut e t }
 {}
 
-/// An `Output` writes what it takes: in a run, given its end and the lines that were dealt with,
+/// An `Output` writes what it takes: in a run, given its end and the lines that were handled,
 /// and of pieces. The headline holds for a run, with the causes of a write fault and of refused
 /// memory.
 pub fn puts_are_written<W: Write + Drop, N: ReportSink>()
@@ -287,7 +288,7 @@ pub fn puts_are_written<W: Write + Drop, N: ReportSink>()
         → Copies cut e (W.contents (output_writer a)) (W.contents (output_writer b)) }
 {}
 
-/// The reports of a run are the list of what is reported of the lines that it dealt with. A sink
+/// The reports of a run are the list of what is reported of the lines that it handled. A sink
 /// that collects reports has this list. If the lines go to an `Output`, the headline holds with it.
 pub fn reports_are_collected<W: Write + Drop>()
     ensures runs { (run : Run) (left : Option (List ℕ)) → Account run (IsAtEnd left)

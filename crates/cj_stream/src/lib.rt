@@ -1,8 +1,8 @@
 //! The engine: it reads a CityJSONSeq stream once, in bounded memory, judges each line, and passes
 //! the header and the features to a sink.
 //!
-//! A caller feeds pieces of a stream to an [`Engine`]. Its framer cuts them into lines. Each whole
-//! line is judged: first as a JSON text, then by the rules of `cj_feature`. The first line is
+//! A caller feeds pieces of a stream to an [`Engine`]. Its splitter cuts them into lines. Each
+//! whole line is judged: first as a JSON text, then by the rules of `cj_feature`. The first line is
 //! judged as a header, and each later line as a feature of that header.
 //!
 //! A [`LineSink`] receives the valid header and the valid features that a [`Query`] selects. By
@@ -44,24 +44,24 @@
 //! - `engine`: the stream so far ([`Engine`]), in one of two states. `header_reader`
 //!   ([`HeaderReader`]) and `line_reader` ([`LineReader`]) are the same two as types.
 //! - `ending`: how a stream ended ([`End`]).
-//! - `framer`: cuts lines and deals with each.
-//! - `store`: keeps the bytes of a line until it is whole.
-//! - `desk`: judges a line and puts it to the sink. `judge` decides what a line is as a text.
+//! - `line_splitter`: cuts lines and handles each.
+//! - `line_buffer`: keeps the bytes of a line until it is whole.
+//! - `validator`: judges a line and puts it to the sink. `judge` decides what a line is as a text.
 //! - [`laws`]: what follows from what a sink took, and from the definitions.
 //! - [`row_laws`]: the definitions on worked examples.
 //!
 //! The crate also exports what a caller needs of the crates below, so one `use` names everything.
 #![tactic(auto)]
 
-mod desk;
 mod ending;
 mod engine;
-mod framer;
 mod header_reader;
 mod judge;
 pub mod laws;
+mod line_buffer;
 mod line_pieces;
 mod line_reader;
+mod line_splitter;
 mod options;
 mod output;
 mod parts;
@@ -71,8 +71,8 @@ mod report_sink;
 pub mod row_laws;
 mod running;
 mod sink;
-mod store;
 mod tally;
+mod validator;
 
 pub use cj_budget::{LimitFault, Limits, NoMemory, Peaks};
 pub use cj_decimal::Decimal;

@@ -80,13 +80,13 @@ fn feed_all<S: LineSink, N: ReportSink>(
 /// Gives all pieces and then the end to a reader of lines, until the reader ends. The reader must
 /// not have ended before. Nothing is allocated.
 ///
-/// However the pieces are cut, the sink takes all that is kept of the lines that were not dealt
-/// with before, in order. The end is the ending of the whole stream. This holds unless a step of
+/// However the pieces are cut, the sink takes all that is kept of the lines that were not handled
+///  before, in order. The end is the ending of the whole stream. This holds unless a step of
 /// the sink fails.
 ///
 /// After such a failure the sink took a prefix of what is kept of the given pieces. The prefix has
 /// all that is kept of the whole lines in the pieces that were taken whole. The sink of reports
-/// notes what is reported of the lines that were dealt with.
+/// notes what is reported of the lines that were handled.
 pub fn put_lines<S: LineSink, N: ReportSink>(
     reader: &mut LineReader,
     pieces: &[&[u8]],
@@ -116,7 +116,7 @@ pub fn put_lines<S: LineSink, N: ReportSink>(
     feed_all(reader, pieces, sink, reports)
 }
 
-/// The headline for what comes after the lines that were dealt with, however the pieces are cut.
+/// The headline for what comes after the lines that were handled, however the pieces are cut.
 ///
 /// The reader writes exactly the kept features, byte for byte, in order. By default these are the
 /// ones before the first invalid line. If reading goes on after invalid lines, these are all of

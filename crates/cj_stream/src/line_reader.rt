@@ -14,7 +14,7 @@ ghost use Rattle.cj_stream.specs.Sink.{with_sink};
 ghost use Rattle.cj_stream.specs.Verdict.{stretch};
 
 use crate::ending::LineEnd;
-use crate::framer::Framer;
+use crate::line_splitter::LineSplitter;
 use crate::report_sink::ReportSink;
 use crate::sink::LineSink;
 use cj_budget::Peaks;
@@ -25,7 +25,7 @@ use std::marker::Model;
 /// After an end, every call returns that end again and changes nothing.
 #[derive(Drop)]
 pub struct LineReader<'q> {
-    framer: Framer<'q>,
+    splitter: LineSplitter<'q>,
     taken: u64,
     ended: Option<LineEnd>,
 }
@@ -38,28 +38,28 @@ impl<'q> Model for LineReader<'q> {
 
     ghost Value = { EngineState };
 
-    ghost view = { λ e. state e.framer e.taken (option_map line_end e.ended) };
+    ghost view = { λ e. state e.splitter e.taken (option_map line_end e.ended) };
 
-    ghost invariant = { λ e. (0 < e.framer.reading.lines) × (e.ended ≡ None → e.framer.reading.lines ≤ e.taken)
-        × (e.taken ≤ 2 ^ 60) × IsReady e.framer.reading e.framer.scanning };
+    ghost invariant = { λ e. (0 < e.splitter.reading.lines) × (e.ended ≡ None → e.splitter.reading.lines ≤ e.taken)
+        × (e.taken ≤ 2 ^ 60) × IsReady e.splitter.reading e.splitter.scanning };
 }
 
 impl<'q> LineReader<'q> {
-    /// Returns a reader of the lines after a header that this framer has dealt with.
-    pub(crate) fn of(framer: Framer<'q>, taken: u64) -> LineReader<'q>
-        requires first { 0 < framer.reading.lines }
-        requires few { framer.reading.lines ≤ taken }
+    /// Returns a reader of the lines after a header that this splitter has handled.
+    pub(crate) fn of(splitter: LineSplitter<'q>, taken: u64) -> LineReader<'q>
+        requires first { 0 < splitter.reading.lines }
+        requires few { splitter.reading.lines ≤ taken }
         requires short { taken ≤ 2 ^ 60 }
-        requires ready { IsReady framer.reading framer.scanning }
+        requires ready { IsReady splitter.reading splitter.scanning }
         ensures { result ≡ record {
-          reading = framer.entry.reading;
-          scanning = framer.entry.scanning;
+          reading = splitter.entry.reading;
+          scanning = splitter.entry.scanning;
           taken = taken;
           ended = None;
         } }
     {
         LineReader {
-            framer,
+            splitter,
             taken,
             ended: None,
         }
@@ -93,7 +93,7 @@ impl<'q> LineReader<'q> {
         if let Some(end) = self.ended {
             return Err(end);
         }
-        match self.framer.take_piece(piece, sink, reports) {
+        match self.splitter.take_piece(piece, sink, reports) {
             Ok(()) => {
                 self.taken += piece.len() as u64;
                 Ok(())
@@ -105,7 +105,7 @@ impl<'q> LineReader<'q> {
         }
     }
 
-    /// Ends the stream, and deals with a last line that has no LF.
+    /// Ends the stream, and handles a last line that has no LF.
     pub fn finish<S: LineSink, N: ReportSink>(&mut self, sink: &mut S, reports: &mut N) -> LineEnd
         ensures again { (e : LineEnd) → self.old.ended ≡ Some (line_end e) →
             (result ≡ e) × (self.new ≡ self.old) × (sink.new ≡ sink.old) × (reports.new ≡ reports.old) }
@@ -120,7 +120,7 @@ impl<'q> LineReader<'q> {
         if let Some(end) = self.ended {
             return end;
         }
-        let end = LineEnd::after(self.framer.finish(sink, reports));
+        let end = LineEnd::after(self.splitter.finish(sink, reports));
         self.ended = Some(end);
         end
     }
@@ -139,36 +139,36 @@ impl<'q> LineReader<'q> {
     pub fn held(&self) -> Peaks
         ensures { result ≡ held_by self.now }
     {
-        self.framer.held()
+        self.splitter.held()
     }
 
     /// Returns the peaks: the most of each that the reader held.
     pub fn peaks(&self) -> Peaks
         ensures { result ≡ peaks_of self.now }
     {
-        self.framer.peaks()
+        self.splitter.peaks()
     }
 
-    /// Returns how many lines were dealt with: the header, features, blank lines, and invalid lines
+    /// Returns how many lines were handled: the header, features, blank lines, and invalid lines
     /// after which reading went on.
     pub fn lines(&self) -> u64
         ensures value { result ≡ lines_of self.now }
         ensures header { 0 < result }
     {
-        self.framer.lines()
+        self.splitter.lines()
     }
 
     /// Returns how many features the sink took.
     pub fn kept(&self) -> u64
         ensures { result ≡ self.now.reading.kept }
     {
-        self.framer.kept()
+        self.splitter.kept()
     }
 
     /// Returns the number of invalid lines after which reading went on.
     pub fn refused(&self) -> u64
         ensures { result ≡ refused_of self.now }
     {
-        self.framer.refused()
+        self.splitter.refused()
     }
 }

@@ -129,8 +129,8 @@ pub fn put_pieces<S: LineSink, N: ReportSink>(
 /// which bytes it got. The third always holds. After a fault the writer has a prefix of the output
 /// of the given pieces. The prefix has all output of the pieces that were taken whole.
 ///
-/// If memory is refused, nothing was written or reported. The first line is then a valid header, and
-/// a growth of the engine's lists for later lines has failed.
+/// If memory is refused, nothing was written or reported. The first line is then a valid header,
+/// and a growth of the engine's lists for later lines has failed.
 ///
 /// The engine comes from `Engine::open` with these limits, query and options, and has been given
 /// nothing.

@@ -18,7 +18,7 @@ pub struct Report {
 
 /// Receives reports one after another, in the order of their lines.
 ///
-/// A sink of reports never fails: it deals itself with a report that it cannot pass on.
+/// A sink of reports never fails: it handles itself a report that it cannot pass on.
 pub trait ReportSink {
     /// What one report makes of the sink.
     ghost notes: { Self → Report → Self → Type 0 };

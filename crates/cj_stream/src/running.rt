@@ -31,7 +31,7 @@ const PIECE_LENGTH: usize = 8_192;
 /// How a run went.
 #[derive(Clone, Copy, Debug, PartialEq, Eq)]
 pub struct Outcome {
-    /// The number of lines that were dealt with: the header, features, blank lines, and invalid
+    /// The number of lines that were handled: the header, features, blank lines, and invalid
     /// lines after which reading went on.
     pub lines: u64,
     /// The number of features that the sink took.
@@ -86,6 +86,8 @@ impl Outcome {
 
 /// Feeds what the source gives, in pieces of at most the buffer's length, and finishes at its end.
 /// The first failed read is the end. If no read gives an end, the last one is the end.
+///
+/// It takes the arguments of a run one by one, since it borrows each device.
 fn drive<R: Read, S: LineSink, N: ReportSink>(
     engine: &mut Engine,
     buffer: &mut [u8],
@@ -168,7 +170,7 @@ pub fn run<R: Read, S: LineSink, N: ReportSink>(
 ///
 /// The read that finds the end of the input counts, and so does a failed read. An end or a fault in
 /// any read, also the last one, is the end. If no read gives one, the end is [`End::ReadLimit`].
-/// The whole lines were then dealt with, and the line that had begun was not judged.
+/// The whole lines were then handled, and the line that had begun was not judged.
 ///
 /// With no reads, the end is [`End::ReadLimit`] for every input, also an empty one, unless the
 /// memory for the first line is refused. The reader and the sink stay unchanged. It is always

@@ -5,7 +5,7 @@
 //! that writes, and [`crate::TallySink`] the one that tallies.
 ghost use Rattle.std.specs.Prelude.{◌≡◌, ◌≤◌, ℕ, OnOk, OnErr};
 ghost use Rattle.cj_stream.specs.Item.{header_item, feature_item};
-ghost use Rattle.cj_stream.specs.Sink.{SinkLaw, HasRisen, never_fails};
+ghost use Rattle.cj_stream.specs.Sink.{SinkContract, HasRisen, never_fails};
 
 use crate::output::WriteFault;
 use cj_feature::{Feature, Header};
@@ -16,7 +16,7 @@ use cj_feature::{Feature, Header};
 pub trait LineSink {
     /// Its law: what one whole item makes of the sink, what a fault may leave of it, and how often
     /// its device has failed.
-    ghost law: { SinkLaw Self };
+    ghost law: { SinkContract Self };
 
     /// Takes the header. `lf` says whether LF ended its line.
     fn header(&mut self, header: &Header<'_>, lf: bool) -> Result<(), WriteFault>
@@ -60,9 +60,9 @@ pub struct CountSink {
 }
 
 impl LineSink for CountSink {
-    ghost use Rattle.cj_stream.specs.CountSink.{Counts};
+    ghost use Rattle.cj_stream.specs.CountSink.{CountsItem};
 
-    ghost law = { never_fails Counts };
+    ghost law = { never_fails CountsItem };
 
     fn header(&mut self, _header: &Header<'_>, _lf: bool) -> Result<(), WriteFault> {
         self.headers = self.headers.saturating_add(1);

@@ -9,7 +9,7 @@ returns-clause-checks c =
       goes = goes _ c.args.request.now c.args.header.now c.args.part.now _ _ c.args.reports.now
           c.judge-judged.new.reports (λ rules o. Unit {0}) (λ rules o judged. tt) c.judge-judged.result
           j.ok j.declined j.unread;
-      told = c.of.ensures;
+      shown = c.of.ensures;
     }
 
 pub returns-clause-fits : goal.returns-clause-fits

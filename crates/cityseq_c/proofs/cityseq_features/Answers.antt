@@ -23,7 +23,7 @@ returns-clause-lists c =
           c.new-listed.ensures.count c.new-listed.ensures.room c.new-listed.ensures.place
           (λ loan. c.records-1.given.1.1 (sym c.new-listed.ensures.loan ∙ sym loan)))
           c.judge-judged.result j.fit j.ok j.declined j.unread;
-      told = c.of.ensures;
+      shown = c.of.ensures;
     }
 
 pub returns-clause-fits : goal.returns-clause-fits

@@ -105,7 +105,7 @@ pub fn is_in(bounds: &Bounds, feature: &Feature, header: &Header) -> bool
 {
     let [x_map, y_map] = match header.affine() {
         Some(maps) => maps,
-        None => unreachable!(),
+        None => unreachable!(), // proved: the header has a box
     };
     meets_on(feature, 0, &x_map, bounds.min_x, bounds.max_x)
         && meets_on(feature, 1, &y_map, bounds.min_y, bounds.max_y)

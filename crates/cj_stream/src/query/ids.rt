@@ -13,12 +13,12 @@
 //! is, so the search waits for memory once. If ids also end alike, each step compares texts. The
 //! number of steps stays the same.
 //!
-//! After [`Ids::sort`] there is one run, and if it is long it has heads: the number of every
-//! [`DISTANCE`]th entry. The heads pick some neighbouring entries, which are compared one after
-//! another. That waits for memory about once, and a binary search of the run several times. Heads
-//! are a hint. The picked entries are used only if the first and the last of them show that no
-//! other entry has the number. Otherwise the whole run is searched. So the proof needs no fact
-//! about heads.
+//! After [`Ids::sort`] there is one run, and if it is long it has a sparse index: the number of
+//! every [`DISTANCE`]th entry. The sparse index picks some neighbouring entries, which are compared
+//! one after another. That waits for memory about once, and a binary search of the run several
+//! times. It is a hint. The picked entries are used only if the first and the last of them show
+//! that no other entry has the number. Otherwise the whole run is searched. So the proof needs no
+//! fact about it.
 ghost use Rattle.std.specs.Prelude.{◌≡◌, ◌+◌, ◌-◌, ◌<◌, ◌≤◌, ◌^◌, [], ◌∷◌, ◌++◌, length, take, drop, sum, vec_items};
 ghost use Rattle.std.specs.Prelude.{vec_len, vec_capacity, string_bytes, string_len, string_capacity, OnOk, OnErr};
 ghost use Rattle.std.specs.Prelude.{IfSome};
@@ -42,10 +42,10 @@ use std::marker::Model;
 /// A run stays a run only if it is more than this many times as long as all entries after it.
 const RATIO: usize = 16;
 
-/// The distance between entries whose numbers are heads.
+/// The distance between entries whose numbers are in a sparse index.
 const DISTANCE: usize = 32;
 
-/// The least number of entries in a run that has heads.
+/// The least number of entries in a run that has a sparse index.
 const LONG: usize = 64;
 
 /// The end of an id as a number, and where the id is in the text.
@@ -63,7 +63,7 @@ pub struct Ids {
     lengths: Vec<usize>,
     entries: Vec<Entry>,
     runs: Vec<usize>,
-    heads: Vec<u64>,
+    sparse_index: Vec<u64>,
 }
 
 impl Model for Ids {
@@ -158,8 +158,8 @@ fn join_last(runs: &mut Vec<usize>) -> usize
     count
 }
 
-/// Returns how many heads a run of this many entries has.
-fn head_count(entries: usize) -> usize {
+/// Returns how many numbers the sparse index of a run of this many entries has.
+fn sparse_count(entries: usize) -> usize {
     if entries < LONG {
         0
     } else {
@@ -189,7 +189,7 @@ fn make_text_room(
 fn make_entry_room(
     entries: &mut Vec<Entry>,
     runs: &mut Vec<usize>,
-    heads: &mut Vec<u64>,
+    sparse_index: &mut Vec<u64>,
     failed_growths: &mut Refusals,
 ) -> Result<(), NoMemory>
     ensures entries { vec_items entries.new ≡ vec_items entries.old }
@@ -201,7 +201,7 @@ fn make_entry_room(
 {
     failed_growths.note(entries.reserve(1))?;
     failed_growths.note(runs.reserve(1))?;
-    failed_growths.note(heads.reserve(head_count(entries.len())))
+    failed_growths.note(sparse_index.reserve(sparse_count(entries.len())))
 }
 
 /// Adds an id at the end, where its memory is reserved, and puts its entry in order.
@@ -251,15 +251,15 @@ fn join_all(text: &str, lengths: &[usize], entries: &mut [Entry], runs: &mut Vec
     put(runs, entries.len());
 }
 
-/// Takes the heads of a run, as many as there is capacity for.
+/// Fills the sparse index of a run, as far as there is capacity.
 ///
 /// Heads are a hint. If they are different or fewer, a search takes longer and finds the same ids.
-fn take_heads(run: &[Entry], heads: &mut Vec<u64>) {
-    heads.clear();
-    for place in 0..head_count(run.len()) {
-        if heads.len() < heads.capacity() {
+fn fill_sparse_index(run: &[Entry], sparse_index: &mut Vec<u64>) {
+    sparse_index.clear();
+    for place in 0..sparse_count(run.len()) {
+        if sparse_index.len() < sparse_index.capacity() {
             if let Some(entry) = run.get(place.saturating_mul(DISTANCE)) {
-                put(heads, entry.number);
+                put(sparse_index, entry.number);
             }
         }
     }
@@ -283,13 +283,13 @@ fn part_between(run: &[Entry], start: usize, end: usize, number: u64) -> Option<
     Some(&run[start..end])
 }
 
-/// Returns how many heads are less than a number, if the heads never decrease.
+/// Returns how many numbers of a sparse index are less than a number, if they never decrease.
 ///
 /// Each step reduces the rest to about a quarter. The number of steps depends only on the length,
 /// and no step has a branch, so the processor has nothing to predict.
-fn heads_before(heads: &[u64], number: u64) -> usize {
+fn numbers_before(sparse_index: &[u64], number: u64) -> usize {
     let mut before = 0usize;
-    let mut rest = heads;
+    let mut rest = sparse_index;
     while rest.len() >= 4 {
         let quarter = rest.len() / 4;
         let less = usize::from(rest[quarter] < number)
@@ -303,19 +303,19 @@ fn heads_before(heads: &[u64], number: u64) -> usize {
         before = before.wrapping_add(start);
         rest = part;
     }
-    before.wrapping_add(rest.iter().filter(|head| **head < number).count())
+    before.wrapping_add(rest.iter().filter(|first| **first < number).count())
 }
 
-/// Returns the entries of a run that include all with this number, as its heads show. None if the
-/// heads do not show it.
-fn part_of<'a>(heads: &[u64], run: &'a [Entry], number: u64) -> Option<&'a [Entry]>
+/// Returns the entries of a run that include all with this number, as its sparse index shows. None
+/// if the sparse index does not show it.
+fn part_of<'a>(sparse_index: &[u64], run: &'a [Entry], number: u64) -> Option<&'a [Entry]>
     requires { IsNonDecreasingBy (λ (entry : Entry). entry.number) run.now }
     ensures { IfSome result (λ part. HasAllOf number part.now run.now) }
 {
-    if heads.is_empty() {
+    if sparse_index.is_empty() {
         return None;
     }
-    let place = heads_before(heads, number);
+    let place = numbers_before(sparse_index, number);
     let start = place.saturating_sub(1).saturating_mul(DISTANCE);
     let end = place.saturating_mul(DISTANCE).saturating_add(2);
     part_between(run, start, end, number)
@@ -346,35 +346,42 @@ fn is_in_run(text: &str, run: &[Entry], number: u64, node: Node) -> bool
         .is_ok()
 }
 
-/// Returns whether a node has the text of an entry of a run that may have heads.
-fn is_in_run_of(text: &str, heads: &[u64], run: &[Entry], number: u64, node: Node) -> bool
+/// Returns whether a node has the text of an entry of a run that may have a sparse index.
+fn is_in_run_of(text: &str, sparse_index: &[u64], run: &[Entry], number: u64, node: Node) -> bool
     requires { Ascend (keys_at text.now run.now) }
     ensures { result ≡ list_any
         (λ key. is_eq (compare_keys key (record { number = number; text = text_of (tree node.entry) })))
         (keys_at text.now run.now) }
 {
-    match part_of(heads, run, number) {
+    match part_of(sparse_index, run, number) {
         Some(part) => is_among(text, part, number, node),
         None => is_in_run(text, run, number, node),
     }
 }
 
-/// Returns whether a node has the text of an entry of some run. Only the first run may have heads.
-fn is_in_runs(text: &str, heads: &[u64], entries: &[Entry], runs: &[usize], node: Node) -> bool
+/// Returns whether a node has the text of an entry of some run. Only the first run may have a
+/// sparse index.
+fn is_in_runs(
+    text: &str,
+    sparse_index: &[u64],
+    entries: &[Entry],
+    runs: &[usize],
+    node: Node,
+) -> bool
     requires { AreRuns (keys_at text.now entries.now) runs.now }
     ensures { result ≡ list_any (λ key. is_eq (compare_keys key (key_of (text_of (tree node.entry)))))
         (keys_at text.now entries.now) }
 {
     let number = node.text_tail();
     let mut rest = entries;
-    let mut heads = heads;
+    let mut sparse_index = sparse_index;
     for length in runs {
         let (run, others) = rest.split_at(*length);
-        if is_in_run_of(text, heads, run, number, node) {
+        if is_in_run_of(text, sparse_index, run, number, node) {
             return true;
         }
         rest = others;
-        heads = &[];
+        sparse_index = &[];
     }
     false
 }
@@ -389,7 +396,7 @@ impl Ids {
             lengths: Vec::new(alloc),
             entries: Vec::new(alloc),
             runs: Vec::new(alloc),
-            heads: Vec::new(alloc),
+            sparse_index: Vec::new(alloc),
         }
     }
 
@@ -404,7 +411,7 @@ impl Ids {
         make_entry_room(
             &mut self.entries,
             &mut self.runs,
-            &mut self.heads,
+            &mut self.sparse_index,
             failed_growths,
         )?;
         add_entry(
@@ -428,7 +435,7 @@ impl Ids {
             self.entries.as_mut_slice(),
             &mut self.runs,
         );
-        take_heads(self.entries.as_slice(), &mut self.heads);
+        fill_sparse_index(self.entries.as_slice(), &mut self.sparse_index);
     }
 
     /// Returns whether a node has the text of one of the ids.
@@ -437,7 +444,7 @@ impl Ids {
     {
         is_in_runs(
             self.text.as_str(),
-            self.heads.as_slice(),
+            self.sparse_index.as_slice(),
             self.entries.as_slice(),
             self.runs.as_slice(),
             node,

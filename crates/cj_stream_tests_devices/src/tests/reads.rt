@@ -62,7 +62,7 @@ fn ran_by<R: Read>(
     Ok(ran_within(rt, alloc, reader, &mut NoReports, &reading, row.reads))
 }
 
-/// Compares the lines that were dealt with, the features that were kept, and the reads.
+/// Compares the lines that were handled, the features that were kept, and the reads.
 fn check_counts(rt: &impl Abort, got: (u64, u64, u64), wanted: (u64, u64, u64), row: &Row) {
     assert_eq!(rt; got, wanted, "{}, within {} reads", row.name, row.reads);
 }

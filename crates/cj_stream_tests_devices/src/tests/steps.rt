@@ -24,11 +24,11 @@ pub enum Step<'a> {
     /// What is held, and what was held at most.
     Held(Peaks, Peaks),
     /// The bytes that are held, and that were held at most, before a line after the usual header
-    /// is dealt with. The tokens are the header's.
+    /// is handled. The tokens are the header's.
     HeldWithHeader(u64, u64),
     /// The bytes that were held at most.
     PeakOfBytes(u64),
-    /// The bytes that were taken, the lines that were dealt with, and the features that were kept.
+    /// The bytes that were taken, the lines that were handled, and the features that were kept.
     Counts(u64, u64, u64),
     /// The number of invalid lines, and all that was reported.
     Reported(u64, &'a str),

@@ -25,7 +25,7 @@ pub enum HeaderStep<'a> {
     Again(&'a [u8], HeaderEnd),
     /// What is held, and what was held at most.
     Held(Peaks, Peaks),
-    /// The bytes that were taken, and the lines that were dealt with.
+    /// The bytes that were taken, and the lines that were handled.
     Counts(u64, u64),
 }
 
@@ -43,7 +43,7 @@ pub enum LineStep<'a> {
     Held(Peaks, Peaks),
     /// What was held at most.
     Peaks(Peaks),
-    /// The bytes that were taken, the lines that were dealt with, and the features that were kept.
+    /// The bytes that were taken, the lines that were handled, and the features that were kept.
     Counts(u64, u64, u64),
 }
 

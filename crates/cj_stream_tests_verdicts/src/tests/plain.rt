@@ -114,7 +114,7 @@ impl Plain {
         Ok(())
     }
 
-    /// Deals with a feature with this id.
+    /// Handles a feature with this id.
     fn take_feature(&mut self, line: &Line, id: &str, way: &Way) -> Result<(), Fail> {
         if let Some(asked) = way.id {
             if asked != id {
@@ -126,7 +126,7 @@ impl Plain {
         Ok(())
     }
 
-    /// Deals with an invalid line. Returns whether the next one is read.
+    /// Handles an invalid line. Returns whether the next one is read.
     fn refuse(
         &mut self,
         alloc: Global,
@@ -152,7 +152,7 @@ impl Plain {
         Ok(true)
     }
 
-    /// Deals with a line. Returns whether the next one is read.
+    /// Handles a line. Returns whether the next one is read.
     fn take(&mut self, alloc: Global, line: &Line, way: &Way) -> Result<bool, Fail> {
         match verdict_on(&line.known, self.outcome.lines.saturating_add(1), way) {
             Verdict::Header => self.write(line)?,

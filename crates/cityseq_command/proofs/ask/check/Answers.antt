@@ -14,7 +14,7 @@ returns-in-Complete g c =
     let new = channel g.W.Write.contents c.write_check.new.out in
     let ends = rw c.in-Complete.is at e.3.account.ends in
     let kept = c.good_lines_are_kept.ensures.kept all e.0 outcome.lines in
-    let told = c.good_lines_are_kept.ensures.reported all e.0 outcome.lines in
+    let said = c.good_lines_are_kept.ensures.reported all e.0 outcome.lines in
     let collected = c.reports_are_collected.ensures.runs (run_of ask e.0 outcome)
     (g.R.Read.remaining c.run-outcome.new.reader) e.3.account (λ none. (c.run-outcome.ensures.memory none).0) in
     let w = c.write_check.ensures in (
@@ -24,7 +24,7 @@ returns-in-Complete g c =
           e.3.account e.2 e.4 e.5 collected
           (rw c.in-Complete.is (Says-check all e.0 _ _ _ c.write_check.result c.end_of_writing.result old new ends.1
           (features-kept all e.0 _ _ _ kept e.3.account.counts ends.1)
-          (lines-refused all e.0 _ _ _ told e.3.account.counts ends.1) c.end_of_writing.ensures
+          (lines-refused all e.0 _ _ _ said e.3.account.counts ends.1) c.end_of_writing.ensures
           (record { whole = w.ok; front = w.fault; failures = w.failures })))
           (cause-text c.write_check.result c.end_of_writing.result _ _ c.end_of_writing.ensures w.failures),
     )

@@ -1,7 +1,7 @@
 use Rattle.cityseq_command.proofs.Common.{Consumes, Filter, HasRisen, IsAtEnd, List, Memory, Ok, Took, [], ap, channel, fault_line, output_failures, refl, run_of, status_after, stream_of, subst, sym, ℕ, ◌∙◌, ◌≡◌}
-use Rattle.cityseq_command.specs.Performed.{told_by, Does, Performs, asked, rules_of_ask}
+use Rattle.cityseq_command.specs.Performed.{sinks, Does, Performs, asked, rules_of_ask}
 use Rattle.cityseq_command.specs.ReportWriter.{WritesReport, lent_output, report_lines}
-use Rattle.cityseq_command.proofs.PerformLemmas.{Answers-kept, Does-run, enough-told, lacks-room}
+use Rattle.cityseq_command.proofs.PerformLemmas.{Answers-kept, Does-run, enough-said, lacks-room}
 use Rattle.cityseq_command.proofs.WroteLemmas.{WroteAfter-then, wrote-reports}
 use Rattle.cityseq_command.proofs.ask.perform.Given.{Over}
 use Rattle.cityseq_command.proofs.ask.perform.Goals.{in-Check, in-Filter, in-Info}
@@ -15,8 +15,8 @@ Did g c r =
     Does (WritesReport g.E.Write.contents)
     (asked c.args.ask.now r (c.match-ask.reader ≡ c.args.reader.now)
     (IsAtEnd (g.R.Read.remaining c.match-ask.reader))) c.match-ask.outcome
-    (told_by (channel g.W.Write.contents c.args.out.now) c.new-reports.result)
-    (told_by (channel g.W.Write.contents c.match-ask.out) c.match-ask.reports)
+    (sinks (channel g.W.Write.contents c.args.out.now) c.new-reports.result)
+    (sinks (channel g.W.Write.contents c.match-ask.out) c.match-ask.reports)
 
 did : (g : Over) (c : goal.After-status_after g) → (r : List ℕ)
     × Consumes (g.R.Read.remaining c.args.reader.now) (g.R.Read.remaining c.match-ask.reader) r × Did g c r
@@ -49,7 +49,7 @@ did g c = elim c.match-ask.branch [
   | in-Info w ↦ rw (w.reader-is, w.out-is, w.reports-is, w.outcome-is, w.in-Info.is) w.info-outcome.ensures
 ]
 
--- The sink of reports holds the same loan to the end, so what it left is what the end is told on.
+-- The sink of reports holds the same loan to the end, so what it left is what the line of the end comes after.
 performs : (g : Over) (c : goal.After-status_after g) (r : List ℕ) → Did g c r
     → Performs (asked c.args.ask.now r (c.match-ask.reader ≡ c.args.reader.now)
     (IsAtEnd (g.R.Read.remaining c.match-ask.reader))) c.status_after.result
@@ -59,7 +59,7 @@ performs : (g : Over) (c : goal.After-status_after g) (r : List ℕ) → Did g c
       err = channel g.E.Write.contents c.show_after-shown.new.err;
     })
 performs g c r d =
-    let told = c.match-ask.outcome.ended in
+    let said = c.match-ask.outcome.ended in
     let shown = c.show_after-shown.result in
     let wrote = wrote-reports g.E.Write.contents d.refused c.new-reports.result c.match-ask.reports d.reported.took in
     let back : c.err-1.given.0 ≡ lent_output c.match-ask.reports =
@@ -72,27 +72,27 @@ performs g c r d =
     record {
       outcome = d.outcome;
       refused = d.refused;
-      told = told;
+      said = said;
       shown = shown;
       account = d.account;
       stops = d.stops;
       within = d.within;
       enough = λ few is.
-          enough-told c.args.ask.now r _ d.outcome d.refused told _ _ _ d.answers d.within few is;
+          enough-said c.args.ask.now r _ d.outcome d.refused said _ _ _ d.answers d.within few is;
       reported = d.reported.collected;
       usual = λ off.
           let law = c.first_invalid_line_is_the_end.ensures.unreported_first in
           subst (λ rs. Took Collects [] rs d.refused)
           (law (rules_of_ask c.args.ask.now) r d.outcome.lines off d.account.counts.counted.good)
           (More-all Collects over-reported d.reported.collected.reports);
-      answers = Answers-kept c.args.ask.now r _ d.outcome d.refused told (channel g.W.Write.contents c.args.out.now)
+      answers = Answers-kept c.args.ask.now r _ d.outcome d.refused said (channel g.W.Write.contents c.args.out.now)
           (channel g.W.Write.contents c.match-ask.out) (channel g.W.Write.contents c.flush.new.self) d.answers
           c.flush.ensures.bytes c.flush.ensures.failures;
       cause = λ is.
           subst (λ n. HasRisen (output_failures c.args.out.now) n) (sym c.flush.ensures.failures) (d.cause is);
       reports = record {
         flushed = c.flush.result;
-        told = c.flush.ensures.noted;
+        answered = c.flush.ensures.noted;
         end = c.show_after-shown.ensures.end;
         line = line;
       };

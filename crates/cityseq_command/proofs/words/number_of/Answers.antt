@@ -1,10 +1,10 @@
 use Rattle.cityseq_command.proofs.Common.{Err, List, None, Ok, Option, ReadsOne, Result, Some, Text, ap, unwrap_or, ℕ, ◌∙◌, ◌≡◌}
 use Rattle.std.specs.Str.Parse.{ParsesUnsigned, ExplainsUnsignedError, HasUnsignedDigitsIfOk}
-use Rattle.cityseq_command.specs.Words.{IsNumber, number_in}
+use Rattle.cityseq_command.specs.Words.{IsNumeral64, number_in}
 use Rattle.cityseq_command.proofs.words.number_of.Goals as goal
 
 -- where a text spells a number, that number is read
-read : {E : Type 0} (gives : Text → Result ℕ E → Type 0) (r : Option ℕ) (text : Text) (usual : ℕ) → IsNumber text
+read : {E : Type 0} (gives : Text → Result ℕ E → Type 0) (r : Option ℕ) (text : Text) (usual : ℕ) → IsNumeral64 text
     → ((x : Result ℕ E) → gives text x → ParsesUnsigned 64 10 text x) → ReadsOne gives text r
     → unwrap_or r usual ≡ number_in text
 read gives (Some v) text usual is parses reads = (parses (Ok v) reads).1

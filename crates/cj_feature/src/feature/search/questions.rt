@@ -114,6 +114,8 @@ impl<const ROOM: usize, const KEPT: usize> Questions<ROOM, KEPT> {
 
     /// Sets the flag of the question in a run on these texts. A city object of the first text
     /// lists the second. Returns whether there was one without a flag.
+    ///
+    /// It takes the texts and the run one by one, since only the questions change.
     fn answer_item(
         &mut self,
         list: &str,
@@ -140,6 +142,8 @@ impl<const ROOM: usize, const KEPT: usize> Questions<ROOM, KEPT> {
 
     /// Sets the flags of the questions in a run on this name that the list of a city object of the
     /// name answers. Once all have flags, the rest of the list is not read.
+    ///
+    /// It takes the texts and the run one by one, as `answer_item` does.
     fn answer_items(
         &mut self,
         list: &str,
@@ -179,6 +183,8 @@ impl<const ROOM: usize, const KEPT: usize> Questions<ROOM, KEPT> {
 
     /// Sets the flags of the questions that a city object answers, if one asks about its name.
     /// Then only the later city objects still have questions to answer.
+    ///
+    /// It takes the texts one by one, as `answer_item` does.
     fn answer_object(&mut self, list: &str, objects: Node, name: Node, object: Node, later: Members)
         requires answered { AreAnswered (chars list.now) objects (trees (name, object) ∷ members_left later) self.old }
         requires listed { (from to : Tree) → same_text (tree name) from ≡ true
@@ -221,6 +227,8 @@ impl<const ROOM: usize, const KEPT: usize> Questions<ROOM, KEPT> {
 
     /// Returns whether a city object of the first text lists the second one, if that is asked in a
     /// run.
+    ///
+    /// It takes the texts and the run one by one, as `answer_item` does.
     fn is_listed(&self, list: &str, objects: Node, run: Run, from: Text, to: Noted) -> Option<bool>
         requires { AreAnswered (chars list.now) objects [] self.now }
         ensures { result ≡ Some true → lists_of (chars list.now) (members_of (tree objects.entry))

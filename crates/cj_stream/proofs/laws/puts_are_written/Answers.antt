@@ -1,7 +1,7 @@
 use Rattle.cj_stream.proofs.Common.{IsAtEnd, Keeps, channel, output_failures, output_law, output_writer, subst, sym}
 use Rattle.cj_stream.proofs.CutLemmas.{Copies-puts}
 use Rattle.cj_stream.proofs.HeadlineLemmas.{Headline-run, Keeps-same, unput}
-use Rattle.cj_stream.proofs.OutputLemmas.{Writes-puts, WritesLines-told}
+use Rattle.cj_stream.proofs.OutputLemmas.{Writes-puts, WritesLines-said}
 use Rattle.cj_stream.proofs.laws.puts_are_written.Goals as goal
 
 pub returns-clause-runs : goal.returns-clause-runs
@@ -10,7 +10,7 @@ returns-clause-runs g c = λ r e a b puts. Writes-puts (λ o. g.W.Write.contents
 
 pub returns-clause-lines : goal.returns-clause-lines
 returns-clause-lines g c = λ run left a b runs none.
-    WritesLines-told (λ o. g.W.Write.contents (output_writer o)) output_failures run.rules run.read run.outcome.lines a
+    WritesLines-said (λ o. g.W.Write.contents (output_writer o)) output_failures run.rules run.read run.outcome.lines a
     b run.outcome.ended none runs.sink
 
 pub returns-clause-headline : goal.returns-clause-headline

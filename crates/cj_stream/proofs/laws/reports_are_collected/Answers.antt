@@ -1,5 +1,5 @@
 use Rattle.cj_stream.proofs.Common.{Collects, IsAtEnd, Keeps, [], channel, output_failures, output_law, output_writer, reported_first, subst, sym}
-use Rattle.cj_stream.proofs.HeadlineLemmas.{Headline-run, Keeps-same, undealt, unput}
+use Rattle.cj_stream.proofs.HeadlineLemmas.{Headline-run, Keeps-same, unhandled, unput}
 use Rattle.cj_stream.proofs.NoteLemmas.{Noting-collected}
 use Rattle.cj_stream.proofs.OutputLemmas.{Writes-puts}
 use Rattle.cj_stream.proofs.laws.reports_are_collected.Goals as goal
@@ -15,6 +15,6 @@ returns-clause-headline g c = λ run left a b runs lacks cause.
     (reported_first run.rules run.outcome.lines run.read) runs.account
     (Writes-puts (λ o. contents (output_writer o)) output_failures run.rules run.read a b run.outcome.ended runs.puts)
     (Noting-collected run (IsAtEnd left) runs.account
-    (λ is. undealt run (IsAtEnd left) runs.account (lacks is))).noted cause lacks
+    (λ is. unhandled run (IsAtEnd left) runs.account (lacks is))).noted cause lacks
     (λ is. subst (λ s. Keeps (contents (output_writer a)) (contents (output_writer s)))
     (sym (unput (output_law contents) run (IsAtEnd left) a b runs is (lacks is))) (Keeps-same _))

@@ -1,7 +1,7 @@
 use Rattle.cj_stream.proofs.Common.{[], joined, lines_of, map, refl, rules_of, take, ◌+◌}
 use Rattle.cj_stream.proofs.CutLemmas.{unread-at}
 use Rattle.cj_stream.proofs.LinePieceLemmas.{Delivers-whole, PutsPieces-ends}
-use Rattle.cj_stream.proofs.NoteLemmas.{NotesRun-told, NotesPieces-told, noted-none}
+use Rattle.cj_stream.proofs.NoteLemmas.{NotesRun-said, NotesPieces-said, noted-none}
 use Rattle.cj_stream.proofs.RunLemmas.{memory-sink}
 use Rattle.cj_stream.proofs.WholeCounts.{CountsAll-ends}
 use Rattle.cj_stream.proofs.pieces.put_pieces.Goals as goal
@@ -16,13 +16,13 @@ returns g c =
     let unread = unread-at rules [] pieces r.taken r.ended e.fed.at in
     let sink = Delivers-whole rules [] 0 refl g.S.LineSink.law c.args.sink.now c.feed_all.new.sink pieces r.taken
     (lines_of c.feed_all.new.engine) r.ended e.taken in
-    let noted = NotesRun-told g.N.ReportSink.notes rules given _ (lines_of c.feed_all.new.engine) _ _
+    let noted = NotesRun-said g.N.ReportSink.notes rules given _ (lines_of c.feed_all.new.engine) _ _
     e.fed.counts.counted.good e.reports r.ended e.ends (λ lacks. (e.fed.memory lacks).none) in
     record {
       fed = e.fed;
       puts = PutsPieces-ends g.S.LineSink.law rules pieces r.taken _ _ _ _ _ e.fed.counts r.ended e.ends sink e.taken
           unread;
-      notes = NotesPieces-told g.N.ReportSink.notes rules pieces r.taken _ _ _ r.ended e.ends
+      notes = NotesPieces-said g.N.ReportSink.notes rules pieces r.taken _ _ _ r.ended e.ends
           (λ h. let k = rw h at unread in k) (λ h. let k = rw h at unread in k) noted;
       sink = sink;
       reports = e.reports;

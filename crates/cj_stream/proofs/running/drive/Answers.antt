@@ -1,9 +1,9 @@
 use Rattle.cj_stream.proofs.Common.{Err, IsAtEnd, Memory, ReadFault, ReadLimit, Run, [], ap, append-nil, arith, inr, is_err, length, length-append, length-take, lines_of, outcome_of, refl, rules_of, sym, take, ◌++◌, ◌+◌, ◌∙◌, ◌≡◌}
-use Rattle.cj_stream.proofs.RunLemmas.{Consumes-then, Consumes-kept, Delivers-then, Ends-finished, Ends-fed, whole-good, HasRisen-after, told-not_complete, fault-not_complete, limit-not_complete, Gave-finished, Gave-fed, last-none, last-piece, least-going, begun-judged, stops-after}
+use Rattle.cj_stream.proofs.RunLemmas.{Consumes-then, Consumes-kept, Delivers-then, Ends-finished, Ends-fed, whole-good, HasRisen-after, said-not_complete, fault-not_complete, limit-not_complete, Gave-finished, Gave-fed, last-none, last-piece, least-going, begun-judged, stops-after}
 use Rattle.cj_stream.proofs.LeastLemmas.{begun-held}
-use Rattle.cj_stream.proofs.CutLemmas.{unread-told, unread-concludes}
+use Rattle.cj_stream.proofs.CutLemmas.{unread-said, unread-concludes}
 use Rattle.cj_stream.proofs.FirstLemmas.{first-same}
-use Rattle.cj_stream.proofs.NoteLemmas.{Both-left, Both-told}
+use Rattle.cj_stream.proofs.NoteLemmas.{Both-left, Both-said}
 use Rattle.cj_stream.proofs.TookLemmas.{More-over, More-then, over-reported}
 use Rattle.cj_stream.specs.Source.{source_reader}
 use Rattle.cj_stream.proofs.DeviceLemmas.{unfailed-end, unfailed-limit, unread-limit}
@@ -48,7 +48,7 @@ returns-in-Ok-eq0-clause-runs g c =
     let run : Run =
     record { rules = rules_of c.args.engine.now; read = r; outcome = outcome_of c.finish.new.self c.finish.result } in
     let unread = unread-concludes _ r _ c.finish.result (finished.concludes r i.5.2 i.2) in
-    let both = Both-told g.S.LineSink.law g.N.ReportSink.notes run
+    let both = Both-said g.S.LineSink.law g.N.ReportSink.notes run
     (IsAtEnd (g.R.Read.remaining (source_reader c.read.new.self))) c.args.sink.now c.finish.new.sink c.args.reports.now
     c.finish.new.reports
     (record {
@@ -95,7 +95,7 @@ returns-in-Err-feed-clause-runs g c =
     let grown : length (r ++ piece) ≡ length r + c.in-Ok.n = length-append r piece
     ∙ ap (λ n. length r + n) (sym c.in-Ok.ensures.bound.1) in
     let stands = feeds.stands r i.5.2 in
-    let told = feeds.told r i.5.2 i.2 in
+    let said = feeds.said r i.5.2 i.2 in
     let lacks = λ (h : c.in-Err-feed.end ≡ Memory).
     (feeds.memory r i.5.2 i.2 (ap Err h)).0 in
     let same = first-same (rules_of c.args.engine.now) (lines_of e) r piece (i.5.2.going i.2).0.lines in
@@ -106,15 +106,15 @@ returns-in-Err-feed-clause-runs g c =
       outcome = outcome_of c.feed.new.self
           c.in-Err-feed.end;
     } in
-    let both = Both-told g.S.LineSink.law g.N.ReportSink.notes run
+    let both = Both-said g.S.LineSink.law g.N.ReportSink.notes run
     (IsAtEnd (g.R.Read.remaining (source_reader c.read.new.self))) c.args.sink.now c.feed.new.sink c.args.reports.now
     c.feed.new.reports
     (record {
       bounded = let k = stands.bounded in rw (i.2, feeds.rules, i.3) at k;
-      exact = λ h. absurd (told-not_complete (rules_of e) (r ++ piece) (lines_of c.feed.new.self) c.in-Err-feed.end told
+      exact = λ h. absurd (said-not_complete (rules_of e) (r ++ piece) (lines_of c.feed.new.self) c.in-Err-feed.end said
           h);
       counts = let k = stands.counts in rw (i.2, feeds.rules, i.3) at k;
-      ends = Ends-fed _ (r ++ piece) _ _ c.in-Err-feed.end (rw i.3 at told);
+      ends = Ends-fed _ (r ++ piece) _ _ c.in-Err-feed.end (rw i.3 at said);
     })
     (λ h. (lacks h).none)
     (let k = feeds.sink r i.5.2 i.2 in
@@ -127,18 +127,18 @@ returns-in-Err-feed-clause-runs g c =
       Consumes-then _ _ _ r piece i.5.1 c.in-Ok.ensures.bytes.0,
       record {
         giving = c.loop-i._i + 1;
-        gave = Gave-fed _ (r ++ piece) _ _ _ c.in-Err-feed.end (omega arith) told;
+        gave = Gave-fed _ (r ++ piece) _ _ _ c.in-Err-feed.end (omega arith) said;
         least = omega (arith, i.5.4, grown);
         most = omega (arith, i.1, (i.5.2.going i.2).2, grown, c.in-Ok.ensures.bound.0, c.read.auto.buffer, i.0);
       },
       both.0,
       both.1,
       stops-after e.reading _ r piece (i.5.2.going i.2).0 i.3 refl
-          (last-piece _ (r ++ piece) _ c.in-Err-feed.end piece told
+          (last-piece _ (r ++ piece) _ c.in-Err-feed.end piece said
           (omega (arith, c.in-Ok.ensures.bound.0, c.in-Ok.ensures.bound.1, c.read.auto.buffer, i.0)))
           (feeds.onward r i.5.2) (λ h. inr (let k = lacks h in rw i.3 at k))
           (let k = feeds.least r i.5.2 i.2 in rw i.3 at k)
-          (begun-judged run c.in-Err-feed.end (unread-told _ (r ++ piece) _ c.in-Err-feed.end told)),
+          (begun-judged run c.in-Err-feed.end (unread-said _ (r ++ piece) _ c.in-Err-feed.end said)),
     )
 
 pub returns-in-Err-feed-clause-cause : goal.returns-in-Err-feed-clause-cause
@@ -146,7 +146,7 @@ returns-in-Err-feed-clause-cause g c =
     λ e. HasRisen-after _ _ _ c.loop-i.invariant.4
     (c.feed.ensures.feeds.cause c.loop-i.invariant.2 (c.in-Err-feed.is ∙ ap Err e))
 
--- memory is refused before any line was dealt with
+-- memory is refused before any line was handled
 pub returns-in-Err-feed-clause-memory : goal.returns-in-Err-feed-clause-memory
 returns-in-Err-feed-clause-memory g c = λ lacks.
     let i = c.loop-i.invariant in
@@ -198,8 +198,8 @@ pub returns-in-Err-feed-clause-failed : goal.returns-in-Err-feed-clause-failed
 returns-in-Err-feed-clause-failed g c =
     let i = c.loop-i.invariant in
     unfailed-end _ c.in-Err-feed.end (c.read.ensures.failed ∙ ap is_err c.in-Ok.is)
-    (unread-told _ (i.5.0 ++ take c.in-Ok.n c.read.new.buffer) _ c.in-Err-feed.end
-    (c.in-Err-feed.ensures.feeds.told i.5.0 i.5.2 i.2))
+    (unread-said _ (i.5.0 ++ take c.in-Ok.n c.read.new.buffer) _ c.in-Err-feed.end
+    (c.in-Err-feed.ensures.feeds.said i.5.0 i.5.2 i.2))
 
 pub returns-clause-failed : goal.returns-clause-failed
 returns-clause-failed g c = unfailed-limit _ c.loop-i.invariant.6
@@ -238,5 +238,5 @@ pub returns-in-Err-feed-clause-limit : goal.returns-in-Err-feed-clause-limit
 returns-in-Err-feed-clause-limit g c =
     let i = c.loop-i.invariant in
     unread-limit c.in-Err-feed.end
-    (unread-told _ (i.5.0 ++ take c.in-Ok.n c.read.new.buffer) _ c.in-Err-feed.end
-    (c.in-Err-feed.ensures.feeds.told i.5.0 i.5.2 i.2))
+    (unread-said _ (i.5.0 ++ take c.in-Ok.n c.read.new.buffer) _ c.in-Err-feed.end
+    (c.in-Err-feed.ensures.feeds.said i.5.0 i.5.2 i.2))

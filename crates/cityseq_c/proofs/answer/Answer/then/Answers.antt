@@ -12,7 +12,7 @@ returns-then-self-ne0-clause-account c rules h a b cut few x y = record {
   judged = x.judged;
   account = Account-stays rules h a b cut x.outcome y.outcome (Unit {0}) (Unit {0}) (not-complete x c.if-self-ne0.true)
       (judged-unread x.outcome.ended x.judged) x.account;
-  told = x.told;
+  shown = x.shown;
 }
 
 pub returns-in-Some-clause-account : goal.returns-in-Some-clause-account
@@ -34,7 +34,7 @@ returns-in-Some-clause-account c rules h a b cut few x y =
           (rw (c.outcome.ensures, c.outcome-in-Some.ensures) few)
           (subst (λ o. Account (run_over rules (headed h a) o) (Unit {0})) (sym first) x.account)
           (subst (λ o. Account (run_over rules (headed h b) o) (Unit {0})) (sym second) y.account);
-      told = c.answer_of_outcome.ensures
+      shown = c.answer_of_outcome.ensures
           ∙ ap (λ n. answer_of c.then.result n) (sym (ap (λ z. z.written) c.answer_of_outcome.ensures));
     }
 
@@ -43,10 +43,10 @@ returns-in-Some-clause-judged c ended zero is =
     let same : c.in-Some.ended ≡ ended =
     same-end c.in-Some.ended ended (ended_by c.args.next.now) (sym c.ended.ensures ∙ c.in-Some.is) is in
     let both = c.then.ensures.complete (ap (λ o. o.ended) c.outcome.ensures) in
-    let told = rw (both, c.outcome.ensures, c.outcome-in-Some.ensures) at c.answer_of_outcome.ensures in
+    let shown = rw (both, c.outcome.ensures, c.outcome-in-Some.ensures) at c.answer_of_outcome.ensures in
     let count : c.saturating_add.result ≡ capped (c.args.self.now.written
     + (c.args.next.now.written - c.args.header_length)) = c.saturating_add.ensures
     ∙ ap (λ (n : ℕ). capped (c.args.self.now.written + n)) c.saturating_sub.ensures in
     let all : Outcome = capped_outcome (both_outcomes (outcome_by c.args.self.now Complete)
     (outcome_by c.args.next.now c.in-Some.ended)) in
-    rw (← same) (told ∙ ap (λ (n : ℕ). answer_of all n) count)
+    rw (← same) (shown ∙ ap (λ (n : ℕ). answer_of all n) count)

@@ -18,7 +18,7 @@ returns-clause-joined c rules h a b cut done first second =
     ]
 
 pub returns-clause-zeros : goal.returns-clause-zeros
-returns-clause-zeros c tallied told none =
+returns-clause-zeros c tallied shown none =
     let header : c.if-self-eq0.header.now ≡ c.args.next.now =
     elim c.if-self-eq0.branch [
       | then-self-eq0 w ↦ ap (λ h. h.now) w.header-is
@@ -42,4 +42,4 @@ returns-clause-zeros c tallied told none =
     } in
     rw header
     (zeros-then c.args.self.now c.args.next.now c.of.result tallied c.sink.result c.sink-2.result c.then.result none
-    told c.sink.ensures c.sink-2.ensures c.then.ensures c.of.ensures size long)
+    shown c.sink.ensures c.sink-2.ensures c.then.ensures c.of.ensures size long)

@@ -113,6 +113,8 @@ fn note(questions: &mut [Question], count: usize, question: Question) -> usize
 
 /// Notes the questions on these items of a city object's list, until the array is full. Returns how
 /// many there are then.
+///
+/// It takes the texts one by one, since only the questions change.
 fn note_items<const KEPT: usize>(
     objects: Node,
     questions: &mut [Question],

@@ -9,11 +9,11 @@ pub returns-clause-finished : goal.returns-clause-finished
 returns-clause-finished g c =
     elim c.if-lines-gt0.branch [
       | then-lines-gt0 w ↦ rw (← c.self.view_is, c.in_default.is, w.self-inside-is, w.sink-is)
-          (IsFinished-finishes g.S.LineSink.law c.self.inside.framer w.finish.new.self _ _ c.self.inside.taken
+          (IsFinished-finishes g.S.LineSink.law c.self.inside.splitter w.finish.new.self _ _ c.self.inside.taken
           (answer_of line_end w.finish.result) _ (w.end-is ∙ (w.from-end.ensures ∙ w.after.ensures))
           w.finish.ensures.carries (never-lacks w.finish.result) w.finish.ensures.finishes)
       | else-lines-gt0 w ↦ rw (← c.self.view_is, c.in_default.is, w.self-inside-is, w.sink-is)
-          (IsFinished-finishes g.S.LineSink.law c.self.inside.framer w.finish_first.new.self _ _ c.self.inside.taken
+          (IsFinished-finishes g.S.LineSink.law c.self.inside.splitter w.finish_first.new.self _ _ c.self.inside.taken
           (answer_of header_end w.finish_first.result) _
           (w.end-is ∙ (w.from-end-else-lines-gt0.ensures ∙ w.after-else-lines-gt0.ensures))
           w.finish_first.ensures.carries (λ h. w.finish_first.ensures.memory (header-lacks w.finish_first.result h))
@@ -26,10 +26,10 @@ returns-clause-reports g c =
       | then-lines-gt0 w ↦ rw (← c.self.view_is, w.self-inside-is, w.reports-is)
           (λ p st going. w.finish.ensures.reports p (st.going going).0)
       | else-lines-gt0 w ↦ rw (← c.self.view_is, w.self-inside-is, w.reports-is) (λ p st going.
-          let counts = Counts-finished g.S.LineSink.law c.self.inside.framer.reading w.finish_first.new.self.reading
+          let counts = Counts-finished g.S.LineSink.law c.self.inside.splitter.reading w.finish_first.new.self.reading
           c.args.sink.now w.finish_first.new.sink p (st.going going).0 (answer_of header_end w.finish_first.result)
           (w.finish_first.ensures.finishes.answers p (st.going going).0) in
-          Notes-first g.N.ReportSink.notes c.self.inside.framer.reading.rules p c.self.inside.framer.reading.lines
+          Notes-first g.N.ReportSink.notes c.self.inside.splitter.reading.rules p c.self.inside.splitter.reading.lines
           w.finish_first.new.self.reading.lines _ _
           (omega (arith, w.if-lines-gt0.false, c.lines.ensures)) w.finish_first.ensures.few counts.counted.good refl)
     ]

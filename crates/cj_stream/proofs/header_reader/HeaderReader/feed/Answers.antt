@@ -11,7 +11,7 @@ returns-in-Some-clause-feeds g c =
 pub returns-in-Ok-clause-feeds : goal.returns-in-Ok-clause-feeds
 returns-in-Ok-clause-feeds g c =
     rw (← c.self.view_is, none_from_not_some c.self.inside.ended c.in_default.not-Some)
-    (Feeds-advances g.S.LineSink.law c.self.inside.framer c.take_front.new.self _ _ c.self.inside.taken _
+    (Feeds-advances g.S.LineSink.law c.self.inside.splitter c.take_front.new.self _ _ c.self.inside.taken _
     c.take_front.ensures.carries (take c.in-Ok.progress.used c.args.piece.now) _
     (omega (arith, length-take c.in-Ok.progress.used c.args.piece.now, c.in-Ok.ensures.front.within))
     c.in-Ok.ensures.ok)
@@ -19,6 +19,6 @@ returns-in-Ok-clause-feeds g c =
 pub returns-in-Err-clause-feeds : goal.returns-in-Err-clause-feeds
 returns-in-Err-clause-feeds g c =
     rw (← c.self.view_is, none_from_not_some c.self.inside.ended c.in_default.not-Some)
-    (Feeds-stops g.S.LineSink.law c.self.inside.framer c.take_front.new.self _ _ c.self.inside.taken _
+    (Feeds-stops g.S.LineSink.law c.self.inside.splitter c.take_front.new.self _ _ c.self.inside.taken _
     c.take_front.ensures.carries c.args.piece.now (header_end c.in-Err.end) (ap (answer_of header_end) c.in-Err.is)
     c.in-Err.ensures.err c.in-Err.ensures.least)

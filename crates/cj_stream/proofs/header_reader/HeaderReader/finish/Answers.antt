@@ -11,6 +11,6 @@ returns-in-Some-clause-finished g c =
 pub returns-clause-finished : goal.returns-clause-finished
 returns-clause-finished g c =
     rw (← c.self.view_is, none_from_not_some c.self.inside.ended c.in_default.not-Some)
-    (IsFinished-finishes g.S.LineSink.law c.self.inside.framer c.finish_first.new.self _ _ c.self.inside.taken _
+    (IsFinished-finishes g.S.LineSink.law c.self.inside.splitter c.finish_first.new.self _ _ c.self.inside.taken _
     (header_end c.after-end.result) c.after-end.ensures c.finish_first.ensures.carries
     (λ h. c.finish_first.ensures.memory (header-lacks c.finish_first.result h)) c.finish_first.ensures.finishes)

@@ -11,13 +11,13 @@ returns-in-Some-clause-feeds g c =
 pub returns-in-Ok-clause-feeds : goal.returns-in-Ok-clause-feeds
 returns-in-Ok-clause-feeds g c =
     rw (← c.self.view_is, none_from_not_some c.self.inside.ended c.in_default.not-Some)
-    (Feeds-advances g.S.LineSink.law c.self.inside.framer c.take_piece.new.self _ _ c.self.inside.taken _
+    (Feeds-advances g.S.LineSink.law c.self.inside.splitter c.take_piece.new.self _ _ c.self.inside.taken _
     c.take_piece.ensures.carries c.args.piece.now _ refl c.in-Ok.ensures.ok)
 
 pub returns-in-Err-clause-feeds : goal.returns-in-Err-clause-feeds
 returns-in-Err-clause-feeds g c =
     rw (← c.self.view_is, none_from_not_some c.self.inside.ended c.in_default.not-Some)
-    (Feeds-stops g.S.LineSink.law c.self.inside.framer c.take_piece.new.self _ _ c.self.inside.taken _
+    (Feeds-stops g.S.LineSink.law c.self.inside.splitter c.take_piece.new.self _ _ c.self.inside.taken _
     c.take_piece.ensures.carries c.args.piece.now (line_end c.in-Err.end) (ap (answer_of line_end) c.in-Err.is)
     c.in-Err.ensures.err c.in-Err.ensures.least)
 

@@ -11,7 +11,7 @@ returns-in-Some-clause-finished g c =
 pub returns-clause-finished : goal.returns-clause-finished
 returns-clause-finished g c =
     rw (← c.self.view_is, none_from_not_some c.self.inside.ended c.in_default.not-Some)
-    (IsFinished-finishes g.S.LineSink.law c.self.inside.framer c.finish.new.self _ _ c.self.inside.taken _
+    (IsFinished-finishes g.S.LineSink.law c.self.inside.splitter c.finish.new.self _ _ c.self.inside.taken _
     (line_end c.after-end.result) c.after-end.ensures c.finish.ensures.carries (never-lacks c.finish.result)
     c.finish.ensures.finishes)
 

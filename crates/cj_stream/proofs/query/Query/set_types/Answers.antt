@@ -149,8 +149,8 @@ returns-clause-ok c =
     let end = YieldsList-end texts c.loop-name.yielded _ c.loop-name.yielded_by _ _ c.in-None.is c.next.ensures.steps in
     let all = parted c.args.separator c.args.list.now in
     let types = types_in (criteria c.loop-name.self) in
-    let told : with_types c.args.extensions all no_types ≡ Some types =
+    let said : with_types c.args.extensions all no_types ≡ Some types =
     sym c.loop-name.invariant.left
     ∙ at_drop_all (λ names. with_types c.args.extensions names types) all (length c.loop-name.yielded)
     (omega (arith, end.1)) in
-    rw told (ap (λ (a : Criteria). Some a) (sym c.loop-name.invariant.set))
+    rw said (ap (λ (a : Criteria). Some a) (sym c.loop-name.invariant.set))

@@ -25,9 +25,9 @@ pub returns-then-meets-clause-met : goal.returns-then-meets-clause-met
 returns-then-meets-clause-met c =
     let map = c.args.map.now in
     let first : c.alone-first.result ≡ alone c.in-Some.number = search rules in
-    let told = c.meets.ensures (c.in-Some.number ∷ []) (ap Some (sym first)) in
+    let said = c.meets.ensures (c.in-Some.number ∷ []) (ap Some (sym first)) in
     let all = first_meets map c.args.low c.args.high c.in-Some.number (coordinates_left c.next.new.self)
-    (sym told ∙ c.if-meets.true) in
+    (sym said ∙ c.if-meets.true) in
     c.if-meets.true ∙ sym all
     ∙ ap (meets map c.args.low c.args.high) (sym c.in-Some.ensures.steps ∙ c.coordinates-numbers.ensures.numbers)
 

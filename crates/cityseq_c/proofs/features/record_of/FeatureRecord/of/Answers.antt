@@ -1,5 +1,5 @@
 use Rattle.cityseq_c.proofs.Common.{None, [], ap, get_or, length, refl, spelling_of, tree, ◌∙◌}
-use Rattle.cityseq_c.proofs.RangeLemmas.{nothing-ranged, ranges-told}
+use Rattle.cityseq_c.proofs.RangeLemmas.{nothing-ranged, ranges-shown}
 use Rattle.cityseq_c.proofs.features.record_of.FeatureRecord.of.Goals as goal
 
 pub returns : goal.returns
@@ -22,7 +22,7 @@ returns c lf = record {
   ranges = λ axis small. record {
     range = get_or c.widen_all.new.ranges axis None;
     ends = c.widen_all.ensures axis small [] (nothing-ranged axis small);
-    told = ranges-told c.widen_all.new.ranges c.range_of.result c.range_of-2.result c.range_of-3.result
+    shown = ranges-shown c.widen_all.new.ranges c.range_of.result c.range_of-2.result c.range_of-3.result
         c.range_of.ensures c.range_of-2.ensures c.range_of-3.ensures axis small;
   };
 }
