@@ -92,11 +92,10 @@ def tiny(megabytes, rounds):
 # `index` whose threads make no hash
 WITHOUT_HASH = """
 import sys
-from cityseq.indexes import digests
 from cityseq.cli import main
-from cityseq.sources.regular import RegularFile
-digests.HashedFile.read = RegularFile.read
-digests.HashedFile.content = lambda file: ""
+from cityseq.sources import regular
+regular.HashedFile.read = regular.RegularFile.read
+regular.HashedFile.content = lambda file: ""
 sys.exit(main(sys.argv[1:]))
 """
 

@@ -17,8 +17,6 @@ from __future__ import annotations
 
 TYPE_CHECKING = False  # `typing` takes long to load
 if TYPE_CHECKING:
-    from typing import Any
-
     from .calls import check, check_files, features
     from .calls import filter as filter  # noqa: F401
     from .calls import index, info, report, table
@@ -85,7 +83,7 @@ __all__ = [
 __version__ = "0.2.0"
 
 
-def __getattr__(name: str) -> Any:
+def __getattr__(name: str) -> object:
     """Loads a public name when it is first used. So `import cityseq` takes little time, and the
     command handles a fault that comes while it is loaded."""
     from importlib import import_module

@@ -4,10 +4,10 @@ from __future__ import annotations
 import os
 from collections.abc import Callable, Iterable, Iterator
 from dataclasses import replace
-from typing import TYPE_CHECKING, Any, Union
+from typing import TYPE_CHECKING, Union
 
 from .engine import USUAL_DEPTH, USUAL_LINE
-from .engine.judge import Box, Limits, Options, Query, Texts, Work, work_of
+from .engine.judge import Box, Options, Query, Texts, Work, work_of
 from .engine.reports import Report
 from .run import Info, Result, one_options, one_query, watched
 from .run.streams import Stream, results
@@ -16,7 +16,7 @@ from .sources.outputs import Limit, Target, Writer
 
 if TYPE_CHECKING:
     from .delivery.facts import Delivery
-    from .run.features import Feature
+    from .run.features import Feature, TableColumn
 
 
 OnReport = Callable[[Report], None] | None
@@ -75,15 +75,7 @@ def check(
         RequestError: An argument has a value that it may not have.
         LibraryMissing: The library is not there, or it is another version.
     """
-    made = Options(
-        Limits(line_limit, depth),
-        keep_going=keep_going,
-        tree=tree,
-        jobs=jobs,
-        part_size=part_size,
-        extensions=extensions,
-    )
-    how = one_options(options, made)
+    how = one_options(options, (line_limit, depth), (keep_going, tree, extensions), jobs, part_size)
     work = work_of("check", how)
     with watched(progress, [source]) as done:
         given = stream_of(source, whole)
@@ -119,15 +111,7 @@ def check_files(
         RequestError: An argument has a value that it may not have.
         LibraryMissing: The library is not there, or it is another version.
     """
-    made = Options(
-        Limits(line_limit, depth),
-        keep_going=keep_going,
-        tree=tree,
-        jobs=jobs,
-        part_size=part_size,
-        extensions=extensions,
-    )
-    how = one_options(options, made)
+    how = one_options(options, (line_limit, depth), (keep_going, tree, extensions), jobs, part_size)
     listed = list(sources) if progress is True else sources
     return _checked(listed, whole, work_of("check", how), how, on_report, progress)
 
@@ -204,15 +188,7 @@ def filter(
         RequestError: An argument has a value that it may not have, or the output is the source.
         LibraryMissing: The library is not there, or it is another version.
     """
-    made = Options(
-        Limits(line_limit, depth),
-        keep_going=keep_going,
-        tree=tree,
-        jobs=jobs,
-        part_size=part_size,
-        extensions=extensions,
-    )
-    how = one_options(options, made)
+    how = one_options(options, (line_limit, depth), (keep_going, tree, extensions), jobs, part_size)
     work = work_of("filter", how, one_query(query, Query(ids, types, lods, box, exclude)))
     refuse_same([source], [output])
     with watched(progress, [source]) as done:
@@ -256,14 +232,7 @@ def info(
         RequestError: An argument has a value that it may not have.
         LibraryMissing: The library is not there, or it is another version.
     """
-    made = Options(
-        Limits(line_limit, depth),
-        tree=tree,
-        jobs=jobs,
-        part_size=part_size,
-        extensions=extensions,
-    )
-    how = one_options(options, made)
+    how = one_options(options, (line_limit, depth), (False, tree, extensions), jobs, part_size)
     work = work_of("info", how, exact_lods=exact_lods)
     with watched(progress, [source]) as done:
         given = stream_of(source, whole)
@@ -304,10 +273,7 @@ def features(
     """
     from .run.features import features as listed  # few runs need it
 
-    how = one_options(
-        options,
-        Options(Limits(line_limit, depth), keep_going=keep_going, tree=tree, extensions=extensions),
-    )
+    how = one_options(options, (line_limit, depth), (keep_going, tree, extensions))
     work = work_of("filter", how, one_query(query, Query(ids, types, lods, box, exclude)))
     return listed(source, work)
 
@@ -328,7 +294,7 @@ def table(
     keep_going: bool = False,
     tree: bool = False,
     extensions: bool = False,
-) -> dict[str, Any]:
+) -> dict[str, TableColumn]:
     """Returns the features that a query selects as columns, which `pandas.DataFrame` takes. The
     other arguments are those of `features`.
 
@@ -348,10 +314,7 @@ def table(
     """
     from .run.features import table as tabled  # few runs need it
 
-    how = one_options(
-        options,
-        Options(Limits(line_limit, depth), keep_going=keep_going, tree=tree, extensions=extensions),
-    )
+    how = one_options(options, (line_limit, depth), (keep_going, tree, extensions))
     work = work_of("filter", how, one_query(query, Query(ids, types, lods, box, exclude)))
     if attributes is None:
         return tabled(source, work)
@@ -409,15 +372,7 @@ def index(
     from .indexes.index_run import checked
     from .indexes.index_run import index as indexed
 
-    made = Options(
-        Limits(line_limit, depth),
-        keep_going=keep_going,
-        tree=tree,
-        jobs=jobs,
-        part_size=part_size,
-        extensions=extensions,
-    )
-    how = one_options(options, made)
+    how = one_options(options, (line_limit, depth), (keep_going, tree, extensions), jobs, part_size)
     work, named = work_of("check", how), checked(paths, output)
     wanted = Wanted(footprints, None if attributes is None else checked_names(attributes))
     with watched(progress, named) as done:
@@ -466,8 +421,8 @@ def report(
     from .delivery import How, checked, of_bytes  # few runs need it
     from .delivery import report as made
 
-    given = Options(Limits(line_limit, depth), False, tree, jobs, part_size, extensions)
-    how = replace(one_options(options, given), keep_going=True)
+    given = one_options(options, (line_limit, depth), (False, tree, extensions), jobs, part_size)
+    how = replace(given, keep_going=True)
     work = work_of("check", how)
     with watched(progress, checked(paths, output)[0]) as done:
         by_file = None if done is None else of_bytes(done)

@@ -5,19 +5,24 @@ over the antimeridian, as RFC 7946 has it. pyproj computes projections. The edge
 rings of points, and what bulges between two points is never lost."""
 from __future__ import annotations
 
-import math
 import re
 import warnings
 from collections.abc import Callable, Iterable, Sequence
 from functools import cached_property, lru_cache, reduce
 from importlib import import_module
-from math import ceil, floor
+from math import ceil, floor, inf
 from threading import Lock
-from typing import Any, NamedTuple
+from typing import TYPE_CHECKING, NamedTuple, TypeVar
 
 from .engine import RequestError
 from .indexes.geopackage import SYSTEM
 
+if TYPE_CHECKING:
+    from decimal import Decimal
+
+    from pyproj import Transformer
+
+T = TypeVar("T")
 Extent = tuple[float, float, float, float]
 TURN = 360.0
 FARTHEST = 1e18  # a query has no greater coordinate
@@ -155,7 +160,7 @@ class Ring(NamedTuple):
         if poles or goes_round or east - west >= TURN or max(steps) > WIDEST:
             west, east = -180.0, 180.0
         south, north = max(min([south, *poles]), -90.0), min(max([north, *poles]), 90.0)
-        turns = TURN * math.floor((west + 180) / TURN) if west < -180 or west > 180 else 0.0
+        turns = TURN * floor((west + 180) / TURN) if west < -180 or west > 180 else 0.0
         west, east = west - turns, east - turns
         return west, south, east - TURN if east > 180 else east, north
 
@@ -202,8 +207,8 @@ def _unwound(longitudes: Sequence[float]) -> Values:
 DEGREES = "OGC:CRS84"
 FEW, STEPS, MANY = 4, 20, 100  # along each edge of a box that is moved
 FINE = 1e-9  # of a coordinate's size: more than moving it to and fro changes
-EVERYWHERE: Extent | None = (-math.inf, -math.inf, math.inf, math.inf)
-NOWHERE = Ring([math.inf], [math.inf])
+EVERYWHERE: Extent | None = (-inf, -inf, inf, inf)
+NOWHERE = Ring([inf], [inf])
 POLES = (-90.0, 90.0)
 _ONE_AT_A_TIME = Lock()  # objects of pyproj are for one thread at a time
 
@@ -265,7 +270,7 @@ def facts_of(code: int) -> Facts:
 
 
 @lru_cache(maxsize=256)
-def _operations(code: int) -> list[Any]:
+def _operations(code: int) -> list[Transformer]:
     """Returns the operations of PROJ from an EPSG code to degrees. The first one takes, near each
     point, the best one of the others. There is none if the system has no place on earth."""
     from pyproj import CRS, Transformer
@@ -284,13 +289,13 @@ def _operations(code: int) -> list[Any]:
         return []
 
 
-def _moved(operation: Any, ring: Ring, direction: str = "FORWARD") -> Ring:
+def _moved(operation: Transformer, ring: Ring, direction: str = "FORWARD") -> Ring:
     """Returns moved points. Those that have no place are infinite."""
     with _ONE_AT_A_TIME:
         return Ring(*operation.transform(*ring, direction=direction))
 
 
-def _drift(operation: Any, ring: Ring) -> tuple[float, float]:
+def _drift(operation: Transformer, ring: Ring) -> tuple[float, float]:
     """Returns how far points may be from where they were after they are moved there and back."""
     again = _moved(operation, _moved(operation, ring), "INVERSE")
     aside, up = (
@@ -306,7 +311,8 @@ class Projection:
 
     def __init__(self, code: int, extent: Extent | None) -> None:
         """Takes the EPSG code of the stream's coordinates, and the extent of all features."""
-        self._extent, (self._best, *self._others) = extent, _operations(code) or [None]
+        found = _operations(code)
+        self._extent, self._best, self._others = extent, next(iter(found), None), found[1:]
         # a stream of degrees may have places beyond 180 degrees
         self._turns = (-TURN, 0.0, TURN) if facts_of(code).is_in_degrees else (0.0,)
         self._poles = [
@@ -388,6 +394,7 @@ class Projection:
         if one is found. None if it lies only partly where an operation works."""
         outer: list[Extent] = []
         inner: list[Extent | None] = []
+        assert self._best is not None
         for operation in self._others or [self._best]:
             ring = _moved(operation, Ring.of(cut, STEPS), "INVERSE")
             has_place = ring.placed()
@@ -474,7 +481,7 @@ class System:
         Without pyproj that is not known, and False."""
         return self._facts.is_north_first
 
-    def turned(self, box: Sequence[Any], system: str | None) -> Any:
+    def turned(self, box: Sequence[T], system: str | None) -> tuple[T, T, T, T]:
         """Returns a box with east first in the order of the axes of a system, or the other way
         round."""
         is_turned = self.is_north_first if self.is_own(system) else system == WGS84
@@ -525,6 +532,6 @@ def _usual(uri: str) -> str:
     return EPSG.format(int(code)) if authority.upper() == "EPSG" and code.isdigit() else uri
 
 
-def may_be_degrees(box: Sequence[Any]) -> bool:
+def may_be_degrees(box: Sequence[float | Decimal]) -> bool:
     """Returns whether a box may be longitudes and latitudes."""
-    return all(abs(edge) <= limit for edge, limit in zip(box, (180, 90, 180, 90)))
+    return all(-limit <= edge <= limit for edge, limit in zip(box, (180, 90, 180, 90)))

@@ -16,15 +16,15 @@ from collections.abc import Callable, Iterable, Iterator
 from contextlib import closing
 from dataclasses import replace
 from functools import partial
-from typing import Any
+from typing import Union, cast
 
-from .calls import OnReport, Progress
+from .calls import OnReport, Path, Progress
 from .cluster import PART, Cluster, Job, checked_size
 from .cluster.folders import USUAL, Folder, filter_to_folder
 from .cluster.runs import PIECES, Runs
 from .cluster.tasks import SHORT, hash_file
 from .engine import USUAL_DEPTH, USUAL_LINE, RequestError
-from .engine.judge import Box, Limits, Options, Query, Texts, Work, work_of
+from .engine.judge import Box, Options, Query, Texts, Work, work_of
 from .indexes.builder import Builder
 from .indexes.index_run import Indexed, checked, of_takers, written
 from .run import Info, Result, one_options, one_query, watched
@@ -32,22 +32,24 @@ from .run.streams import Results, Stream
 from .sources import is_path, is_url, refuse_same
 from .sources.outputs import Target, Writer
 from .sources.packed import Packing
+from .sources.regular import Digest
 
 Size = int | str
+Paths = Union[Path, Iterable[Path]]
 PACKINGS = {None: None, "gz": Packing.GZIP, "zst": Packing.ZSTD}
 
 
-def _paths(paths: Any) -> list[str]:
+def _paths(paths: Paths) -> list[str]:
     """Returns the paths of the files. Raises `RequestError` if workers cannot open one."""
-    listed = [paths] if is_path(paths) or isinstance(paths, bytes) else list(paths)
+    listed: list[object] = [paths] if isinstance(paths, (str, bytes, os.PathLike)) else list(paths)
     for path in listed:
         if not is_path(path):
             raise RequestError(f"the workers open files by their paths: {path!r} is none")
-    return list(map(os.fsdecode, listed))
+    return [os.fsdecode(path) for path in listed if is_path(path)]
 
 
 def _run(
-    client: Any, paths: Any, work: Work, size: Any, tell: OnReport, progress: Progress
+    client: object, paths: Paths, work: Work, size: object, tell: OnReport, progress: Progress
 ) -> Results:
     """Yields the result of each file, in order."""
     cluster, named = Cluster(client, work, size), _paths(paths)
@@ -62,8 +64,8 @@ def _size(how: Options, size: Size) -> Size:
 
 
 def check(
-    client: Any,
-    paths: Any,
+    client: object,
+    paths: Paths,
     *,
     options: Options | None = None,
     line_limit: int = USUAL_LINE,
@@ -93,15 +95,13 @@ def check(
         RequestError: An argument has a value that it may not have.
         CityseqError: The scheduler is lost, or a worker has another engine than this process.
     """
-    how = one_options(
-        options, Options(Limits(line_limit, depth), keep_going, tree, extensions=extensions)
-    )
+    how = one_options(options, (line_limit, depth), (keep_going, tree, extensions))
     return _run(client, paths, work_of("check", how), _size(how, part_size), on_report, progress)
 
 
 def info(
-    client: Any,
-    paths: Any,
+    client: object,
+    paths: Paths,
     *,
     options: Options | None = None,
     exact_lods: bool = False,
@@ -115,19 +115,19 @@ def info(
 ) -> Iterator[Info]:
     """Summarises one file or several, and yields the result of each, in order. The arguments are
     those of `check` and of `cityseq.info`. A fault of a file is in its result."""
-    how = one_options(options, Options(Limits(line_limit, depth), tree=tree, extensions=extensions))
+    how = one_options(options, (line_limit, depth), (False, tree, extensions))
     work = work_of("info", how, exact_lods=exact_lods)
-    found: Any = _run(client, paths, work, _size(how, part_size), on_report, progress)
-    return found  # type: ignore[no-any-return]
+    found = _run(client, paths, work, _size(how, part_size), on_report, progress)
+    return cast(Iterator[Info], found)
 
 
 def filter(
-    client: Any,
-    path: Any,
+    client: object,
+    path: Path,
     output: Target | None = None,
     query: Query | None = None,
     *,
-    output_dir: Any = None,
+    output_dir: Path | None = None,
     packing: str | None = None,
     options: Options | None = None,
     ids: Texts | None = None,
@@ -158,9 +158,7 @@ def filter(
 
     The other arguments are those of `check` and of `cityseq.filter`, and so are the faults.
     """
-    how = one_options(
-        options, Options(Limits(line_limit, depth), keep_going, tree, extensions=extensions)
-    )
+    how = one_options(options, (line_limit, depth), (keep_going, tree, extensions))
     work = work_of("filter", how, one_query(query, Query(ids, types, lods, box, exclude)))
     if (output is None) == (output_dir is None):
         raise RequestError("one of `output` and `output_dir` is wanted")
@@ -179,7 +177,12 @@ def filter(
 
 
 def _folder(
-    client: Any, path: str, folder: Any, packing: str | None, work: Work, size: Size | None
+    client: object,
+    path: str,
+    folder: Path | None,
+    packing: str | None,
+    work: Work,
+    size: Size | None,
 ) -> tuple[Cluster, Folder]:
     """Returns the cluster and the folder of a filter that workers write."""
     if not is_path(folder) or packing not in PACKINGS:
@@ -197,16 +200,16 @@ class _Digests:
     def __init__(self, cluster: Cluster) -> None:
         self._cluster = cluster
 
-    def submit(self, path: str) -> Job:
+    def submit(self, path: str) -> Job[Digest | None]:
         """Begins to make the hash of a file. The result is that of `digest_of`."""
         whole = path if is_url(path) else os.path.abspath(path)
         return self._cluster.task("hash", path, hash_file, whole)
 
 
 def index(
-    client: Any,
-    paths: Any,
-    output: Any,
+    client: object,
+    paths: Paths,
+    output: Path,
     *,
     options: Options | None = None,
     line_limit: int = USUAL_LINE,
@@ -221,9 +224,7 @@ def index(
     """Writes an index of files where this is called, as `cityseq.index` does. The workers judge
     the files, and return where each feature is. Packed files are refused: they have no parts. The
     other arguments are those of `check`."""
-    how = one_options(
-        options, Options(Limits(line_limit, depth), keep_going, tree, extensions=extensions)
-    )
+    how = one_options(options, (line_limit, depth), (keep_going, tree, extensions))
     found: list[Result] = []
     named = checked(paths, output)
     work, builder = work_of("check", how), Builder(os.fsdecode(output))
@@ -239,11 +240,11 @@ def index(
 
 
 def write_index(
-    client: Any,
+    client: object,
     builder: Builder,
     indexed: Iterable[Indexed],
     work: Work,
-    size: Any,
+    size: object,
     take: Callable[[Result], None],
 ) -> None:
     """Lets workers judge the streams of an index, writes it, and passes each result to `take`."""

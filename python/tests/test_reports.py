@@ -1,12 +1,15 @@
 """Reports that nobody shows are not described, and reports that are shown are as before."""
+import contextlib
 import copy
 import io
+import itertools
 import pickle
 import unittest
 from dataclasses import asdict, replace
 from unittest import mock
 
 import cityseq
+from cityseq.engine import hints, reports
 from cityseq.engine.reports import KEPT, Report
 
 from . import support
@@ -93,6 +96,34 @@ class Commands(InFolder):
         self.assertEqual((said, status), ("    500 25 vertex index out of range\n", 1))
         _, said, _ = command("check", "--keep-going", "--max-reports", "2", path)
         self.assertEqual(said.count('feature "broken"'), 2)
+
+    def test_ids_excerpts_and_hints_are_made_for_shown_reports_alone(self):
+        """An exporter makes the same fault in each line. `--summary` needs the code alone."""
+        long = BROKEN[:-1] + b" " * KEPT + b"\n"
+        paths = [
+            self.file(HEADER + line * 3_000, name) for line, name in ((BROKEN, "s"), (long, "l"))
+        ]
+        makers = [reports.find_id, reports.excerpt_of, hints.met]
+        for path, (words, shown) in itertools.product(
+            paths,
+            (
+                (["--summary"], 0),
+                (["--summary", "--json"], 0),
+                (["--max-reports", "3"], 3),
+                (["--max-reports", "3", "--json"], 3),
+            ),
+        ):
+            with self.subTest(words, path=path), contextlib.ExitStack() as patches:
+                made = [
+                    patches.enter_context(
+                        mock.patch(f"{each.__module__}.{each.__name__}", side_effect=each)
+                    )
+                    for each in makers
+                ]
+                out, said, status = support.ran("check", "--keep-going", *words, path)
+                self.assertEqual(status, 1)
+                self.assertEqual(f"{out}{said}".count("the index is 4"), shown)
+                self.assertEqual([each.call_count for each in made], [shown] * len(made))
 
 
 class Speed(unittest.TestCase):

@@ -358,6 +358,15 @@ class Client(Served):
                 self.assertEqual(len(server.ranges), 1)
         self.assertNotIn("watch", [thread.name for thread in threading.enumerate()])
 
+    def test_a_connection_that_is_not_made_in_time(self):
+        """What watches has nothing to close then, and does not fail."""
+        patience = mock.patch.object(web_client, "PATIENCE", 0.01)
+        with patience, mock.patch.object(threading, "excepthook") as failed:
+            with web_client.AnswerWatch() as watch:
+                while not watch.is_late:
+                    time.sleep(0.01)
+        failed.assert_not_called()
+
     def test_lines_that_lie_close_are_one_request(self):
         with self.served() as (server, base):
             # 120 KB between each two, and the first 240 KB after the header

@@ -9,12 +9,15 @@ from contextlib import suppress
 from functools import lru_cache, partial
 from itertools import chain, compress, islice, repeat
 from operator import contains
-from typing import Any, Union
+from typing import TYPE_CHECKING, Union
 
 from ..engine import Text
 from ..engine.records import MEMBERS
 from ..engine.world import deep
 from ..indexes.geopackage import readable
+
+if TYPE_CHECKING:
+    from ..foreign import Json, Object
 
 ALL = "all"
 PLACES = 1, 5, 6  # of a record: the line, and where its attributes begin and how long they are
@@ -31,7 +34,7 @@ VALUE = re.compile(
     rb"[ \t\r\n]*:[ \t\r\n]*(?:(-?\d+)(?![\d.eE])|(-?\d[-+.\deE]*)"
     rb'|"([^"\\]*)"|("(?:[^"\\]|\\.)*")|(?:(true)|(false)|(null)))'
 )
-Columns = dict[str, list[Any]]
+Columns = dict[str, list["Json"]]
 Asked = Union[tuple[str, ...], str]  # names, or `ALL`
 
 
@@ -73,7 +76,7 @@ def _skip(text: str, at: int) -> int:
     return at if found is None else found.end()
 
 
-def _value(text: str, at: int) -> tuple[Any, int]:
+def _value(text: str, at: int) -> tuple[Json, int]:
     """Returns a value and where it ends."""
     return deep(partial(_DECODER.raw_decode, text, at))
 
@@ -122,9 +125,9 @@ def _finite(text: str) -> float | str:
     return number if abs(number) != float("inf") else text
 
 
-def _ordered(pairs: list[tuple[str, Any]]) -> dict[str, Any]:
+def _ordered(pairs: list[tuple[str, Json]]) -> Object:
     """Returns an object with its names in order. Of a repeated name the first counts."""
-    found: dict[str, Any] = {}
+    found: Object = {}
     for name, value in pairs:
         found.setdefault(name, value)
     return found
@@ -137,17 +140,17 @@ _TOLD = json.JSONDecoder(
 )
 
 
-def told(text: bytes) -> dict[str, Any]:
+def told(text: bytes) -> Object:
     """Returns attributes as Python reads JSON. There are none if they are no object. Of a repeated
     name the first counts. A number that is greater than all floats, or too long for Python, is a
     text."""
     if not text.startswith(b"{"):
         return {}
-    found: dict[str, Any] = deep(partial(_TOLD.decode, text.decode("utf-8")))
+    found: Object = deep(partial(_TOLD.decode, text.decode("utf-8")))
     return found
 
 
-def _plain(spelled: str) -> Any:
+def _plain(spelled: str) -> Json:
     """Returns a value by its spelling: an array or an object is a text."""
     if spelled[0] in "[{":
         return readable(spelled)
@@ -158,7 +161,7 @@ def _plain(spelled: str) -> Any:
     return whole(spelled) if spelled.lstrip("-").isdigit() else fraction(spelled)
 
 
-def _slowly(text: bytes) -> dict[str, Any]:
+def _slowly(text: bytes) -> Object:
     """Returns the values of attributes, whatever they are."""
     if not text.startswith(b"{"):
         return {}
@@ -174,7 +177,7 @@ def _is_flat(text: bytes) -> bool:
 
 
 # how the groups of `VALUE` are read
-READ: tuple[Callable[[bytes], Any], ...] = (
+READ: tuple[Callable[[bytes], Json], ...] = (
     lambda spelled: whole(spelled.decode("ascii")),
     lambda spelled: fraction(spelled.decode("ascii")),
     bytes.decode,
@@ -195,7 +198,7 @@ def _needles(names: tuple[str, ...]) -> list[bytes] | None:
     return [each.encode("utf-8", "surrogatepass") for each in spelled]
 
 
-def _sought(texts: Iterable[bytes], needle: bytes) -> list[Any]:
+def _sought(texts: Iterable[bytes], needle: bytes) -> list[Json]:
     """Returns the values of a name in simple texts: a string with a colon after it is a name."""
     found, length, match = [], len(needle), VALUE.match
     for text in texts:
@@ -210,7 +213,7 @@ def _sought(texts: Iterable[bytes], needle: bytes) -> list[Any]:
     return found
 
 
-def _strings(texts: Sequence[bytes], joined: bytes, needle: bytes) -> list[Any] | None:
+def _strings(texts: Sequence[bytes], joined: bytes, needle: bytes) -> list[Json] | None:
     """Returns the values of a name in flat texts without escapes, if no text has the name, or each
     has it once, and a string for it with no space between. Else None."""
     begin = needle + b':"'
@@ -259,12 +262,12 @@ def _some(texts: Sequence[bytes], names: tuple[str, ...]) -> Columns:
 _FAST = json.JSONDecoder(parse_float=str.encode)
 
 
-def _read(texts: Sequence[bytes]) -> list[Any]:
+def _read(texts: Sequence[bytes]) -> list[Json]:
     """Returns values of JSON. Of a repeated name the last counts."""
     joined = b"[%s]" % b",".join([text or b"0" for text in texts])
     if MINUS_ZERO.search(joined) is None:
         with suppress(ValueError, RecursionError):
-            found: list[Any] = _FAST.decode(joined.decode("utf-8"))
+            found: list[Json] = _FAST.decode(joined.decode("utf-8"))
             return found
     return list(map(_slowly, texts))
 
@@ -277,7 +280,7 @@ def _differ(text: bytes, count: int) -> bool:
     return text.count(b'":') == count and SPACED.search(text) is None
 
 
-def _objects(texts: Sequence[bytes]) -> list[dict[str, Any]]:
+def _objects(texts: Sequence[bytes]) -> list[Object]:
     """Returns the attributes of features. Floats are spelled."""
     objects = _read(texts)
     for number, (text, each) in enumerate(zip(texts, objects)):
@@ -299,7 +302,7 @@ def _real(spelled: bytes, is_usual: bool) -> float | Spelled:
     return float(spelled) if is_usual else fraction(spelled.decode("ascii"))
 
 
-def _numbers(values: list[Any]) -> list[Any]:
+def _numbers(values: list[Json]) -> list[Json]:
     """Returns the values of an attribute with its floats as numbers."""
     types = set(map(type, values))
     if bytes in types:
@@ -315,7 +318,7 @@ def _in_bits(number: int) -> int | Spelled:
     return number if -(1 << 63) <= number < 1 << 63 else Spelled(number)
 
 
-def _transposed(objects: list[dict[str, Any]]) -> Columns:
+def _transposed(objects: list[Object]) -> Columns:
     """Returns the values of objects by the names. If these are too many, some are left out."""
     names = list(objects[0]) if objects else []
     if len(names) <= MOST and all(list(each) == names for each in objects):
@@ -345,12 +348,12 @@ def columns_of(texts: Sequence[bytes], names: Asked) -> Columns:
     return _some(texts, names)
 
 
-def _number_told(value: object) -> Any:
+def _number_told(value: object) -> Json:
     """Returns a value as Python reads JSON."""
     return _TOLD.decode(value) if isinstance(value, Spelled) else value
 
 
-def rows_of(texts: Sequence[bytes], names: Asked) -> list[dict[str, Any]]:
+def rows_of(texts: Sequence[bytes], names: Asked) -> list[Object]:
     """Returns attributes of features as Python reads JSON. If names are given, others may lack."""
     if isinstance(names, str) or any(b"\\" in text or not _is_flat(text) for text in texts):
         return list(map(told, texts))

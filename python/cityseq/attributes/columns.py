@@ -9,13 +9,16 @@ import re
 import sqlite3
 from collections.abc import Iterable, Mapping, Sequence
 from dataclasses import dataclass, field
-from typing import Any
+from typing import TYPE_CHECKING
 
 from ..engine import RequestError
 from ..engine.records import Column, Same, stored
 from ..indexes import geopackage
 from ..indexes.geopackage import ATTRIBUTES, Attribute, quoted, readable
 from . import ALL, MOST, Asked, Columns, Spelled, number_of
+
+if TYPE_CHECKING:
+    from ..foreign import Json, Object
 
 LONGEST = 100  # characters of the name of a column
 EXACT = 1 << 53  # whole numbers up to this are floats too
@@ -91,7 +94,7 @@ def _kind(value: object) -> int:
     return REAL if isinstance(value, float) else TEXT
 
 
-def _kinds(values: Sequence[Any]) -> int:
+def _kinds(values: Sequence[Json]) -> int:
     """Returns the kinds of values."""
     found = 0
     for kind in set(map(type, values)):
@@ -161,7 +164,7 @@ class AttributeColumn:
             return self.first[TEXT if self.kinds & TEXT else WIDE]
         return min(self.first.values(), default=None)
 
-    def meet(self, values: Sequence[Any], fids: range) -> None:
+    def meet(self, values: Sequence[Json], fids: range) -> None:
         """Takes the next values."""
         kinds, was_text = _kinds(values), self.is_text
         if self.kinds == BOOL and kinds & ~BOOL:
@@ -180,7 +183,7 @@ class AttributeColumn:
             ]
 
     def column_of(
-        self, values: list[Any], base: sqlite3.Connection, number: int, fids: range
+        self, values: list[Json], base: sqlite3.Connection, number: int, fids: range
     ) -> Column:
         """Returns values as rows have them. Spellings that may be needed at the end are kept."""
         if self.is_text:
@@ -297,7 +300,7 @@ def _set_types(base: sqlite3.Connection, attributes: list[AttributeColumn]) -> N
         raise sqlite3.DatabaseError("the types of columns cannot be written")
 
 
-def properties_of(told: Mapping[str, Any], known: Mapping[str, Attribute]) -> dict[str, Any]:
+def properties_of(told: Mapping[str, Json], known: Mapping[str, Attribute]) -> Object:
     """Returns the attributes of a feature by the names of their columns. Those that the index has
     no columns for get such names too."""
     columns = {each.name: each.column for each in known.values()}

@@ -9,15 +9,17 @@ from collections.abc import Callable, Mapping, Sequence
 from datetime import datetime, timedelta
 from decimal import ROUND_FLOOR, Decimal, InvalidOperation
 from functools import lru_cache
-from itertools import chain
 from math import copysign, inf
-from typing import Any, NamedTuple, Union
+from typing import TYPE_CHECKING, NamedTuple, Union
 
 from ..engine import RequestError
 from ..engine import quoted as in_quotes
 from ..engine import shown
 from ..indexes.geopackage import Attribute, quoted, readable
 from .columns import FORMATS
+
+if TYPE_CHECKING:
+    from ..foreign import Package
 
 LONGEST = 10_000  # characters
 DEEPEST = 20  # AND in OR in AND, and so on: the parser of SQLite has a small stack
@@ -127,6 +129,7 @@ class Joined(NamedTuple):
 
 
 Filter = Union[Constant, Comparison, Like, Between, Among, Null, Not, Joined]
+Parts = list["Package"]  # what lark made of the parts of a rule, as the grammar has them
 QUOTE = re.compile(r"(\\\\)|\\'|''")  # in a text
 TURNED = {"<": ">", ">": "<", "<=": ">=", ">=": "<="}
 
@@ -144,15 +147,17 @@ def _number(spelled: str) -> Decimal:
         return Decimal(f"{sign}{'1e-9999' if power.startswith('-') else 'Infinity'}")
 
 
-def _joined(word: str, parts: list[Any]) -> Any:
+def _joined(word: str, parts: Sequence[Filter]) -> Filter:
     """Joins filters, of which some may be joined by this word already."""
     if len(parts) == 1:
         return parts[0]
-    inner = (each.inner if getattr(each, "word", "") == word else (each,) for each in parts)
-    return Joined(word, tuple(chain.from_iterable(inner)))
+    inner = (
+        each.inner if isinstance(each, Joined) and each.word == word else (each,) for each in parts
+    )
+    return Joined(word, tuple(each for part in inner for each in part))
 
 
-def _negated(rule: str) -> Callable[[Any, list[Any]], Not]:
+def _negated(rule: str) -> Callable[[_Tree, Parts], Not]:
     """Returns a method of `_Tree` for the opposite of a rule."""
     return lambda tree, parts: Not(getattr(tree, rule)(parts))
 
@@ -161,52 +166,52 @@ class _Tree:
     """Makes a filter of what the grammar finds. The methods have the names of the rules, and take
     what was made of the parts."""
 
-    def either(self, parts: list[Any]) -> Any:
+    def either(self, parts: list[Filter]) -> Filter:
         return _joined("OR", parts)
 
-    def both(self, parts: list[Any]) -> Any:
+    def both(self, parts: list[Filter]) -> Filter:
         return _joined("AND", parts)
 
-    def negation(self, parts: list[Any]) -> Not:
+    def negation(self, parts: list[Filter]) -> Not:
         return Not(parts[0])
 
-    def constant(self, parts: list[Any]) -> Constant:
+    def constant(self, parts: list[str]) -> Constant:
         return Constant(self.flag(parts))
 
-    def comparison(self, parts: list[Any]) -> Comparison:
+    def comparison(self, parts: Parts) -> Comparison:
         return Comparison(parts[0], str(parts[1]), parts[2])
 
-    def turned(self, parts: list[Any]) -> Comparison:
+    def turned(self, parts: Parts) -> Comparison:
         return Comparison(parts[2], TURNED.get(str(parts[1]), str(parts[1])), parts[0])
 
-    def like(self, parts: list[Any]) -> Like:
+    def like(self, parts: list[str]) -> Like:
         return Like(parts[0], self.text(parts[1:]))
 
-    def between(self, parts: list[Any]) -> Between:
+    def between(self, parts: Parts) -> Between:
         return Between(*parts)
 
-    def among(self, parts: list[Any]) -> Among:
+    def among(self, parts: Parts) -> Among:
         return Among(parts[0], tuple(parts[1:]))
 
-    def null(self, parts: list[Any]) -> Null:
+    def null(self, parts: list[str]) -> Null:
         return Null(parts[0])
 
     unlike, outside, not_among, not_null = map(_negated, ("like", "between", "among", "null"))
 
-    def name(self, parts: list[Any]) -> str:
+    def name(self, parts: list[str]) -> str:
         text = str(parts[0])
         return text[1:-1].replace('""', '"') if text.startswith('"') else text
 
-    def text(self, parts: list[Any]) -> str:
+    def text(self, parts: list[str]) -> str:
         return QUOTE.sub(lambda found: found[1] or "'", str(parts[0])[1:-1])
 
-    def number(self, parts: list[Any]) -> Decimal:
+    def number(self, parts: list[str]) -> Decimal:
         return _number(str(parts[0]))
 
-    def flag(self, parts: list[Any]) -> bool:
+    def flag(self, parts: list[str]) -> bool:
         return str(parts[0]).upper() == "TRUE"
 
-    def instant(self, parts: list[Any]) -> Instant:
+    def instant(self, parts: list[str]) -> Instant:
         kind = "date" if str(parts[0]).upper() == "DATE" else "date-time"
         text = self.text(parts[1:])
         if FORMATS[kind].fullmatch(text) is None:
@@ -217,7 +222,7 @@ class _Tree:
 
 
 @lru_cache(maxsize=1)
-def _parser() -> Any:
+def _parser() -> Package:
     """Returns the parser.
 
     Raises:
@@ -270,13 +275,14 @@ ABOVE = {"<": "<", "<=": "<", ">": ">=", ">=": ">="}
 OTHER = {"AND": "OR", "OR": "AND"}
 OPPOSITE = {"=": "<>", "<>": "=", "<": ">=", ">=": "<", ">": "<=", "<=": ">"}
 Number = Union[int, float]
+Value = Union[Number, str, None]
 
 
 class Condition(NamedTuple):
     """A condition of SQL, and the values in it."""
 
     sql: str
-    values: tuple[Any, ...]
+    values: tuple[Value, ...]
 
 
 # ---- numbers
@@ -396,7 +402,7 @@ class Translation:
         is the reason that a column has its type, or that is not of a format. None if there is none.
         """
         self._columns, self._in_the_way = columns, in_the_way
-        self._values: list[Any] = []
+        self._values: list[Value] = []
         self._left = MOST  # comparisons and values
 
     def condition(self, filter: Filter) -> Condition:

@@ -71,8 +71,8 @@ def _pieces(reader: Reader, watch: Watch | None, progress: Progress) -> Iterator
     rest, is_over, taken = bytearray(), False, 0
     while not is_over:
         piece = reader.read(PIECE)
-        is_packed, before = isinstance(reader.file, Unpacker), taken
-        taken = reader.file.taken if is_packed else taken + len(piece)
+        file, before = reader.file, taken
+        taken = file.taken if isinstance(file, Unpacker) else taken + len(piece)
         progress(taken - before)
         rest += piece
         is_over = not piece

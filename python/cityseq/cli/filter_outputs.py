@@ -5,7 +5,7 @@ from __future__ import annotations
 import json
 import os
 from collections.abc import Sequence
-from typing import Any
+from typing import TYPE_CHECKING
 
 from ..engine import RequestError, Text, quoted, shown, write_fault
 from ..engine.records import unescaped
@@ -13,6 +13,9 @@ from ..engine.reports import USUAL_BEGIN
 from ..sources import UNFINISHED, name_of
 from .options import Filter
 from .output import put_object, say
+
+if TYPE_CHECKING:
+    from ..foreign import Object
 
 SHOWN = 5  # ids that are shown
 MOST = 100_000  # ids that are looked for in kept lines
@@ -146,7 +149,7 @@ class UnmatchedIds:
             count = f"{len(missing):,} {'id' if len(missing) == 1 else 'ids'}"
             say(f"{shown(self._path)}: {count} matched no feature: {ids}")
 
-    def _object(self, missing: list[str]) -> dict[str, Any]:
+    def _object(self, missing: list[str]) -> Object:
         from .json_output import object_of  # text does not need it
 
         members = {"ids_from": self._path, "unmatched": len(missing), "first": missing[:SHOWN]}

@@ -3,10 +3,10 @@ from __future__ import annotations
 
 import json
 import os
-from collections.abc import Iterator, Sequence
+from collections.abc import Callable, Iterator, Sequence
 from contextlib import contextmanager, suppress
 from functools import partial
-from typing import TYPE_CHECKING, Any
+from typing import TYPE_CHECKING
 
 from .. import __version__
 from ..engine import USUAL_DEPTH, USUAL_LINE, RequestError, keep_room, quoted, shown
@@ -16,7 +16,7 @@ from ..indexes.line_reader import IndexedStream
 from ..indexes.lookup import Index
 from ..run import Result
 from ..sources import refuse_read
-from ..sources.outputs import Limit, Writer
+from ..sources.outputs import Limit, Target, Writer
 from ..sources.packed import LEVEL
 from .filter_outputs import make_folder, targets_of
 from .options import RULES, Filter
@@ -143,7 +143,11 @@ def _folders(paths: Sequence[str]) -> Iterator[None]:
 
 
 def _results(
-    request: Filter, index: Index, work: Work, outputs: list[str], writer: Any
+    request: Filter,
+    index: Index,
+    work: Work,
+    outputs: list[str],
+    writer: Callable[[Target], Writer],
 ) -> list[Result]:
     limit = Limit.of(request.limit)
     if request.output_dir is None:
@@ -167,14 +171,14 @@ def run_index(request: WriteIndex) -> int:
     if has_more or None not in (request.show, request.refresh):
         option = "--show" if request.refresh is None else "--refresh"
         raise RequestError(f"{option} takes the name of an index alone")
-    return _show(request) if request.refresh is None else _refresh(request)
+    return _refresh(request) if request.show is None else _show(request, request.show)
 
 
-def _show(request: WriteIndex) -> int:
+def _show(request: WriteIndex, path: str) -> int:
     from ..indexes.index_run import described  # no cut needs it
     from .json_output import object_of
 
-    with Index(request.show) as index:
+    with Index(path) as index:
         if request.json:
             put(json.dumps(object_of("index", described(index, __version__))))
         else:

@@ -4,7 +4,7 @@ from __future__ import annotations
 import json
 import os
 from collections import Counter
-from typing import TYPE_CHECKING, Any
+from typing import TYPE_CHECKING
 from urllib.parse import quote
 
 from .. import __version__
@@ -12,11 +12,13 @@ from ..engine import RequestError, quoted, shown
 from ..engine.reports import Report, explain
 from ..run import Info, Result
 from .options import Check, Request
-from .output import Bar, Object, Printer, put
+from .output import Bar, Printer, put
 
 if TYPE_CHECKING:
     from decimal import Decimal
+    from typing import TextIO
 
+    from ..foreign import Json, Object
     from .output import Reports
 
 
@@ -79,7 +81,7 @@ def _counts(result: Result) -> Object:
     }
 
 
-def box_object(box: str | None) -> list[Any] | None:
+def box_object(box: str | None) -> list[Json] | None:
     """Returns the edges of a box as JSON numbers."""
     from decimal import Decimal  # only `info` and `report` need it
 
@@ -136,7 +138,7 @@ def reasons_object(codes: Counter[int]) -> Object:
 
 def record_object(result: Result, request: Request, invalid: Reports, state: Object) -> Object:
     """Returns a line of a record: the state of a file, its result, and its invalid lines."""
-    first = invalid.first
+    line, byte, code = invalid.first or (None, None, None)
     return object_of(
         "record",
         {
@@ -146,9 +148,9 @@ def record_object(result: Result, request: Request, invalid: Reports, state: Obj
             "cityseq": __version__,
             "options": request.options,
             **_counts(result),
-            "line": None if first is None else first.line,
-            "byte": None if first is None else first.byte,
-            "code": None if first is None else first.code,
+            "line": line,
+            "byte": byte,
+            "code": code,
             "codes": {str(code): invalid.codes[code] for code in sorted(invalid.codes)},
         },
     )
@@ -214,7 +216,7 @@ class SarifPrinter(Printer):
         )
         self._comma = ""
 
-    def _is_cut_on(self, output: Any) -> bool:
+    def _is_cut_on(self, output: TextIO) -> bool:
         return False
 
     def print_report(self, report: Report) -> None:

@@ -8,10 +8,13 @@ from __future__ import annotations
 import re
 from argparse import ArgumentTypeError
 from collections.abc import Callable, Iterable
-from typing import Any, ClassVar, Generic, TypeVar
+from typing import TYPE_CHECKING, ClassVar, Generic, TypeVar
 
 from ..engine import DEPTH_LIMITS, LINE_LIMITS, USUAL_DEPTH, USUAL_LINE
 from ..engine.judge import Limits, Options
+
+if TYPE_CHECKING:
+    from ..foreign import Object
 
 T = TypeVar("T")
 UNITS = {"K": 10, "M": 20, "G": 30}  # each is a power of two
@@ -221,17 +224,12 @@ class Request:
     @property
     def judging(self) -> Options:
         """How lines are judged."""
-        given: Any = self  # not each command has all of these
-        limits = Limits(given.line_limit, given.depth)
-        return Options(
-            limits,
-            keep_going=given.keep_going,
-            tree=given.tree,
-            extensions=given.extensions,
-        )
+        # not each command has all of these
+        line_limit, depth, tree, extensions, keep_going = (getattr(self, name) for name in RULES)
+        return Options(Limits(line_limit, depth), keep_going, tree, extensions=extensions)
 
     @property
-    def options(self) -> dict[str, Any]:
+    def options(self) -> Object:
         """The options that affect the result of a file."""
         return {name: getattr(self, name) for name in self.recorded}
 
@@ -244,7 +242,7 @@ class Request:
         return False
 
 
-def options_of(command: type[Request]) -> list[Option[Any]]:
+def options_of(command: type[Request]) -> list[Option[object]]:
     """Returns the options of a command, in the order of the help."""
     return [each for each in vars(command).values() if isinstance(each, Option)]
 
@@ -261,7 +259,7 @@ class StreamRequest(Request):
         return not self.files and self.files_from is None and not self.whole
 
     @property
-    def options(self) -> dict[str, Any]:
+    def options(self) -> Object:
         return {**super().options, **({"whole": True} if self.whole else {})}
 
 
@@ -374,7 +372,7 @@ class Filter(StreamRequest):
         return super().is_plain and self.index is None
 
     @property
-    def options(self) -> dict[str, Any]:
+    def options(self) -> Object:
         return {**super().options, **({} if self.where is None else {"where": self.where})}
 
     @property

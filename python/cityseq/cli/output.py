@@ -21,14 +21,16 @@ from ..sources import size_of, write_all
 from .options import Check, Request
 
 if TYPE_CHECKING:
+    from _typeshed import ReadableBuffer
+
     from ..engine.reports import Report
+    from ..foreign import Object, Package
     from .options import Filter
     from .options import Info as InfoRequest
     from .requests import WriteIndex
 
     PrintRequest = Check | Filter | InfoRequest | WriteIndex
 
-Object = dict[str, Any]
 ON_A_TERMINAL = 1_000  # reports of one file that are printed there
 MORE = "more lines may be invalid: use --keep-going"
 BOLD, RED, GREEN, PLAIN = "\x1b[1m", "\x1b[31m", "\x1b[32m", "\x1b[0m"
@@ -54,10 +56,11 @@ class Descriptor(io.RawIOBase):
     def writable(self) -> bool:
         return True
 
-    def write(self, text: Any) -> int:
+    def write(self, text: ReadableBuffer) -> int:
         """Writes all of a text."""
-        write_all(self._file, text)
-        return len(text)
+        view = memoryview(text)
+        write_all(self._file, view)
+        return view.nbytes
 
 
 def hold_descriptors() -> None:
@@ -77,7 +80,7 @@ def _whole(output: io.TextIOWrapper, by_lines: bool) -> TextIO:
 
     Python's own files over a raw file do not: what a write did not take is lost. The new file has
     a buffer if the other one has. With `by_lines` each line is written at once."""
-    file: Any = Descriptor(output.fileno())
+    file: Any = Descriptor(output.fileno())  # `TextIOWrapper` has no type for raw files
     if by_lines or not output.write_through:
         file = io.BufferedWriter(file)
     return io.TextIOWrapper(
@@ -105,7 +108,7 @@ def fitting(text: str) -> str:
     return text.encode(encoding, "replace").decode(encoding)
 
 
-def is_terminal(output: Any) -> bool:
+def is_terminal(output: TextIO | None) -> bool:
     """Whether an output is a terminal."""
     try:
         return output is not None and bool(output.isatty())
@@ -167,7 +170,7 @@ class Bar:
         self._total, self._done, self._file = total, 0, ""
         self._is_shown = is_wanted and sys.stderr is not None
         self._begun = self._last = time.monotonic()
-        self._bar: Any = None
+        self._bar: Package | None = None
         if self._is_shown and is_terminal(sys.stderr):
             self._bar = _tqdm(total)
 
@@ -203,10 +206,10 @@ class Bar:
         say(f"{percent}{self._done / 1e6:,.0f}{share} MB, {rate:,.0f} MB/s  {shown(self._file)}")
 
 
-def _tqdm(total: int | None) -> Any:
+def _tqdm(total: int | None) -> Package | None:
     """Returns a bar of tqdm. None if that is not installed."""
     try:
-        tqdm: Any = import_module("tqdm")
+        tqdm: Package = import_module("tqdm")
     except ImportError:
         return None
     return tqdm.tqdm(total=total, unit="B", unit_scale=True, file=sys.stderr, dynamic_ncols=True)
@@ -251,14 +254,15 @@ def brief(words: str) -> str:
 
 @dataclass
 class Reports:
-    """The invalid lines of a file: the first one, and how many have each code."""
+    """The invalid lines of a file: line, byte and code of the first one, and how many have each
+    code."""
 
-    first: Report | None = None
+    first: tuple[int, int, int] | None = None
     codes: Counter[int] = field(default_factory=Counter)
 
     def add(self, report: Report) -> None:
         """Counts an invalid line."""
-        self.first = self.first or report
+        self.first = self.first or (report.line, report.byte, report.code)
         self.codes[report.code] += 1
 
 
@@ -281,7 +285,7 @@ class Printer:
             and os.environ.get("TERM") != "dumb"
         )
 
-    def _is_cut_on(self, output: Any) -> bool:
+    def _is_cut_on(self, output: TextIO) -> bool:
         """Whether there are fewer reports on this output than on others."""
         return is_terminal(output) and not self._request.is_plain and not self._request.json
 

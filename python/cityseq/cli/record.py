@@ -9,14 +9,18 @@ import re
 import stat
 from collections.abc import Iterable
 from contextlib import suppress
-from typing import Any
+from typing import TYPE_CHECKING
 
 from ..engine import RequestError, write_fault
 from ..sources import UNFINISHED, is_path, write_all
 from ..sources.regular import state_now
 from .options import Check, Filter
 
-Object = dict[str, Any]
+if TYPE_CHECKING:
+    from io import FileIO
+
+    from ..foreign import Object
+
 LONGEST = 1 << 20  # bytes of a line that is read
 BEGINNING = b'{"kind": "record", '  # of each line
 VERDICTS = "valid", "invalid"  # by their statuses
@@ -47,7 +51,7 @@ class Record:
         self.path = path
         self._found: dict[str, Object] = {}
         try:
-            self._file: Any = _opened(path)
+            self._file = _opened(path)
             _end_last_line(self._file)
             if is_read:
                 self._read()
@@ -92,7 +96,7 @@ class Record:
         self._file.close()
 
 
-def _opened(path: str) -> Any:
+def _opened(path: str) -> FileIO:
     """Opens a record to append to it, and to read its end."""
     with suppress(FileNotFoundError):
         if not stat.S_ISREG(os.stat(path).st_mode):
@@ -100,7 +104,7 @@ def _opened(path: str) -> Any:
     return open(path, "ab+", buffering=0)
 
 
-def _end_last_line(file: Any) -> None:
+def _end_last_line(file: FileIO) -> None:
     """Removes a last line that a run which was killed has cut. Ends one that only lacks its LF.
 
     Another run may be writing that line. It holds a lock, and then the line stays."""
@@ -152,7 +156,8 @@ def _is_output_whole(found: Object) -> bool:
 def output_state(output: str | None) -> Object:
     """Returns the members of a record that describe an output: its path and its state. They are
     None if there is no whole output."""
-    state = {"size": None, "mtime_ns": None} if output is None else state_now(output)
+    unknown: dict[str, int | None] = {"size": None, "mtime_ns": None}
+    state = unknown if output is None else state_now(output)
     path = None if output is None or state["size"] is None else os.path.abspath(output)
     return {"output": path, "output_size": state["size"], "output_mtime_ns": state["mtime_ns"]}
 

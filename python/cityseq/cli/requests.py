@@ -5,7 +5,6 @@ from __future__ import annotations
 import re
 from argparse import ArgumentTypeError
 from inspect import cleandoc
-from typing import Any
 
 from .options import (
     CLUSTER,
@@ -338,7 +337,7 @@ def _table(rows: list[tuple[str, str]]) -> str:
     return "\n".join(f"  {left:<{width}}  {right}" for left, right in rows)
 
 
-def _left(option: Option[Any]) -> str:
+def _left(option: Option[object]) -> str:
     """Returns an option as the help shows it. All long names begin in one column."""
     short = f"-{option.short}, " if option.short else "    "
     return f"{short}--{option.name}" + (f" <{option.value}>" if option.value else "")

@@ -4,16 +4,16 @@ from __future__ import annotations
 import os
 import sys
 from collections import deque
-from collections.abc import Iterable, Iterator, Sequence
+from collections.abc import Callable, Iterable, Iterator, Sequence
 from contextlib import closing, contextmanager
 from dataclasses import dataclass, field
 from functools import cached_property, partial
-from typing import TYPE_CHECKING, Any
+from typing import TYPE_CHECKING
 
 from .. import __version__
 from ..engine import RequestError, keep_room, library
 from ..engine.judge import Query, Work, work_of
-from ..run import Result
+from ..run import Passing, Result
 from ..run.streams import Results, Stream, results
 from ..sources import PIECE, is_path, refuse_read, size_of, stream_of
 from ..sources.packed import LEVEL, read_some
@@ -22,7 +22,14 @@ from .options import Request as AnyRequest
 from .output import Bar, Reports, is_terminal, printer_for, put, say
 
 if TYPE_CHECKING:
+    from ..engine import Text
+    from ..run.streams import Job, Pool
+    from ..sources import Source
+    from .record import Record
+
+    See = Callable[[Text], None] | None
     from ..engine.reports import Report
+    from ..foreign import Object
     from ..sources.outputs import Writer
     from .filter_outputs import UnmatchedIds
     from .requests import Explain
@@ -120,8 +127,8 @@ class _Begun:
 
     output: str | None
     reports: Reports = field(default_factory=Reports)
-    state: dict[str, Any] = field(default_factory=dict)
-    digest: Any = None
+    state: Object = field(default_factory=dict)
+    digest: Job[str | None] | None = None
 
 
 def _work_of(request: Request, ids: list[str] | bytes | None) -> Work:
@@ -144,12 +151,13 @@ def total_of(files: Sequence[str], is_wanted: bool) -> int | None:
 class Run:
     """A run over files, with its printer, its record and the digests of the files."""
 
+    _hashes: Pool | None = None
+    _record: Record | None = None
+
     def __init__(self, request: Request, work: Work, files: Sequence[str], bar: Bar) -> None:
         self._request, self._work, self._bar = request, work, bar
         self._printer = printer_for(request, bar, len(files) > 1)
         self._begun: deque[_Begun] = deque()  # the files in order
-        self._hashes: Any = None
-        self._record: Any = None
         if request.sha256 or request.record is not None:
             from ..run.streams import Pool  # few runs need threads that hash
 
@@ -172,7 +180,7 @@ class Run:
     def skip(self, files: Sequence[str]) -> tuple[list[str], int]:
         """Returns the files to read, and the greatest status of the others. The record has the
         others, and they are unchanged."""
-        if not self._request.resume:
+        if self._record is None or not self._request.resume:
             return list(files), 0
         rest, worst = [], 0
         for file, output in zip(files, _outputs_of(self._request, files)):
@@ -184,7 +192,7 @@ class Run:
                 self._printer.skipped(file, recorded)
         return rest, worst
 
-    def _state_of(self, file: str, output: str | None) -> dict[str, Any]:
+    def _state_of(self, file: str, output: str | None) -> Object:
         """Returns what must be the same for a file to be skipped."""
         from ..sources.regular import state_now
 
@@ -225,11 +233,11 @@ class Run:
             self._work,
             self._request.part_size,
             writer,
-            report,
+            Passing(report),
             partial(self._bar.add, file),
         )
 
-    def _source(self, file: str) -> Any:
+    def _source(self, file: str) -> Source:
         """Returns the stream of a file, which may be a whole CityJSON file."""
         if isinstance(self._request, Filter):
             return file
@@ -244,7 +252,7 @@ class Run:
             self._record.append(self._line(result, begun, sha256))
         return result.status
 
-    def _line(self, result: Result, begun: _Begun, sha256: str | None) -> dict[str, Any]:
+    def _line(self, result: Result, begun: _Begun, sha256: str | None) -> Object:
         """Returns the line of a record for a file."""
         from ..sources.regular import time_now
         from .json_output import record_object
@@ -279,7 +287,7 @@ def _outputs_of(request: Request, files: Sequence[str]) -> list[str | None]:
     return [*targets_of(request, files)]
 
 
-def _writers(request: Request, files: Sequence[str], see: Any) -> list[Writer | None]:
+def _writers(request: Request, files: Sequence[str], see: See) -> list[Writer | None]:
     """Returns the writer of each file's output. Only `filter` has outputs."""
     if not isinstance(request, Filter):
         return [None] * len(files)
@@ -373,7 +381,7 @@ def _results(request: Request, work: Work, streams: Iterable[Stream]) -> Iterato
             yield found
 
 
-def _judge_all(request: Request, work: Work, files: Sequence[str], see: Any) -> _Outcome:
+def _judge_all(request: Request, work: Work, files: Sequence[str], see: See) -> _Outcome:
     """Judges the files, in order."""
     total = total_of(files, request.progress)
     with Bar(total, request.progress) as bar, Run(request, work, files, bar) as run:

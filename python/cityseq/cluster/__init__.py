@@ -14,11 +14,14 @@ from concurrent.futures import Future, wait
 from contextlib import contextmanager, suppress
 from functools import partial
 from importlib import import_module
-from typing import Any
+from typing import TYPE_CHECKING, Generic, TypeVar
 
 from ..engine import CityseqError, MemoryFault, ReadFault, RequestError, read_fault, why
 from ..engine.judge import Answer, Work
-from .tasks import Answered, RangeChunk, engine, guard, judge_all
+from .tasks import RangeChunk, engine, guard, judge_all
+
+if TYPE_CHECKING:
+    from ..foreign import Package
 
 PART = 32 << 20  # bytes of a part
 AHEAD = 2  # tasks that wait or run for each thread of a worker
@@ -28,11 +31,12 @@ HELD = 256 << 20  # bytes of the parts whose output or records wait
 RETRIES = 3  # of a task that fails
 INLINE = 1 << 16  # bytes of a request that are sent with each task; more are sent to a worker once
 LOOK, PATIENCE = 1.0, 5.0  # seconds between two looks at the threads, and before it says it waits
+T = TypeVar("T")
 _guarded = guard()
 _log = logging.getLogger("cityseq.dask")
 
 
-def _module(name: str) -> Any:
+def _module(name: str) -> Package:
     """Returns a module of distributed or dask. Raises `CityseqError` if it is missing."""
     try:
         return import_module(name)
@@ -54,7 +58,7 @@ def _quiet() -> None:
 
 
 @contextmanager
-def connected(address: str) -> Iterator[Any]:
+def connected(address: str) -> Iterator[Package]:
     """Gives a client of the scheduler at an address. The settings of Dask say how long it is looked
     for. Nothing but this package writes messages then.
 
@@ -74,7 +78,7 @@ def connected(address: str) -> Iterator[Any]:
             client.close(PATIENCE)
 
 
-def checked_client(client: Any) -> Any:
+def checked_client(client: object) -> Package:
     """Returns the client.
 
     Raises:
@@ -91,7 +95,7 @@ def checked_client(client: Any) -> Any:
     return client
 
 
-def checked_size(size: Any) -> int:
+def checked_size(size: object) -> int:
     """Returns how many bytes a part has. A text such as 32MB is a number too.
 
     Raises:
@@ -114,17 +118,17 @@ class Cluster:
         is_heavy: Whether the answers of parts are as long as the parts.
     """
 
-    def __init__(self, client: Any, work: Work, size: Any = PART) -> None:
+    def __init__(self, client: object, work: Work, size: object = PART) -> None:
         self._client, self.work, self.size = checked_client(client), work, checked_size(size)
         self.is_heavy = work.kind in ("filter", "records")
         self.engine = engine()
         self._threads, self._looked, self._idle_since = 0, -LOOK, time.monotonic()
         self._has_told = False
-        self._work: Any = pickle.dumps(work)
+        self._work: bytes | Package = pickle.dumps(work)
         if len(self._work) > INLINE:
             self._work = self._submit("request", bytes, self._work)
 
-    def _submit(self, kind: str, function: Callable[..., Any], *given: Any) -> Any:
+    def _submit(self, kind: str, function: Callable[..., object], *given: object) -> Package:
         """Begins a task, and returns its future."""
         try:
             with warnings.catch_warnings():
@@ -134,12 +138,14 @@ class Cluster:
         except Exception as fault:
             raise self.lost(fault) from fault
 
-    def task(self, kind: str, file: str | None, function: Callable[..., Any], *given: Any) -> Job:
+    def task(
+        self, kind: str, file: str | None, function: Callable[..., T], *given: object
+    ) -> Job[T]:
         """Begins a call of a function with this work on a worker, and returns its job."""
         task = pickle.dumps((function, *given))
         return Job(self, partial(self._submit, kind, _guarded, self.engine, task, self._work), file)
 
-    def fetched(self, future: Any) -> Future[Answered]:
+    def fetched(self, future: Package) -> Future[Package]:
         """Begins to fetch the result of a task, from its worker itself unless the client says
         otherwise."""
         direct = self._client.direct_to_workers is not False
@@ -188,14 +194,14 @@ class Cluster:
         return CityseqError(f"a worker failed: {type(cause).__name__}: {why(cause)}", None, file)
 
 
-class Job:
+class Job(Generic[T]):
     """A task, and its result.
 
     Attributes:
         worker: The worker that did it, when its result is there.
     """
 
-    def __init__(self, cluster: Cluster, submit: Callable[[], Any], file: str | None) -> None:
+    def __init__(self, cluster: Cluster, submit: Callable[[], Package], file: str | None) -> None:
         """Takes what begins the task, and the file that a fault has."""
         self._cluster, self._submit, self._file = cluster, submit, file
         self.worker = ""
@@ -203,7 +209,7 @@ class Job:
 
     def _begin(self) -> None:
         self._future = self._submit()
-        self._fetched = self._cluster.fetched(self._future)
+        self._fetched: Future[tuple[str, str, T]] = self._cluster.fetched(self._future)
 
     def done(self) -> bool:
         """Whether the result is here."""
@@ -222,7 +228,7 @@ class Job:
         """Waits for the result, but not longer."""
         wait([self._fetched], seconds)
 
-    def result(self, has_another: bool = True) -> Any:
+    def result(self, has_another: bool = True) -> T:
         """Returns what the task returns. If workers ended, another task may be to blame, so it can
         have another try.
 
@@ -260,13 +266,13 @@ class Batch:
     """Parts of a stream that one task judges, because they are short. The task begins when it has
     enough of them, or when the first answer is wanted. If it leaves some out, another follows."""
 
-    def __init__(self, cluster: Cluster, judge: Any) -> None:
+    def __init__(self, cluster: Cluster, judge: partial[Answer]) -> None:
         """Takes the cluster, and the partial call that judges a part on a worker."""
         self._cluster, self.judge = cluster, judge
         self._chunks: list[RangeChunk] = []
         self._answers: list[Answer] = []
         self._size, self._asked, self._most = 0, 0, MOST
-        self._job: Job | None = None
+        self._job: Job[list[Answer]] | None = None
 
     @property
     def is_open(self) -> bool:

@@ -4,14 +4,14 @@ from __future__ import annotations
 import os
 import shutil
 import time
-from collections.abc import Callable
+from collections.abc import Callable, Iterable
 from contextlib import suppress
 from dataclasses import dataclass, replace
 from functools import partial
-from typing import Any
+from typing import TYPE_CHECKING, TypeVar
 
 from .. import __version__
-from ..engine import CallStatus, CityseqError, WriteFault, read_fault, write_fault
+from ..engine import CallStatus, CityseqError, Text, WriteFault, read_fault, write_fault
 from ..engine.judge import Answer, Work, judge
 from ..run import Result
 from ..run.streams import Stream
@@ -23,6 +23,11 @@ from ..sources.regular import BlockHash
 from . import PATIENCE, Cluster
 from .runs import Runs
 from .tasks import RangeChunk
+
+if TYPE_CHECKING:
+    from ..foreign import Package
+
+T = TypeVar("T")
 
 STEP = 4 << 20  # bytes of a part that are judged before their output is written
 USUAL = 256 << 20  # bytes of the stream that a part is made of
@@ -63,7 +68,7 @@ class _Output:
 
     def __init__(self, path: str, packing: Packing | None = None) -> None:
         self._path, self.digest = path, BlockHash()
-        self._system: Any = None
+        self._system: Package | None = None
         self._part = Part(path)
         if is_url(path):
             from ..sources.remote import system_of  # few runs need it
@@ -74,11 +79,10 @@ class _Output:
             self._file = self._system.open(self._new, "wb")
         else:
             self._file = os.fdopen(self._part.make(), "wb")
-        to: Any = self
-        self._packer = None if packing is None else Packer(to, packing, LEVEL)
-        self.put: Callable[[Any], Any] = self.write if self._packer is None else self._packer.write
+        self._packer = None if packing is None else Packer(self, packing, LEVEL)
+        self.put: Callable[[Text], object] = (self._packer or self).write
 
-    def write(self, text: object) -> None:
+    def write(self, text: Text) -> None:
         """Writes bytes as they are."""
         self.digest.add(text)
         self._file.write(text)
@@ -141,7 +145,7 @@ def write_part(chunk: RangeChunk, folder: Folder, work: Work) -> Answer:
     return PartAnswer(**vars(joined), part=part)
 
 
-def _checked(call: Callable[..., Any], name: str, *given: object) -> Any:
+def _checked(call: Callable[..., T], name: str, *given: object) -> T:
     """Makes a call that writes. Raises `WriteFault` if it fails, in words that have no URL."""
     try:
         return call(*given)
@@ -154,11 +158,10 @@ def _checked(call: Callable[..., Any], name: str, *given: object) -> Any:
 
 
 def _opened(path: str, packing: Packing | None) -> _Output:
-    output: _Output = _checked(_Output, path, path, packing)
-    return output
+    return _checked(_Output, path, path, packing)
 
 
-def _put(output: _Output, texts: list[Any]) -> None:
+def _put(output: _Output, texts: Iterable[Text]) -> None:
     for text in texts:
         _checked(output.put, "a part", text)
 
@@ -227,8 +230,8 @@ def filter_to_folder(
     """
     parts: list[ListedPart] = []
 
-    def take(answer: Any, _: int) -> None:
-        if getattr(answer, "part", None) is not None:
+    def take(answer: Answer, _: int) -> None:
+        if isinstance(answer, PartAnswer) and answer.part is not None:
             parts.append(answer.part)
 
     try:

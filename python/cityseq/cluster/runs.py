@@ -3,11 +3,11 @@ from __future__ import annotations
 
 import os
 from collections import deque
-from collections.abc import Iterable, Iterator, Sequence
+from collections.abc import Callable, Iterable, Iterator, Sequence
 from concurrent.futures import Future
 from dataclasses import dataclass, replace
 from functools import partial
-from typing import Any
+from typing import TYPE_CHECKING
 
 from ..engine import CityseqError, ReadFault, RequestError
 from ..engine.judge import Answer
@@ -26,6 +26,9 @@ from .tasks import (
     judge_range,
     sight_of,
 )
+
+if TYPE_CHECKING:
+    from ..run.streams import Answers, Judge, Pending
 
 LOOKED_AT = 64  # files whose beginnings are read together
 PIECES = 3  # chunks of a file for each thread, if they are not short
@@ -48,7 +51,7 @@ class _File:
         source = stream.source
         if not is_path(source):
             raise RequestError(f"the workers open files by their paths: {source!r} is none")
-        path = os.fsdecode(source)  # type: ignore[arg-type]
+        path = os.fsdecode(source)
         if is_url(source):
             return cls(stream, path, None)
         path = os.path.abspath(path)
@@ -63,7 +66,7 @@ class _Group:
     """Files whose beginnings one task reads."""
 
     files: Sequence[_File]
-    job: Job
+    job: Job[list[Begun]]
 
 
 @dataclass(frozen=True)
@@ -79,7 +82,9 @@ class _Judged:
 class Runs:
     """Judges streams by a cluster. All have the same work."""
 
-    def __init__(self, cluster: Cluster, judge_by: Any = None, has_whole: bool = True) -> None:
+    def __init__(
+        self, cluster: Cluster, judge_by: Judge | None = None, has_whole: bool = True
+    ) -> None:
         """Takes the cluster.
 
         Args:
@@ -95,10 +100,11 @@ class Runs:
         lost, or a worker has another engine."""
         return results_by(self._placed(streams), self._submit, self._cluster.ahead)
 
-    def _submit(self, call: Any) -> Any:
+    def _submit(self, call: Callable[[], Answers]) -> Pending[Answers]:
+        assert isinstance(call, partial)
         judge, chunk = call.args
         if isinstance(judge, _Judged):
-            ready: Future[Any] = Future()
+            ready: Future[Answers] = Future()
             ready.set_result(call())
             return ready
         if self._batch is None or self._batch.judge is not judge or not self._batch.is_open:
@@ -166,7 +172,7 @@ class Runs:
         for file, each in zip(group.files, found):
             yield self._on_workers(file, self._checked(file, each, group.job))
 
-    def _checked(self, file: _File, begun: Begun, job: Job) -> Begun:
+    def _checked(self, file: _File, begun: Begun, job: Job[list[Begun]]) -> Begun:
         """Returns how a file begins. It is a fault if the worker sees another file."""
         if isinstance(begun.fault, ReadFault):
             job.named(begun.fault)

@@ -13,7 +13,6 @@ from contextlib import closing
 from dataclasses import dataclass
 from functools import lru_cache, partial
 from itertools import chain
-from typing import Any
 
 from .. import __version__
 from ..engine import CallStatus, CityseqError, ReadFault, library_path, read_fault
@@ -271,7 +270,7 @@ def judge_range(chunk: RangeChunk, work: Work) -> Answer:
 
 SENT = 4 << 20  # bytes of answers with which a task for several parts ends
 REPORT = 256  # bytes of a report that is sent, about
-Answered = tuple[str, str, Any]  # the worker, its engine, and the answer if that is the right one
+Answered = tuple[str, str, object]  # the worker, its engine, the answer if that is the right one
 
 
 @lru_cache(maxsize=None)
@@ -328,7 +327,7 @@ def _weight(answer: Answer) -> int:
 
 
 def judge_all(
-    judge: Callable[..., Answer], given: Sequence[Any], chunks: Iterable[RangeChunk], work: Work
+    judge: Callable[..., Answer], given: Sequence[object], chunks: Iterable[RangeChunk], work: Work
 ) -> list[Answer]:
     """Judges chunks, one after another: each by a call that gets it, what is given, and the work.
     Ends after an answer that ends the stream, and after that with which the answers are long."""
@@ -345,8 +344,7 @@ def judge_all(
 
 def judge_packed(chunk: RangeChunk, pack: Callable[[bytes], bytes], work: Work) -> Answer:
     """Judges a chunk, and packs its output."""
-    judge: Callable[[Any], Answer] = partial(judge_range, work=work)
-    return packed(judge, pack, chunk)
+    return packed(partial(judge_range, work=work), pack, chunk)
 
 
 def hash_file(path: str, work: Work) -> Digest | None:

@@ -21,11 +21,14 @@ import re
 from array import array
 from collections.abc import Callable
 from dataclasses import dataclass
-from typing import Any, NoReturn, Union
+from typing import TYPE_CHECKING, NoReturn, Union
 
 from ..engine import InvalidStream, ReadFault
 from ..engine.world import exact_number
 from ..sources import CHANGED, PIECE, Source, name_of, opened, watch_of
+
+if TYPE_CHECKING:
+    from ..foreign import Json
 
 SPACE = re.compile(r"[ \t\n\r]*")
 STRING = r'"[^"\\\x00-\x1f]*(?:\\(?:["\\/bfnrt]|u[\da-fA-F]{4})[^"\\\x00-\x1f]*)*"'
@@ -108,7 +111,7 @@ def read_text(source: Source) -> str:
     return text
 
 
-def _judge_utf8(decoder: Any, piece: bytes, begin: int, file: str) -> None:
+def _judge_utf8(decoder: codecs.IncrementalDecoder, piece: bytes, begin: int, file: str) -> None:
     """Judges the next piece of a file, or its end if the piece is empty."""
     if piece.isascii() and piece and not decoder.getstate()[0]:
         return
@@ -140,7 +143,7 @@ class Spans:
         """Returns a fault at a path in the file."""
         return InvalidStream(f"{path}: {what}" if path else what, None, self.file)
 
-    def value(self, at: int, path: str, name: str = "") -> tuple[Any, int]:
+    def value(self, at: int, path: str, name: str = "") -> tuple[Json, int]:
         """Returns a value and where it ends. Its strings are not plain texts unless they are ASCII.
         Faults name the path, with the name after it.
 

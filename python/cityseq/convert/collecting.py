@@ -373,7 +373,7 @@ def collect(
         writer.discard()
 
 
-def _listed(sources: Any) -> list[Source]:
+def _listed(sources: Any) -> list[Source]:  # no type tells a source from a list of them
     """Returns the sources, which may be only one."""
     is_one = isinstance(sources, (str, os.PathLike)) or hasattr(sources, "read")
     return [sources] if is_one or bytes_of(sources) is not None else list(sources)

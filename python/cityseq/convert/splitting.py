@@ -14,7 +14,7 @@ from collections.abc import Callable, Generator, Iterator
 from dataclasses import dataclass
 from functools import partial
 from itertools import islice
-from typing import Any
+from typing import TYPE_CHECKING
 
 from ..engine import LINE_LIMITS, USUAL_LINE, InvalidStream, library
 from ..sources import Source, TextsFile, name_of, refuse_same
@@ -32,6 +32,9 @@ from . import (
     rewritten,
     whole_number,
 )
+
+if TYPE_CHECKING:
+    from ..foreign import Json
 
 NUMBER = r"-?(?:0|[1-9]\d*)(?:\.\d+)?(?:[eE][+-]?\d+)?"
 WHOLE = r"-?(?:0|[1-9]\d{0,17})"
@@ -194,7 +197,7 @@ class Document:
         self._members[text] = f"{name[1]}:{shown}"
         return end
 
-    def _judge(self, name: str, value: Any, is_text: bool) -> None:
+    def _judge(self, name: str, value: Json, is_text: bool) -> None:
         """Judges the members of the root that a stream cannot do without."""
         if name in ("CityObjects", "vertices"):
             raise self.spans.fault(

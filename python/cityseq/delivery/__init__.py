@@ -11,10 +11,10 @@ import logging
 import os
 import re
 import time
-from collections.abc import Callable, Sequence
+from collections.abc import Callable, Iterable, Sequence
 from contextlib import closing
 from dataclasses import dataclass
-from typing import Any
+from typing import TYPE_CHECKING
 
 from .. import __version__
 from ..cli.json_output import report_object
@@ -28,6 +28,10 @@ from ..sources.outputs import Writer
 from ..sources.parts import regular_paths
 from ..sources.regular import sha256_of, time_now
 from .facts import Delivery, Run
+
+if TYPE_CHECKING:
+    from ..foreign import Package
+    from ..sources import AnyPath
 
 PACKAGES = {
     "jinja2": "python3-jinja2",
@@ -50,7 +54,7 @@ class PackageMissing(CityseqError, ImportError):
     """A package that a page needs is missing."""
 
 
-def needed(name: str) -> Any:
+def needed(name: str) -> Package:
     """Returns a module of a package that a page needs.
 
     Raises:
@@ -95,7 +99,7 @@ def cell(text: str) -> str:
     return f"'{told}" if text.startswith(FORMULAS) or told.startswith(FORMULAS) else told
 
 
-def row_of(report: Report) -> list[Any]:
+def row_of(report: Report) -> list[str | int]:
     """Returns the cells of a report, in the order of the columns."""
     return [
         cell(report.file),
@@ -192,7 +196,9 @@ def of_bytes(progress: Callable[[int], None]) -> Callable[[str, int], None]:
     return lambda _, size: progress(size)
 
 
-def checked(paths: Any, output: Any) -> tuple[list[str], str | None]:
+def checked(
+    paths: bytes | AnyPath | Iterable[object], output: object
+) -> tuple[list[str], str | None]:
     """Returns the paths of the files and of the page.
 
     Raises:
@@ -238,7 +244,9 @@ class _Output(Lists):
         self._page.discard()
 
 
-def report(paths: Any, output: Any, work: Work, how: How) -> Delivery:
+def report(
+    paths: bytes | AnyPath | Iterable[object], output: object, work: Work, how: How
+) -> Delivery:
     """Writes a page about files. Paths and output are those of `cityseq.report`."""
     names, page = checked(paths, output)
     needed("numpy") if page is None else need_all()

@@ -4,12 +4,17 @@ from __future__ import annotations
 
 import math
 from collections.abc import Callable
-from typing import Any
+from typing import TYPE_CHECKING
 
 from . import needed
 from .facts import Area, Named, Point, Rectangle
 
-np: Any = needed("numpy")
+if TYPE_CHECKING:
+    import numpy as np
+
+    from ..foreign import Array
+else:
+    np = needed("numpy")
 
 FEW = 1_500  # the most features that are drawn by their extents
 MOST_CELLS = 16_384  # in memory
@@ -27,14 +32,14 @@ BULK = (0.01, 0.99)  # the share of the features that gives cells their size
 SAMPLE = 4_096  # about so many of the features that are sorted at once
 
 
-def _median(values: Any, counts: Any) -> float:
+def _median(values: Array, counts: Array) -> float:
     """Returns the median of values that occur so often."""
     order = np.argsort(values)
     reached = np.cumsum(counts[order])
     return float(values[order][np.searchsorted(reached, reached[-1] / 2)])
 
 
-def far_from_others(x: Any, y: Any, counts: Any, least: float) -> Any:
+def far_from_others(x: Array, y: Array, counts: Array, least: float) -> Array:
     """Returns which places are far from nearly all others, as an array of flags.
 
     Args:
@@ -50,7 +55,8 @@ def far_from_others(x: Any, y: Any, counts: Any, least: float) -> Any:
     nearly_all = whole - max(1, whole // NEARLY_ALL)
     usual = distances[order][np.searchsorted(np.cumsum(counts[order]), nearly_all)]
     reach = FAR * max(float(usual), least)
-    return distances > reach if reach > 0 else np.zeros(len(x), bool)
+    is_far: Array = distances > reach if reach > 0 else np.zeros(len(x), bool)
+    return is_far
 
 
 def _level(least: float) -> int:
@@ -58,7 +64,9 @@ def _level(least: float) -> int:
     return max(LEAST, math.frexp(least)[1]) if least > 0 else LEAST
 
 
-def _added_up(columns: Any, rows: Any, counts: Any = None) -> tuple[Any, Any, Any]:
+def _added_up(
+    columns: Array, rows: Array, counts: Array | None = None
+) -> tuple[Array, Array, Array]:
     """Returns each cell once, with the sum of its counts, or how often it is there."""
     if not len(columns):
         return columns, rows, np.empty(0, "i8")
@@ -67,13 +75,13 @@ def _added_up(columns: Any, rows: Any, counts: Any = None) -> tuple[Any, Any, An
         sums = np.bincount((columns - left) * height + (rows - low), counts)
         cells = np.flatnonzero(sums)
         return cells // height + left, cells % height + low, sums[cells].astype("i8")
-    counts = np.ones(len(columns), "i8") if counts is None else counts
+    known: Array = np.ones(len(columns), "i8") if counts is None else counts
     order = np.lexsort((rows, columns))
-    columns, rows, counts = columns[order], rows[order], counts[order]
+    columns, rows, known = columns[order], rows[order], known[order]
     first = np.ones(len(columns), bool)
     first[1:] = (columns[1:] != columns[:-1]) | (rows[1:] != rows[:-1])
     begins = np.flatnonzero(first)
-    return columns[begins], rows[begins], np.add.reduceat(counts, begins)
+    return columns[begins], rows[begins], np.add.reduceat(known, begins)
 
 
 class Grid:
@@ -83,10 +91,10 @@ class Grid:
         self._level = LEAST
         self._columns, self._rows = np.empty(0, "i8"), np.empty(0, "i8")
         self._counts = np.empty(0, "i8")
-        self._waiting: list[Any] = []
+        self._waiting: list[tuple[Array, Array]] = []
         self._size = 0
 
-    def add(self, x: Any, y: Any) -> None:
+    def add(self, x: Array, y: Array) -> None:
         """Counts centres, which are arrays of finite numbers."""
         self._waiting.append((x, y))
         self._size += len(x)
@@ -110,7 +118,7 @@ class Grid:
         while len(self._counts) > MOST_CELLS:
             self._coarsen(self._level + 1)
 
-    def _merge(self, columns: Any, rows: Any, counts: Any) -> None:
+    def _merge(self, columns: Array, rows: Array, counts: Array) -> None:
         """Adds counts of cells to the existing ones."""
         columns = np.concatenate((self._columns, columns))
         rows = np.concatenate((self._rows, rows))
@@ -142,7 +150,7 @@ class Grid:
             (far if is_one else near)[column, row] = count
         return 2.0**self._level, near, far
 
-    def _is_far(self) -> Any:
+    def _is_far(self) -> Array:
         return far_from_others(self._columns, self._rows, self._counts, 1.0)
 
 
@@ -152,7 +160,7 @@ class Rim:
     def __init__(self) -> None:
         self._sides: list[list[tuple[float, Named]]] = [[], [], [], []]
 
-    def add(self, x: Any, y: Any, named: Callable[[int], Named]) -> None:
+    def add(self, x: Array, y: Array, named: Callable[[int], Named]) -> None:
         """Takes the middles of features. `named` names one of them by its number."""
         for side, values in zip(self._sides, (x, -x, y, -y)):
             least = side[-1][0] if len(side) == MOST_STRAYS else -math.inf
@@ -187,10 +195,10 @@ class Place:
 
     def add(
         self,
-        xmin: Any,
-        xmax: Any,
-        ymin: Any,
-        ymax: Any,
+        xmin: Array,
+        xmax: Array,
+        ymin: Array,
+        ymax: Array,
         named: Callable[[int, Point], Named] | None = None,
     ) -> None:
         """Takes the extents of features, in world coordinates, as arrays. `named` names one of them

@@ -8,7 +8,7 @@ import math
 import re
 from collections.abc import Iterable, Iterator, Sequence
 from dataclasses import dataclass, replace
-from typing import Any
+from typing import TYPE_CHECKING
 from xml.etree import ElementTree
 from xml.sax.saxutils import escape
 
@@ -36,7 +36,12 @@ ROLES = {
     **{f"shade-{n}": f"#0600{n:02x}" for n in range(1, 8)},
 }
 _NAMES = {colour: name for name, colour in ROLES.items()}
-np: Any = needed("numpy")
+if TYPE_CHECKING:
+    import numpy as np
+
+    from ..foreign import Array, Package
+else:
+    np = needed("numpy")
 
 LEFT, BOTTOM = 84, 28  # pixels left of and below a map, for its numbers
 FLATTEST, STEEPEST = 0.4, 1.0  # height of a map, as a share of its width
@@ -49,7 +54,7 @@ COARSE = 12  # the most columns and rows of a map of which there is little room
 MOST_BARS = 9  # the most bars with numbers above them
 
 
-def figure(height: float, left: float, bottom: float, top: float = 8) -> Any:
+def figure(height: float, left: float, bottom: float, top: float = 8) -> tuple[Package, Package]:
     """Returns a figure and its axes, which have this height and this space around them, in
     pixels."""
     whole = height + bottom + top
@@ -62,7 +67,7 @@ def figure(height: float, left: float, bottom: float, top: float = 8) -> Any:
     return made, axes
 
 
-def drawn(made: Any, name: str, title: str, told: str) -> str:
+def drawn(made: Package, name: str, title: str, told: str) -> str:
     """Returns a figure as an element of a page, with its title and what it shows in words. No other
     drawing of the page has the same name."""
     canvas = needed("matplotlib.backends.backend_svg").FigureCanvasSVG(made)
@@ -79,7 +84,7 @@ def drawn(made: Any, name: str, title: str, told: str) -> str:
     )
 
 
-def _parts(element: Any) -> Iterator[str]:
+def _parts(element: ElementTree.Element) -> Iterator[str]:
     """Yields an element and its children as text."""
     name = element.tag.replace(SVG, "")
     if name not in KEPT:
@@ -94,7 +99,7 @@ def _parts(element: Any) -> Iterator[str]:
         yield f"<{name}{told}>{escape(element.text or '')}</{name}>"
 
 
-def _attributes(element: Any) -> Iterator[tuple[str, str]]:
+def _attributes(element: ElementTree.Element) -> Iterator[tuple[str, str]]:
     """Yields the attributes that an element keeps. Its colours become a class."""
     style = _style_of(element.get("style", ""))
     classes: list[str] = [
@@ -182,7 +187,8 @@ def coarse(area: Area) -> Area:
     xmin, ymin, xmax, ymax = around(found) if found else (0.0, 0.0, 0.0, 0.0)
     greatest = max(abs(edge) for edge in (xmin, ymin, xmax, ymax))
     side = max(xmax - xmin, ymax - ymin, greatest * 1e-9, 1e-300) / (COARSE - 1)
-    size, cells = 2.0 ** math.ceil(math.log2(side)), {}  # type: tuple[float, dict[Any, int]]
+    cells: dict[tuple[int, int], int] = {}
+    size = 2.0 ** math.ceil(math.log2(side))
     for (left, low, right, high), count in zip(found, counts):
         cell = int((left / 2 + right / 2) // size), int((low / 2 + high / 2) // size)
         cells[cell] = cells.get(cell, 0) + count
@@ -212,7 +218,7 @@ def _view(found: Sequence[Rectangle]) -> View:
     return View((xmin + xmax - width) / 2, (ymin + ymax - width * ratio) / 2, width, ratio)
 
 
-def _blank(view: View) -> tuple[Any, Any]:
+def _blank(view: View) -> tuple[Package, Package]:
     """Returns a figure of a part of the world, and its axes, with nothing drawn yet."""
     made, axes = figure(view.ratio / view.pixel, LEFT, BOTTOM)
     axes.set_xlim(0, 1)
@@ -272,7 +278,7 @@ def _told(area: Area, view: View, marked: int) -> str:
     )
 
 
-def _number(axis: Any, begin: float, width: float, share: float, count: int) -> None:
+def _number(axis: Package, begin: float, width: float, share: float, count: int) -> None:
     """Numbers an axis in world coordinates, at about `count` places."""
     ticker = needed("matplotlib.ticker")
     found = ticker.MaxNLocator(count).tick_values(begin, begin + width * share)
@@ -289,7 +295,7 @@ def _box_of(extent: Rectangle, view: View, least: float) -> Rectangle:
     return x - wide, y - tall, x + wide, y + tall
 
 
-def _fill(axes: Any, boxes: Iterable[Rectangle], role: str) -> None:
+def _fill(axes: Package, boxes: Iterable[Rectangle], role: str) -> None:
     """Draws rectangles as one path."""
     path = needed("matplotlib.path").Path
     corners = np.array(
@@ -309,7 +315,7 @@ def _fill(axes: Any, boxes: Iterable[Rectangle], role: str) -> None:
     )
 
 
-def _cross(axes: Any, spots: list[Point], arm: float) -> None:
+def _cross(axes: Package, spots: list[Point], arm: float) -> None:
     """Marks points as one path."""
     if not spots:
         return
@@ -321,12 +327,12 @@ def _cross(axes: Any, spots: list[Point], arm: float) -> None:
         _add(axes, ends, codes, {"facecolor": "none", "edgecolor": ROLES[role], "linewidth": width})
 
 
-def _add(axes: Any, vertices: Any, codes: Any, style: dict[str, Any]) -> None:
+def _add(axes: Package, vertices: Array, codes: Array, style: dict[str, object]) -> None:
     path = needed("matplotlib.path").Path(vertices, codes)
     axes.add_artist(needed("matplotlib.patches").PathPatch(path, **style)).set_zorder(3)
 
 
-def _draw_cells(axes: Any, area: Area, view: View) -> list[tuple[int, int, int]]:
+def _draw_cells(axes: Package, area: Area, view: View) -> list[tuple[int, int, int]]:
     """Draws cells, darker where there are more features, and returns what each shade means."""
     greatest = max(area.cells.values(), default=1)
     sorted_out: dict[int, list[tuple[int, Rectangle]]] = {}

@@ -5,7 +5,7 @@ from __future__ import annotations
 from collections import Counter
 from dataclasses import dataclass, field
 from decimal import Decimal
-from typing import TYPE_CHECKING, Any, TypeVar
+from typing import TYPE_CHECKING, TypeVar
 
 from ..cli.json_output import box_object, exact, report_object
 from ..engine import Status
@@ -14,6 +14,7 @@ from ..engine.reports import Explanation, Report, explain
 
 if TYPE_CHECKING:
     from ..engine.world import Extent
+    from ..foreign import Object
 
 
 EXAMPLES = 3  # reports of each reason that are kept as examples
@@ -21,7 +22,6 @@ Key = TypeVar("Key")
 Rectangle = tuple[float, float, float, float]  # xmin, ymin, xmax, ymax, in world coordinates
 Point = tuple[float, float]
 VERSION = 1  # it changes if a member is removed, renamed or changes its meaning
-Object = dict[str, Any]
 
 
 @dataclass
@@ -248,7 +248,7 @@ class Delivery:
         """The greatest status of all files, as the status of `check`."""
         return max((file.status for file in self.files), default=Status.VALID)
 
-    def json_object(self) -> dict[str, Any]:
+    def json_object(self) -> Object:
         """Returns all facts as one object of JSON, which docs/report.schema.json describes. It has
         only the examples of reports."""
 

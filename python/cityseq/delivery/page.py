@@ -6,15 +6,19 @@ import hashlib
 import json
 import os
 from collections.abc import Iterator, Sequence
-from typing import Any
+from typing import TYPE_CHECKING, TypeVar
 
 from ..engine import shown
 from ..engine.reports import Report, explain
 from ..engine.world import plain
 from . import needed
 from .charts import Map, coarse, histogram, map_of, size_of_power
-from .facts import Delivery, File
+from .facts import Area, Delivery, File
 
+if TYPE_CHECKING:
+    from ..foreign import Package
+
+T = TypeVar("T")
 MOST_BYTES = 1_900_000  # of the page, with as many rows of reports as fit
 MOST_SIGNS = 200  # characters of a text of a stream
 STATIC_ROWS = 25  # rows of reports without the script
@@ -110,7 +114,7 @@ def by_verdict(files: Sequence[File]) -> list[File]:
     return sorted(files, key=lambda file: ORDER.index(file.verdict))
 
 
-def row_of(report: Report, numbers: dict[str, int]) -> list[Any]:
+def row_of(report: Report, numbers: dict[str, int]) -> list[object]:
     """Returns a report as a row for the page's script."""
     name = "" if report.id is None else cut(report.id)
     return [numbers[report.file], report.line, report.byte, report.code, name, *near(report)]
@@ -155,12 +159,12 @@ def _sum(text: str) -> str:
     return f"'sha256-{base64.b64encode(digest).decode()}'"
 
 
-def _bars(counts: dict[Any, int], whole: int) -> list[tuple[Any, int, float]]:
+def _bars(counts: dict[T, int], whole: int) -> list[tuple[T, int, float]]:
     """Returns the rows of a bar chart: name, count, and how long the bar is in percent."""
     return [(name, count, round(100 * count / whole, 2)) for name, count in counts.items()]
 
 
-def _code(text: str) -> Any:
+def _code(text: str) -> Package:
     """Returns a text of this package with code between backticks marked as code."""
     markup = needed("markupsafe")
     parts = map(markup.escape, text.split("`"))
@@ -168,9 +172,9 @@ def _code(text: str) -> Any:
     return markup.Markup("").join(code(part) if n % 2 else part for n, part in enumerate(parts))
 
 
-def _maps(delivery: Delivery) -> list[tuple[Any, Map]]:
+def _maps(delivery: Delivery) -> list[tuple[Area, Map]]:
     """Returns the areas that have a place, and a map of each."""
-    found: list[tuple[Any, Map]] = []
+    found: list[tuple[Area, Map]] = []
     room = MAP_BYTES
     for area in [area for area in delivery.areas if area.features or area.spots][:MOST_MAPS]:
         name = f"map-{len(found)}"

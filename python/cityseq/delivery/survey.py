@@ -7,12 +7,12 @@ import sqlite3
 from collections.abc import Callable, Iterable, Iterator, Sequence
 from contextlib import contextmanager, suppress
 from dataclasses import dataclass, field, replace
-from decimal import DecimalException
+from decimal import Decimal, DecimalException
 from functools import partial
 from hashlib import blake2b
 from itertools import chain, groupby, islice
 from operator import itemgetter
-from typing import TYPE_CHECKING, Any
+from typing import TYPE_CHECKING
 
 from ..engine import LOD_CLASSES, Text, library, write_fault
 from ..engine.judge import Answer, Work, judge, refused_memory
@@ -32,9 +32,12 @@ from .areas import Place
 from .facts import Area, Contents, File, Named, Point, Reasons, Repeated, RepeatedId
 
 if TYPE_CHECKING:
-    from . import How
+    import numpy as np
 
-np: Any = needed("numpy")
+    from ..foreign import Array
+    from . import How
+else:
+    np = needed("numpy")
 
 TOGETHER = 8_192  # records that are taken at once: a part may have only a few
 MOST_REPORTS = 10_000  # reports that are kept for the table in the page
@@ -101,7 +104,7 @@ def marked(
 # ---- what is in features
 
 
-def _zeros() -> Any:
+def _zeros() -> Array:
     return np.zeros(64, "i8")
 
 
@@ -111,24 +114,24 @@ class Entry:
 
     number: int
     place: Place
-    scale: list[Any]
-    translate: list[Any]
+    scale: list[Decimal]
+    translate: list[Decimal]
     reference_system: str | None
-    types: Any = field(default_factory=_zeros)
-    lods: Any = field(default_factory=_zeros)
-    lengths: Any = field(default_factory=_zeros)
+    types: Array = field(default_factory=_zeros)
+    lods: Array = field(default_factory=_zeros)
+    lengths: Array = field(default_factory=_zeros)
     features: int = 0
     longest: int = 0
     ranges: Ranges = (None, None, None)
     waiting: list[tuple[Records, int]] = field(default_factory=list)  # with ids as `ids_of` has
     waits: int = 0
 
-    def world(self, axis: int, vertices: Any) -> Any:
+    def world(self, axis: int, vertices: Array) -> Array:
         """Returns the world coordinates of vertices on an axis, as floats."""
         with np.errstate(all="ignore"):
             return vertices * float(self.scale[axis]) + float(self.translate[axis])
 
-    def add(self, records: Any, named: Callable[[int, Point], Named]) -> None:
+    def add(self, records: Array, named: Callable[[int, Point], Named]) -> None:
         """Takes the records of features. `named` names one of them by its number."""
         self.features += len(records)
         self.longest = max(self.longest, int(records["length"].max(initial=0)))
@@ -164,15 +167,16 @@ class Entry:
         )
 
 
-def _bits(sets: Any) -> Any:
+def _bits(sets: Array) -> Array:
     """Returns how many of these sets of bits have each bit set. There is at least one set."""
     is_one = (sets == sets[0]).all()
     some, counts = (sets[:1], len(sets)) if is_one else np.unique(sets, return_counts=True)
     bits = np.unpackbits(some.astype("<u8").view("u1").reshape(-1, 8), axis=1, bitorder="little")
-    return (bits.T.astype("i8") * counts).sum(axis=1)
+    sums: Array = (bits.T.astype("i8") * counts).sum(axis=1)
+    return sums
 
 
-def _wider(before: Range, records: Any, axis: str) -> Range:
+def _wider(before: Range, records: Array, axis: str) -> Range:
     """Returns the least range that has a range and those of records in it."""
     least, greatest = int(records[f"{axis}min"].min()), int(records[f"{axis}max"].max())
     return (
@@ -226,7 +230,7 @@ class Ids:
     def __exit__(self, *_: object) -> None:
         self._base.close()
 
-    def add(self, file: int, lines: Any, ids: list[bytes]) -> None:
+    def add(self, file: int, lines: Array, ids: list[bytes]) -> None:
         """Takes the ids of features of a file, and an array of their lines.
 
         Raises:
@@ -329,7 +333,8 @@ class Survey:
 
     def mark(self, entry: Entry, middles: list[Point]) -> None:
         """Takes the middles of invalid features, as vertices of the file."""
-        entry.place.mark([(float(entry.world(0, x)), float(entry.world(1, y))) for x, y in middles])
+        worlds = ((entry.world(0, np.array(x)), entry.world(1, np.array(y))) for x, y in middles)
+        entry.place.mark([(float(x), float(y)) for x, y in worlds])
 
     def report(self, report: Report) -> None:
         """Takes a report.

@@ -12,9 +12,12 @@ import json
 import os
 import resource
 import threading
-from collections.abc import Sequence
+from collections.abc import Callable, Sequence
 from ctypes import POINTER, c_bool, c_char_p, c_int32, c_int64, c_size_t, c_uint32, c_uint64
-from typing import Any, TypeVar
+from typing import TYPE_CHECKING, TypeVar
+
+if TYPE_CHECKING:
+    from ..run import Result
 
 Fault = TypeVar("Fault", bound="CityseqError")
 READ_FAULTS = (OSError, EOFError, ValueError)  # what a read may raise
@@ -57,14 +60,14 @@ class CityseqError(Exception):
 
     status = Status.BAD_REQUEST
 
-    def __init__(self, words: str, result: Any | None = None, file: str | None = None) -> None:
+    def __init__(self, words: str, result: Result | None = None, file: str | None = None) -> None:
         super().__init__(words)
         self.words, self.result, self.file = words, result, file
 
     def __str__(self) -> str:
         return shown(self.words if self.file is None else f"{self.file}: {self.words}")
 
-    def __reduce__(self) -> Any:
+    def __reduce__(self) -> tuple[object, ...]:
         return type(self), (self.words, self.result, self.file), {"__cause__": self.__cause__}
 
     @classmethod
@@ -191,7 +194,7 @@ FAULTS = {
 BOX_FAULTS = FAULTS[6], FAULTS[7], FAULTS[8]
 
 
-def _members(kind: Any, names: str) -> list[tuple[str, Any]]:
+def _members(kind: type[ctypes._CData], names: str) -> list[tuple[str, type[ctypes._CData]]]:
     """Returns the members of a struct that have one type."""
     return [(name, kind) for name in names.split()]
 
@@ -319,7 +322,7 @@ _CALLS = {
 _reports_room = Room()
 
 
-def _pointed(text: Text, begin: int = 0) -> Any:
+def _pointed(text: Text, begin: int = 0) -> bytes | ctypes._CArgObject:
     """Returns what a call takes as the pointer to these bytes, from `begin` on. Nothing is copied,
     except from the middle of bytes that cannot change."""
     if isinstance(text, bytearray) or isinstance(text, memoryview) and not text.readonly:
@@ -337,7 +340,7 @@ def searchable(text: Text) -> tuple[bytes | bytearray, int, int]:
     begin and end in it. A memoryview of a bytearray is not copied."""
     if not isinstance(text, memoryview):
         return text, 0, len(text)
-    whole: Any = text.obj
+    whole = text.obj
     if not isinstance(whole, bytearray) or not text:
         return bytes(text), 0, len(text)
     begin = _address(text) - _address(whole)
@@ -348,7 +351,7 @@ class Library:
     """The calls of the library. Any number of threads may make them at once. `room` is how many
     reports a call may write. They are returned as the library writes them."""
 
-    def __init__(self, calls: Any) -> None:
+    def __init__(self, calls: ctypes.CDLL) -> None:
         self._calls = calls
         self._type_names: tuple[str, ...] = ()
 
@@ -437,7 +440,12 @@ class Library:
 
     @staticmethod
     def _judged(
-        call: Any, header: bytes, part: Text, request: RawRequest, room: int, *given: Any
+        call: Callable[..., RawAnswer],
+        header: bytes,
+        part: Text,
+        request: RawRequest,
+        room: int,
+        *given: object,
     ) -> tuple[RawAnswer, bytes]:
         """Makes a call with room for reports. Returns the answer, and the reports that it wrote,
         one after another."""
@@ -448,7 +456,7 @@ class Library:
         return answer, bytes(memory[: min(answer.refused, room) * REPORT])
 
     @staticmethod
-    def _text(call: Any, number: int) -> str:
+    def _text(call: Callable[..., int], number: int) -> str:
         room = ctypes.create_string_buffer(128)
         length = call(number, room, len(room))
         return room.raw[:length].decode("ascii")

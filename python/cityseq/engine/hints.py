@@ -5,10 +5,13 @@ from __future__ import annotations
 import json
 import re
 from collections.abc import Callable, Iterator
-from typing import Any
+from typing import TYPE_CHECKING
 
 from . import quoted
 from .reports import Report
+
+if TYPE_CHECKING:
+    from ..foreign import Json, Object
 
 LONGEST = 1 << 20  # longer lines are not read as JSON
 VALUE = 256  # bytes of a value that are read
@@ -25,7 +28,7 @@ SECOND_HEADER = (
     " the same transform, and else keep the streams apart"
 )
 Needs = tuple[
-    str, dict[str, Any], tuple[str, ...]
+    str, "Object", tuple[str, ...]
 ]  # what an object is, the object, and the members that it needs
 Hint = Callable[[bytes, int, bool], "str | None"]
 HEAD = 65_536  # bytes that are read for a hint
@@ -86,7 +89,7 @@ FEATURE_FIRST = (
 OLD_LINES = "Its lines end with CR alone: let them end with LF, as by tr '\\r' '\\n'."
 
 
-def _decoded(text: bytes) -> Any:
+def _decoded(text: bytes) -> Json:
     return json.loads(text.decode("utf-8"))
 
 
@@ -107,11 +110,11 @@ def _word_at(line: bytes, place: int) -> str | None:
     return found.group().decode("ascii") if found else None
 
 
-def _list(value: object) -> list[Any]:
+def _list(value: object) -> list[Json]:
     return value if isinstance(value, list) else []
 
 
-def _members(value: object) -> dict[str, Any]:
+def _members(value: object) -> Object:
     return value if isinstance(value, dict) else {}
 
 
@@ -127,7 +130,7 @@ def _of_geometry(geometry: object) -> Iterator[Needs]:
         yield "the semantic surface", _members(surface), ("type",)
 
 
-def _of_header(root: dict[str, Any]) -> Iterator[Needs]:
+def _of_header(root: Object) -> Iterator[Needs]:
     yield "the header", root, ("type", "version", "transform", "CityObjects", "vertices")
     yield "transform", _members(root.get("transform")), ("scale", "translate")
     templates = _members(root.get("geometry-templates"))
@@ -136,7 +139,7 @@ def _of_header(root: dict[str, Any]) -> Iterator[Needs]:
         yield from _of_geometry(geometry)
 
 
-def _of_feature(root: dict[str, Any]) -> Iterator[Needs]:
+def _of_feature(root: Object) -> Iterator[Needs]:
     yield "the feature", root, ("type", "id", "CityObjects", "vertices")
     for name, told in _members(root.get("CityObjects")).items():
         kind = _members(told).get("type")

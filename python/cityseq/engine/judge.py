@@ -11,7 +11,7 @@ from collections.abc import Iterable, Iterator
 from dataclasses import dataclass, field, replace
 from functools import lru_cache
 from itertools import chain
-from typing import TYPE_CHECKING, Any, Union
+from typing import TYPE_CHECKING, Union
 
 from . import (
     DEPTH_LIMITS,
@@ -169,7 +169,7 @@ class Work:
     lods: bytes | None = None
     box: bytes | None = None
     exact_lods: bool = False
-    where: tuple[str, tuple[Any, ...]] | None = None
+    where: tuple[str, tuple[object, ...]] | None = None
 
     @property
     def reads_ids(self) -> bool:
@@ -263,7 +263,7 @@ class UnknownType(RequestError):
         self.brief, self.name = brief, name
         super().__init__(f"{brief}: {name}")
 
-    def __reduce__(self) -> Any:
+    def __reduce__(self) -> tuple[object, ...]:
         return RequestError, (self.words,)
 
     def alike(self) -> str | None:
@@ -368,7 +368,8 @@ class Answer:
         """Returns the same answer for another process. It has reports, and not their lines."""
         from .reports import Described  # only clusters need it
 
-        invalid: list[Invalid | Described] = [Described(list(each)) for each in self.invalid]
+        kept = ([report.kept() for report in each] for each in self.invalid)
+        invalid: list[Invalid | Described] = [Described(reports) for reports in kept]
         return replace(self, invalid=invalid, output=[bytes(text) for text in self.output])
 
     def counts(self) -> Answer:

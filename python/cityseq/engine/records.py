@@ -8,10 +8,13 @@ from collections import Counter
 from collections.abc import Callable, Iterable, Iterator, Sequence
 from dataclasses import dataclass, field, replace
 from functools import lru_cache
-from typing import Any, NamedTuple
+from typing import TYPE_CHECKING, Any, NamedTuple
 
 from . import FEATURE, LOD_CLASSES, RawAnswer, RawTally, Room, Text, library, searchable
 from .judge import Work, lines_of
+
+if TYPE_CHECKING:
+    from ..foreign import Cell
 
 Range = tuple[int, int] | None
 MOST_TEXTS = 4_096  # of LoDs
@@ -23,7 +26,8 @@ USUAL = 8_192  # features of a part that fit at first
 LONGEST = 1_024  # bytes of an id that is stored unchanged
 COPIED = 2_048  # bytes of a part for each feature, that are copied in the time which this saves
 Id = tuple[str, bytes | None]
-IdsOf = Callable[[Text, bytes], Any]  # returns the ids of a part, from the part and its records
+# Returns the ids of a part, from the part and its records, or what else `Records.ids` has.
+IdsOf = Callable[[Text, bytes], Any]
 _room = Room()  # for the records of a thread's parts, one after another
 ALONE = 8  # texts that have a query of their own, the most frequent ones
 MOST_CALLS = 64  # for one part
@@ -84,13 +88,13 @@ class Tally:
 class Same(NamedTuple):
     """A column that has one value in all rows."""
 
-    value: Any
+    value: Cell
 
 
-Column = Same | Iterable[Any]
+Column = Same | Iterable["Cell"]
 
 
-def same_if_equal(values: Sequence[Any]) -> Column:
+def same_if_equal(values: Sequence[Cell]) -> Column:
     """Returns a column of these values, which are at least one."""
     return Same(values[0]) if values.count(values[0]) == len(values) else values
 
@@ -246,7 +250,7 @@ class Found:
     lines: dict[str, int] = field(default_factory=dict)
 
 
-def _members(text: Any, begin: int, end: int) -> Iterator[tuple[int, bytes]]:
+def _members(text: bytes | bytearray, begin: int, end: int) -> Iterator[tuple[int, bytes]]:
     """Yields the place of each member that may be an LoD, and what follows its name."""
     find, starts, value = text.find, text.startswith, b"\n"
     place, window = begin, WINDOWS[0]
@@ -270,7 +274,7 @@ def _members(text: Any, begin: int, end: int) -> Iterator[tuple[int, bytes]]:
         yield name, value
 
 
-def _in_one_pass(text: Any, begin: int, end: int) -> Found | None:
+def _in_one_pass(text: bytes | bytearray, begin: int, end: int) -> Found | None:
     """Finds all members that may be an LoD. Returns None if they have too many texts."""
     found, line_end = Found(), begin - 1
     texts: dict[bytes, str] = {}

@@ -9,14 +9,13 @@ import struct
 import unicodedata
 from collections.abc import Iterator
 from dataclasses import dataclass, field
-from typing import Any
 
 from . import RawAnswer, library
 
 TOO_LONG = 2
 LONGEST = 1 << 20  # bytes: a longer line is not read as JSON
 BESIDE = 40  # how many bytes an excerpt shows on each side of the place
-KEPT = 1_024  # bytes: a report keeps a line that is not longer, and describes it when it is asked
+KEPT = 1_024  # bytes: a report that is kept keeps a line that is not longer, to describe it later
 RAW = struct.Struct("=4Q")  # `struct cityseq_report`: line, begin, place, code
 DETAILS = ("id", "excerpt", "column", "met")
 # The usual beginning of a feature: its id, or its type and then its id.
@@ -74,7 +73,7 @@ class Report:
     `column` is the column of the place in the excerpt, as a terminal shows it.
 
     A stream may have very many reports, of which few are shown. So the last four are read from the
-    line when one of them is asked for, if the line is short.
+    line when one of them is asked for. A report that is kept does not keep a long line: see `kept`.
     """
 
     file: str
@@ -97,9 +96,13 @@ class Report:
         report.__dict__.update(
             file=file, line=line, byte=byte, code=code, text=_text_of(code), _content=content
         )
-        if len(content) > KEPT:
-            report._describe()
         return report
+
+    def kept(self) -> Report:
+        """Returns this report, for who keeps it. If the line is long, it is described now."""
+        if len(self.__dict__.get("_content", b"")) > KEPT:
+            self._describe()
+        return self
 
     def _describe(self) -> None:
         """Reads id, excerpt, column and hint from the line, which is then not kept."""
@@ -115,7 +118,7 @@ class Report:
             met=met(content, self.byte, self.code, is_header),
         )
 
-    def __getattr__(self, name: str) -> Any:
+    def __getattr__(self, name: str) -> object:
         if name not in DETAILS or "_content" not in self.__dict__:
             raise AttributeError(f"{type(self).__name__!r} object has no attribute {name!r}")
         self._describe()
@@ -256,4 +259,4 @@ def report_of_end(answer: RawAnswer, header: bytes, part: bytes | bytearray, fil
     """Returns the report of the line that ended an answer."""
     begin = library().line_begin(header, part, answer.line)
     raw = RAW.pack(answer.line, begin, answer.place, answer.code)
-    return next(iter(Invalid(file, raw, header, part)))
+    return next(iter(Invalid(file, raw, header, part))).kept()

@@ -11,9 +11,12 @@ from decimal import Decimal
 from functools import partial
 from math import gcd, nextafter
 from threading import RLock
-from typing import Any, TypeVar
+from typing import TYPE_CHECKING, TypeVar
 
 from .records import Range
+
+if TYPE_CHECKING:
+    from ..foreign import Json
 
 Interval = tuple[float, float]
 BITS = 53  # of a float, as bits
@@ -198,7 +201,7 @@ def deep(read: Callable[[], Value]) -> Value:
                 sys.setrecursionlimit(limit)
 
 
-def read_json(text: str) -> Any:
+def read_json(text: str) -> Json:
     """Reads JSON with exact numbers."""
     return deep(partial(json.loads, text, parse_float=exact_number, parse_int=exact_number))
 

@@ -8,9 +8,10 @@ import sqlite3
 from collections.abc import Callable, Iterable, Iterator, Sequence
 from contextlib import contextmanager, suppress
 from dataclasses import dataclass, field
+from decimal import Decimal
 from functools import lru_cache, partial
 from itertools import repeat
-from typing import Any, NamedTuple
+from typing import TYPE_CHECKING, NamedTuple
 
 from ..attributes import Asked, Columns, columns_of, texts_of
 from ..attributes.columns import AttributeColumns
@@ -37,6 +38,10 @@ from .bulk import NOWHERE, Ranges, Sorter, Tree, insert, vectors_for
 from .database import replaceable
 from .geopackage import MOST_FEATURES, TREE, UNDEFINED, geometry_start, readable, system_of
 from .line_reader import Blocks
+
+if TYPE_CHECKING:
+    from ..foreign import Cell, Cells
+    from .index_run import Digests
 
 PAGE = 1 << 14  # bytes of a page of the database: small ones leave more of them unused
 CACHE = 8 << 20  # bytes of the database that are in memory
@@ -90,7 +95,7 @@ class Entry:
     world: World = field(init=False)
     system: int = field(init=False)
     reference: str | None = field(init=False)
-    transform: dict[str, Any] = field(init=False)
+    transform: dict[str, list[Decimal]] = field(init=False)
     ranges: Ranges = NOWHERE
 
     def __post_init__(self) -> None:
@@ -202,7 +207,7 @@ def telling_of(name: str) -> Iterator[None]:
         raise database_fault(fault, name) from fault
 
 
-def _filled(values: Iterable[Any] | None, some: Iterable[bool] | None) -> Column:
+def _filled(values: Iterable[Cell] | None, some: Iterable[bool] | None) -> Column:
     """Returns a column with the next value for each feature that has one, and None for others. If
     `some` is None, all have one."""
     if values is None:
@@ -213,7 +218,7 @@ def _filled(values: Iterable[Any] | None, some: Iterable[bool] | None) -> Column
     return [next(given) if each else None for each in some]
 
 
-def _first(column: Column) -> Any:
+def _first(column: Column) -> Cell:
     """Returns the first value of a column that has one."""
     return column.value if isinstance(column, Same) else next(iter(column))
 
@@ -243,10 +248,10 @@ class Builder:
         self._are_last = self._attributes is not None and self._attributes.are_last
         self._systems: set[int] = set()  # of coordinates
         self._opened: sqlite3.Connection | None = None
-        self._usual: tuple[Any, ...] | None = None  # the uniform columns of the first feature
+        self._usual: Cells | None = None  # the uniform columns of the first feature
         self._count = 0  # of the uniform columns that rows have
         self._cells = Sorter()
-        self.digests: Any = None  # makes the hashes of the streams
+        self.digests: Digests  # `written` sets what makes the hashes of the streams
         target = target_of(path)
         if target is None:
             what = "Is a directory" if os.path.isdir(path) else "an index is a regular file"
@@ -298,8 +303,7 @@ class Builder:
         Raises:
             WriteFault: They cannot be written.
         """
-        given: Any = records.ids
-        details = given if isinstance(given, Details) else Details(given)
+        details = records.ids if isinstance(records.ids, Details) else Details(records.ids)
         numbers = range(self._fid + 1, self._fid + 1 + len(details.ids))
         if numbers.stop > MOST_FEATURES:
             raise WriteFault(f"write fault: more than {MOST_FEATURES:,} features", None, self.name)

@@ -18,7 +18,7 @@ from collections.abc import Callable, Iterable, Iterator, Sequence
 from contextlib import suppress
 from functools import lru_cache
 from itertools import chain, compress, islice, pairwise
-from typing import IO, TYPE_CHECKING, Any, NamedTuple
+from typing import IO, TYPE_CHECKING, NamedTuple
 
 from ..engine import write_fault
 from ..engine.records import Column, Range, Same, same_if_equal
@@ -26,6 +26,8 @@ from ..engine.world import World
 from .geopackage import polygons
 
 if TYPE_CHECKING:
+    from types import ModuleType
+
     from ..engine.records import Records
 
 
@@ -49,7 +51,7 @@ NOWHERE: Ranges = (None, None, None)
 
 
 @lru_cache(maxsize=None)
-def _vectors() -> Any:
+def _vectors() -> ModuleType | None:
     try:
         from . import vectors
     except (ImportError, MemoryError):
@@ -57,7 +59,7 @@ def _vectors() -> Any:
     return vectors
 
 
-def vectors_for(count: int, many: int = MANY) -> Any:
+def vectors_for(count: int, many: int = MANY) -> ModuleType | None:
     """Returns the module `vectors` for so many rows. None if they are fewer than `many`, or if
     numpy is not installed."""
     return _vectors() if count >= many else None
@@ -123,7 +125,7 @@ class Sorter:
     def __enter__(self) -> Sorter:
         return self
 
-    def __exit__(self, *_: Any) -> None:
+    def __exit__(self, *_: object) -> None:
         self.close()
 
     def close(self) -> None:

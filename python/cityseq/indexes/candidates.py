@@ -5,7 +5,7 @@ import os
 import re
 from collections.abc import Mapping
 from functools import partial
-from typing import TYPE_CHECKING, Any
+from typing import TYPE_CHECKING
 
 from ..engine import LOD_CLASSES, OutOfDate, library, quoted, shown
 from ..engine.judge import Work
@@ -30,7 +30,7 @@ SAMPLE = 500  # features that show how many of all a query selects
 BOX = "minx <= ? AND maxx >= ? AND miny <= ? AND maxy >= ?"
 IN_BOX = f"fid IN (SELECT id FROM {TREE} WHERE {BOX})"
 WITH_ID = f"fid IN ({WANTED})"
-Terms = tuple[list[str], list[Any]]  # conditions, and the values in them
+Terms = tuple[list[str], list[object]]  # conditions, and the values in them
 
 
 def want(base: Database, ids: bytes) -> None:
@@ -63,7 +63,7 @@ def _of_names(work: Work) -> Terms:
     """Returns the conditions for the attributes, types and LoDs of a query."""
     sql, given = work.where or ("", ())
     conditions: list[str] = [f"({sql})"] if sql else []
-    values: list[Any] = list(given)
+    values: list[object] = list(given)
     for column, names in (("types", _noted(work.types)), ("lods", _classes(work.lods))):
         if names is not None:
             each = set(names.decode("utf-8").split("\n"))

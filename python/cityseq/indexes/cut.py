@@ -4,7 +4,7 @@ from __future__ import annotations
 from collections.abc import Callable, Generator, Iterable, Iterator
 from dataclasses import dataclass, replace
 from itertools import chain
-from typing import TYPE_CHECKING, Any
+from typing import TYPE_CHECKING
 
 from ..engine import OutOfDate, RequestError, Status
 from ..engine.judge import Work
@@ -55,8 +55,7 @@ class _Cut:
     def written(self, name: str, selections: Selections, writer: Writer) -> Result:
         """Judges the selected lines again, and writes those that are kept."""
         writer.limit = self.limit
-        source: Any = TextsFile(name, self._texts(selections))
-        with source:
+        with TextsFile(name, self._texts(selections)) as source:
             (result,) = results([Stream(source, self.work, output=writer)], self.jobs)
         if result.end is not None and result.end.line > 1 and result.fault is None:
             raise OutOfDate.because(OTHER_LINES, name)
@@ -133,7 +132,7 @@ def cut(
     name, selections = streams[0].path, index.selections(work)
     if is_path(output):
         return _counted(made.written(name, selections, writer(output)), streams)
-    target: Any = Whole(writer(output))  # which gets the output only when that is whole
+    target = Whole(writer(output))  # which gets the output only when that is whole
     try:
         result = made.written(name, selections, Writer(target))
         target.close()

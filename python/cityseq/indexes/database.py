@@ -13,7 +13,7 @@ from collections.abc import Callable, Iterable, Iterator, Sequence
 from contextlib import contextmanager
 from math import inf
 from time import monotonic
-from typing import Any
+from typing import TYPE_CHECKING, AnyStr
 
 from ..engine import (
     DEPTH_LIMITS,
@@ -26,6 +26,9 @@ from ..engine import (
     write_fault,
 )
 from . import geopackage
+
+if TYPE_CHECKING:
+    from ..foreign import Cells
 
 SECONDS = 60  # of a search
 STEPS = 50_000  # of SQLite's machine, after which Python may run the handlers of signals
@@ -42,28 +45,9 @@ LONGEST = 4_096  # bytes of a path that a system can open
 FARTHEST = 1e37  # vertices, scales and translates are below 10^18, so no coordinate is greater
 DECIMAL = re.compile(r"-?\d+(?:\.\d+)?(?:[eE][+-]?\d+)?")
 SHA256, CONTENT = re.compile(r"[0-9a-f]{64}"), re.compile(r"[0-9a-f]{32}")
-Test = Callable[[Any], bool]
+Test = Callable[[object], bool]
 WAIT = 1.0  # seconds for a lock of another program
 IN_USE = "write fault: another program has it open: close it there, and build the index again"
-
-
-def connected(path: str, how: str, wait: float = 5.0) -> sqlite3.Connection:
-    """Opens a database.
-
-    Args:
-        path: Its path, without links.
-        how: What its URI has after the path.
-        wait: How many seconds to wait for a lock of another program.
-
-    Raises:
-        sqlite3.Error: It cannot be opened.
-    """
-    name = "".join(f"%{byte:02x}" for byte in os.fsencode(path))
-    base = sqlite3.connect(
-        f"file:{name}?{how}", uri=True, isolation_level=None, check_same_thread=False, timeout=wait
-    )
-    base.execute("PRAGMA trusted_schema = OFF")
-    return base
 
 
 def is_index(base: sqlite3.Connection) -> bool:
@@ -100,7 +84,7 @@ class Database:
         self.path, self._file = path, os.path.realpath(path)
         self._stop: BaseException | None = None
         self._end: float | None = None  # of a search, by the clock
-        self._state: Any = None  # of a file that is read without locks
+        self._state: tuple[int, ...] | None = None  # of a file that is read without locks
         self._is_counted = self._has_filters = False
         self.tables: set[str] = set()  # after `check_tables`
         try:
@@ -138,7 +122,7 @@ class Database:
             raise _why(self.path, fault) from fault
 
     def _tried(self, how: str) -> sqlite3.Connection:
-        base = connected(self._file, how)
+        base = geopackage.connected(self._file, how)
         try:
             turns = self._turns()
             next(turns)
@@ -187,7 +171,7 @@ class Database:
             self._base.create_function(INSTANT, 1, instant, deterministic=True)
         self._has_filters = True
 
-    def search(self, select: str, given: Iterable[Any] = ()) -> Iterator[Any]:
+    def search(self, select: str, given: Iterable[object] = ()) -> Iterator[Cells]:
         """Yields the rows of a query. The caller asks for them in a block of `reading`.
 
         Raises:
@@ -208,7 +192,7 @@ class Database:
                 return
             yield row
 
-    def _state_now(self) -> Any:
+    def _state_now(self) -> tuple[int, ...]:
         try:
             state = os.stat(self._file)
         except OSError as fault:
@@ -230,11 +214,11 @@ class Database:
                 raise stop from None
             raise read_fault(fault, self.path) from fault
 
-    def execute(self, select: str, given: Iterable[Any] = ()) -> sqlite3.Cursor:
+    def execute(self, select: str, given: Iterable[object] = ()) -> sqlite3.Cursor:
         """Begins a query. The caller does this in a block of `reading`."""
         return self._base.execute(select, tuple(given))
 
-    def executemany(self, insert: str, rows: Iterable[Any]) -> None:
+    def executemany(self, insert: str, rows: Iterable[Sequence[object]]) -> None:
         """Writes rows to a temporary table. The caller does this in a block of `reading`."""
         self._base.executemany(insert, rows)
 
@@ -247,7 +231,7 @@ class Database:
             ReadFault: They are not.
         """
         with self.reading():
-            found: dict[Any, Any] = {
+            found: dict[str, tuple[int, object]] = {
                 name: (root, text)
                 for name, root, text in self._base.execute(
                     "SELECT name, rootpage, sql FROM sqlite_master WHERE type = 'table'"
@@ -308,7 +292,7 @@ class Database:
             return
         tree = geopackage.TREE
         with self.reading():
-            counts: list[Any] = [
+            counts = [
                 self._base.execute(select).fetchone()
                 for select in (
                     "SELECT places FROM cityseq_index",
@@ -333,12 +317,12 @@ def _is_text(value: object) -> bool:
     return isinstance(value, str)
 
 
-def _is_path(kind: Any, nul: Any) -> Test:
+def _is_path(kind: type[AnyStr], nul: AnyStr) -> Test:
     return lambda value: isinstance(value, kind) and 0 < len(value) <= LONGEST and nul not in value
 
 
-def _is_coordinate(value: Any) -> bool:
-    return type(value) in (int, float) and abs(value) <= FARTHEST
+def _is_coordinate(value: object) -> bool:
+    return isinstance(value, (int, float)) and abs(value) <= FARTHEST
 
 
 def _is_exact(value: object) -> bool:
@@ -412,7 +396,7 @@ ATTRIBUTES: dict[str, Test] = {
 }
 
 
-def checked(table: str, tests: dict[str, Test], row: Sequence[Any], path: str) -> Sequence[Any]:
+def checked(table: str, tests: dict[str, Test], row: Cells, path: str) -> Cells:
     """Returns a row of a table, whose columns have the order of the tests.
 
     Raises:
@@ -467,7 +451,7 @@ def _hold(base: sqlite3.Connection, name: str) -> None:
 
 def _held(name: str, path: str) -> sqlite3.Connection:
     """Opens an older index, and keeps other programs from changing it."""
-    base = connected(path, "mode=rw", WAIT)
+    base = geopackage.connected(path, "mode=rw", WAIT)
     try:
         if not is_index(base):  # to read it undoes a change that was not finished
             raise _no_index(name)

@@ -15,13 +15,16 @@ from decimal import Decimal
 from functools import lru_cache
 from itertools import chain, islice, repeat
 from math import hypot
-from typing import Any, Union
+from typing import TYPE_CHECKING, Union
 
 from ..engine import Text
 from ..engine.records import MEMBERS
 from ..engine.world import World, read_json
 from .bulk import vectors_for
 from .geopackage import FOOTPRINTS, geometry_start, system_of
+
+if TYPE_CHECKING:
+    from ..foreign import Json
 
 TABLE = f"CREATE TABLE {FOOTPRINTS} (fid INTEGER PRIMARY KEY NOT NULL, geom MULTIPOLYGON)"
 ARRAY = re.compile(rb"(\[[-\d,\s\[\]nul]*\])")  # of whole numbers, null and such arrays
@@ -45,7 +48,7 @@ Ring = Sequence[int]
 Surface = Union[bytes, list[Ring]]  # a text, or its rings
 
 
-def _read(text: bytes) -> Any:
+def _read(text: bytes) -> Json:
     """Returns the value of a valid JSON text. A number of very many digits, which Python does not
     read, is 0."""
     try:
@@ -70,10 +73,10 @@ class _Line:
         texts[1::2] = [b"-%d" % (FIRST + number) for number in range(len(self._arrays))]
         self._told = _read(b"".join(texts))
 
-    def _array(self, value: Any, depth: int) -> list[Any]:
+    def _array(self, value: Json, depth: int) -> list[Json]:
         """Returns lists of `depth` levels. They may have been cut out, or some of their items. One
         number represents all of these that follow one another."""
-        found: list[Any] = []
+        found: list[Json] = []
         if not isinstance(value, list):
             (found,) = self._cut_out(value)
             return found
@@ -86,17 +89,17 @@ class _Line:
                 found.append(None if item is None else self._array(item, depth - 1))
         return found
 
-    def _cut_out(self, number: int) -> list[Any]:
+    def _cut_out(self, number: int) -> list[Json]:
         """Returns the arrays that a number represents."""
-        arrays: list[Any] = json.loads(b"[%s]" % self._arrays[-number - FIRST])
+        arrays: list[Json] = json.loads(b"[%s]" % self._arrays[-number - FIRST])
         return arrays
 
-    def _boundaries(self, value: Any, levels: int) -> list[Any]:
+    def _boundaries(self, value: Json, levels: int) -> list[Json]:
         """Returns boundaries, whose surfaces may be texts: most are not needed."""
         texts = None if isinstance(value, list) else _nested(self._arrays[-value - FIRST], levels)
         return self._array(value, levels + 3) if texts is None else texts
 
-    def _items(self, value: object) -> list[Any]:
+    def _items(self, value: object) -> list[Json]:
         """Returns the items of an array that are not numbers."""
         return value if isinstance(value, list) else []
 
@@ -133,7 +136,7 @@ class _Line:
         lods = [lod for lod, surfaces in by_lod.items() if surfaces]
         return flat or (by_lod[min(lods)] if lods else [])
 
-    def _ground_surfaces(self, geometry: Any, levels: int) -> list[Surface]:
+    def _ground_surfaces(self, geometry: Json, levels: int) -> list[Surface]:
         """Returns the surfaces of a geometry that are ground by their semantics."""
         semantics = geometry.get("semantics")
         if not isinstance(semantics, dict):
@@ -148,26 +151,26 @@ class _Line:
         return [surface for surface, value in listed if value in grounds]
 
 
-def _whole(numbers: Iterable[Any]) -> Vertex:
+def _whole(numbers: Iterable[Json]) -> Vertex:
     x, y, z = map(int, numbers)
     return x, y, z
 
 
-def _nested(text: bytes, levels: int) -> list[Any] | None:
+def _nested(text: bytes, levels: int) -> list[Json] | None:
     """Returns the text of boundaries as lists of the texts of surfaces. None if a list is empty
     that has no ring."""
     text, edge = text.translate(None, b" \t\r\n"), levels + 3
     if not (text.startswith(b"[" * edge) and text.endswith(b"]" * edge)):
         return None
     nested = _split(text[edge:-edge], edge - 1)
-    texts: list[Any] = _surfaces(nested, levels)
+    texts: list[Json] = _surfaces(nested, levels)
     whole = b"".join(texts)
     return None if b"[[" in whole or b"]]" in whole else nested
 
 
-def _split(text: bytes, brackets: int) -> list[Any]:
+def _split(text: bytes, brackets: int) -> list[Json]:
     """Returns a text as lists of lists. So many brackets are between the items of the first."""
-    items: list[Any] = text.split(b"]" * brackets + b"," + b"[" * brackets)
+    items: list[Json] = text.split(b"]" * brackets + b"," + b"[" * brackets)
     return items if brackets == 2 else [_split(item, brackets - 1) for item in items]
 
 
@@ -179,14 +182,14 @@ def _rings(surface: Surface) -> list[Ring]:
     return [list(map(int, ring.split(b","))) if ring else [] for ring in rings]
 
 
-def _surfaces(boundaries: list[Any], levels: int) -> list[Surface]:
+def _surfaces(boundaries: list[Json], levels: int) -> list[Surface]:
     """Returns the surfaces in so many levels of lists."""
     for _ in range(levels):
         boundaries = list(chain(*boundaries))
     return boundaries
 
 
-def _values(boundaries: list[Any], values: list[Any], levels: int) -> list[Any]:
+def _values(boundaries: list[Json], values: list[Json], levels: int) -> list[Json]:
     """Returns the semantic value of each surface. None in place of a list is that of all in it."""
     for _ in range(levels):
         pairs = zip(boundaries, values)
@@ -309,7 +312,7 @@ def in_part(header: bytes, part: Text, raw: bytes) -> list[bytes | None]:
     return [_place(header).footprint(line) for line in lines]
 
 
-def polygons_of(geometry: Any) -> list[Polygon]:
+def polygons_of(geometry: bytes) -> list[Polygon]:
     """Returns the rings of the polygons of a footprint. An index from anywhere may have any bytes.
 
     Raises:

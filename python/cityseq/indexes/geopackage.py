@@ -8,13 +8,14 @@ from __future__ import annotations
 
 import json
 import math
+import os
 import re
 import sqlite3
 import struct
 from collections.abc import Container, Iterator, Sequence
 from contextlib import suppress
 from itertools import repeat
-from typing import Any, NamedTuple
+from typing import NamedTuple
 
 VERSION = 5  # of the tables: it changes if a column is removed, renamed or changes its meaning
 APPLICATION = 0x47504B47  # "GPKG"
@@ -111,6 +112,25 @@ EVENTS = {
     for table in GUARDED
     for event in ("INSERT", "UPDATE", "DELETE")
 }
+
+
+def connected(path: str, how: str, wait: float = 5.0) -> sqlite3.Connection:
+    """Opens a database.
+
+    Args:
+        path: Its path, without links.
+        how: What its URI has after the path.
+        wait: How many seconds to wait for a lock of another program.
+
+    Raises:
+        sqlite3.Error: It cannot be opened.
+    """
+    name = "".join(f"%{byte:02x}" for byte in os.fsencode(path))
+    base = sqlite3.connect(
+        f"file:{name}?{how}", uri=True, isolation_level=None, check_same_thread=False, timeout=wait
+    )
+    base.execute("PRAGMA trusted_schema = OFF")
+    return base
 
 
 def guards(tables: Container[str]) -> list[str]:
@@ -250,7 +270,7 @@ def as_default(base: sqlite3.Connection, height: float | None) -> float | None:
     return height if told == height else None
 
 
-def add_columns(base: sqlite3.Connection, begin: int, end: int, values: Sequence[Any]) -> None:
+def add_columns(base: sqlite3.Connection, begin: int, end: int, values: Sequence[object]) -> None:
     """Adds some of the uniform columns to `features`, by their places. All rows before have these
     values, numbers or names, and take no bytes for them: if a row ends before a column, SQLite
     reads the default of the column."""

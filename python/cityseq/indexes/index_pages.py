@@ -13,7 +13,7 @@ from dataclasses import dataclass, replace
 from functools import cached_property
 from itertools import chain
 from queue import Empty, LifoQueue
-from typing import Any, NamedTuple
+from typing import TYPE_CHECKING, NamedTuple
 
 from ..attributes import told
 from ..attributes.columns import properties_of
@@ -29,6 +29,9 @@ from .geopackage import Attribute
 from .line_reader import IndexedStream, Row, header_of, lines_of, placed
 from .lookup import Index, judged
 
+if TYPE_CHECKING:
+    from ..foreign import Object
+
 TOGETHER = 1 << 18  # bytes of lines that are judged together
 
 
@@ -36,7 +39,7 @@ class Replaced(ReadFault):
     """Another index has taken the place of one."""
 
 
-def _state_of(path: str) -> Any:
+def _state_of(path: str) -> tuple[int, ...] | None:
     """Returns what a file is now; None if it is not there."""
     try:
         told = os.stat(path)
@@ -160,7 +163,7 @@ class Found(NamedTuple):
     extent: Extent | None
     heights: tuple[float, float] | None
     footprint: list[Polygon]
-    attributes: dict[str, Any]
+    attributes: Object
 
 
 @dataclass(frozen=True)
@@ -194,7 +197,9 @@ class Block:
             footprints, known = index.footprints(fids), index.attributes
         return [self._found(raw, footprints.get(fid), known) for raw, fid in zip(self.raws, fids)]
 
-    def _found(self, raw: RawFeature, footprint: Any, known: dict[str, Attribute]) -> Found:
+    def _found(
+        self, raw: RawFeature, footprint: bytes | None, known: dict[str, Attribute]
+    ) -> Found:
         begin, end = raw.begin + raw.id_begin + 1, raw.begin + raw.id_begin + raw.id_length - 1
         types, lods = names_of_types(raw.types), names_of_lods(raw.lods)
         z, axis, extent = raw.ranges[2], self.source.world.z, self._extent(raw)
@@ -224,7 +229,7 @@ class Block:
         return west, south, east, north
 
 
-def _ground(footprint: Any, extent: Extent | None, path: str) -> list[Polygon]:
+def _ground(footprint: bytes | None, extent: Extent | None, path: str) -> list[Polygon]:
     """Returns the polygons of a footprint. Empty if there is none, or it is the extent.
 
     Raises:

@@ -10,7 +10,7 @@ from contextlib import closing
 from dataclasses import replace
 from decimal import Decimal
 from functools import partial
-from typing import Any, Protocol
+from typing import TYPE_CHECKING, Generic, Protocol, TypeVar
 
 from ..coordinates import around
 from ..engine import (
@@ -38,26 +38,39 @@ from .database import INDEX_CHANGED
 from .line_reader import Blocks, IndexedStream, check_file
 from .lookup import Index
 
+if TYPE_CHECKING:
+    from ..foreign import Object
+    from ..run.streams import Pending
+    from ..sources import AnyPath
+
 Tell = Callable[[Report], None] | None
 Progress = Callable[[int], None] | None
+T = TypeVar("T")
 WAIT = 5  # seconds that another program may hold the file
 
 
-class Hashes:
+class Digests(Protocol):
+    """Makes the hashes of files, which indexes know them by."""
+
+    def submit(self, path: str) -> Pending[Digest | None]:
+        """Begins to make the hash of a file."""
+
+
+class Hashes(Generic[T]):
     """Makes the hashes of files in threads of their own. Leaving a `with` block ends them."""
 
-    def __init__(self, jobs: int = 1, make: Callable[..., Any] = digest_of) -> None:
+    def __init__(self, jobs: int, make: Callable[[str, Callable[[], bool]], T]) -> None:
         """Takes how many threads there are, and what makes the hash of a path."""
         self._pool, self._make, self._is_stopped = Pool(jobs), make, False
 
-    def __enter__(self) -> Hashes:
+    def __enter__(self) -> Hashes[T]:
         return self
 
     def __exit__(self, *given: object) -> None:
         self._is_stopped = True
         self._pool.__exit__(*given)
 
-    def submit(self, path: str) -> Job[Any]:
+    def submit(self, path: str) -> Job[T]:
         """Begins to make the hash of a file."""
         return self._pool.submit(partial(self._make, path, lambda: self._is_stopped))
 
@@ -88,7 +101,7 @@ class Indexed:
         self._entry: Entry | None = None
         self._blocks, self.is_slow = Blocks(), False
         is_read_here = not is_elsewhere and not is_packed(path)
-        self._digest: Any = None if is_read_here else builder.digests.submit(path)
+        self._digest = None if is_read_here else builder.digests.submit(path)
         self._then = tell
         records = replace(work, kind="records")
         self.stream = Stream(
@@ -169,7 +182,8 @@ class Indexed:
             if isinstance(chunks.regular, HashedFile):
                 return chunks.regular.content(), chunks.is_changed
         job = self._digest or self._builder.digests.submit(self.path)
-        digest: Digest = job.result()
+        digest = job.result()
+        assert digest is not None
         return digest.content, not digest.before == digest.after == self._state()
 
     def _state(self) -> State:
@@ -203,7 +217,7 @@ def of_takers(takers: Iterable[Taker], run: Callable[[Iterator[Stream]], Results
             yield begun.popleft().end(result)
 
 
-def checked(paths: Any, output: Any) -> list[str]:
+def checked(paths: bytes | AnyPath | Iterable[object], output: object) -> list[str]:
     """Returns the paths of the streams.
 
     Raises:
@@ -234,7 +248,7 @@ def written(
     run: Callable[[], Results],
     work: Work,
     take: Callable[[Result], None] = lambda result: None,
-    digests: Any = None,
+    digests: Digests | None = None,
 ) -> bool:
     """Writes an index of streams, and passes the result of each to `take`. Returns whether the
     index is whole, and removes it if it is not. Stops after the first stream that ended early.
@@ -243,7 +257,7 @@ def written(
 
     try:
         builder.open()
-        with Hashes() as own, closing(run()) as found:
+        with Hashes(1, digest_of) as own, closing(run()) as found:
             builder.digests = own if digests is None else digests
             for result in found:
                 take(result)
@@ -257,7 +271,7 @@ def written(
 
 def index(
     paths: Sequence[str],
-    output: Any,
+    output: AnyPath,
     work: Work,
     jobs: int | None,
     size: int | None,
@@ -298,7 +312,7 @@ def refresh(path: str, jobs: int | None = None) -> tuple[int, int]:
         streams = index.streams
         if index.is_changed:
             raise OutOfDate.because(INDEX_CHANGED, path)
-    with Hashes(number_of_jobs(jobs)) as digests:
+    with Hashes(number_of_jobs(jobs), digest_of) as digests:
         begun = [(stream, digests.submit(stream.path)) for stream in _touched(streams)]
         times = [(_time_of(stream, job), stream.number) for stream, job in begun]
     if times:
@@ -318,12 +332,13 @@ def _touched(streams: list[IndexedStream]) -> Iterator[IndexedStream]:
             yield stream
 
 
-def _time_of(stream: IndexedStream, job: Any) -> int:
+def _time_of(stream: IndexedStream, job: Job[Digest | None]) -> int:
     """Returns the time of a stream. Raises `OutOfDate` if its content is not that of the index."""
     try:
-        digest: Digest = job.result()
+        digest = job.result()
     except OSError as fault:
         raise read_fault(fault, stream.path) from fault
+    assert digest is not None
     if digest.before != digest.after:
         raise ReadFault(f"read fault: {CHANGED}", None, stream.path)
     if digest.content != stream.content:
@@ -353,10 +368,11 @@ MEMBERS = ("packing", "size", "mtime_ns", "lines", "features", "refused", "refer
 
 def _extent(streams: Sequence[IndexedStream]) -> Extent:
     """Returns the box around streams: minx, miny, maxx, maxy. None if nothing has a place."""
-    boxes: list[Any] = [
+    boxes = [
         (stream.xmin, stream.ymin, stream.xmax, stream.ymax)
         for stream in streams
         if stream.xmin is not None and stream.ymin is not None
+        if stream.xmax is not None and stream.ymax is not None
     ]
     return list(around(boxes)) if boxes else None
 
@@ -416,7 +432,7 @@ def lines(index: Index) -> Iterator[str]:
         yield from (f"    {shown(path)} line {line}" for path, line in repeated.places)
 
 
-def described(index: Index, program: str) -> dict[str, Any]:
+def described(index: Index, program: str) -> Object:
     """Returns the same as the members of a JSON object."""
     return {
         "index": index.path,

@@ -15,7 +15,7 @@ from contextlib import contextmanager
 from dataclasses import dataclass
 from decimal import Decimal, InvalidOperation
 from itertools import pairwise, repeat
-from typing import Any, NamedTuple
+from typing import TYPE_CHECKING, NamedTuple, Union
 
 from ..engine import LINE_LIMITS, READ_FAULTS, OutOfDate, ReadFault, read_fault
 from ..engine.world import World
@@ -23,6 +23,9 @@ from ..sources import CHANGED, Reader, is_url, open_raw, opened, remote_of, stat
 from ..sources.packed import Packing, Unpacker
 from ..sources.regular import RegularFile
 from .database import INDEX_CHANGED
+
+if TYPE_CHECKING:
+    from ..foreign import Readable
 
 # Finds the blocks that have the text of a stream between two places: where each begins in the text
 # and in the file, and the end of the last one.
@@ -76,7 +79,7 @@ class BlockPlace:
     """A packed stream that is read by its blocks, from a file or a web server. Each block has a
     checksum."""
 
-    def __init__(self, stream: IndexedStream, packed: Any, find: Find) -> None:
+    def __init__(self, stream: IndexedStream, packed: RangePlace | PackedPlace, find: Find) -> None:
         """Takes the stream, what reads its packed bytes, and what finds its blocks."""
         self._stream, self._packed, self._find = stream, packed, find
         self.near = packed.near
@@ -194,7 +197,7 @@ class IndexedStream:
             return False
 
 
-def _confirm(stream: IndexedStream, file: Any) -> None:
+def _confirm(stream: IndexedStream, file: Readable) -> None:
     """Checks after the last read that a file has not changed since the first one.
 
     Raises:
@@ -246,7 +249,7 @@ class FilePlace(RangePlace):
     def __init__(self, stream: IndexedStream, reader: Reader) -> None:
         super().__init__(stream.size)
         self._stream, self._file = stream, reader.file
-        remote: Any = remote_of(reader.file)
+        remote = remote_of(reader.file)
         if remote is None:
             self.near = NEAR
         stream.compare(*(state_of(reader.file) if remote is None else remote.state))
@@ -311,8 +314,11 @@ class PackedPlace:
         _confirm(self._stream, file)
 
 
+Place = Union[BlockPlace, RangePlace, PackedPlace]
+
+
 @contextmanager
-def placed(stream: IndexedStream, base: str | None, find: Find) -> Iterator[Any]:
+def placed(stream: IndexedStream, base: str | None, find: Find) -> Iterator[Place]:
     """Gives an object that reads a stream by places: from a file, or a web server below a URL.
     `find` finds the blocks of a packed stream.
 
@@ -328,7 +334,7 @@ def placed(stream: IndexedStream, base: str | None, find: Find) -> Iterator[Any]
         return
     check_file(stream)  # a pipe would wait for a writer when it is opened
     with opened(stream.path) as reader:
-        kind: Any = PackedPlace if stream.is_slow else FilePlace
+        kind: type[PackedPlace] | type[FilePlace] = PackedPlace if stream.is_slow else FilePlace
         try:
             of_file = kind(stream, reader)
         except READ_FAULTS as fault:
@@ -337,9 +343,9 @@ def placed(stream: IndexedStream, base: str | None, find: Find) -> Iterator[Any]
         of_file.confirm()
 
 
-def header_of(stream: IndexedStream, place: Any) -> bytes:
+def header_of(stream: IndexedStream, place: Place) -> bytes:
     """Reads the header of a stream. Raises `OutOfDate` if it is another one."""
-    header: bytes = place.read(0, stream.header_length)
+    header = place.read(0, stream.header_length)
     if hashlib.sha256(header).hexdigest() != stream.header_sha256:
         raise OutOfDate.because("the stream has another header", stream.path)
     return header
@@ -355,7 +361,9 @@ def check_file(stream: IndexedStream) -> None:
     try:
         if is_url(stream.path):
             with open_raw(stream.path) as file:
-                stream.compare(*file.raw.remote.state)
+                remote = remote_of(file)
+                assert remote is not None
+                stream.compare(*remote.state)
             return
         state = os.stat(stream.path)
     except OSError as fault:
@@ -400,7 +408,7 @@ def _line(stream: IndexedStream, text: bytes, begin: int, length: int) -> bytes:
     return line
 
 
-def _all_lines(stream: IndexedStream, place: Any) -> Iterator[tuple[bytes, list[int]]]:
+def _all_lines(stream: IndexedStream, place: Place) -> Iterator[tuple[bytes, list[int]]]:
     """Yields the lines after the header of a stream, some together, each with the number 0."""
     begin, rest = stream.header_length, [b""]  # of a line that has not ended
     text = place.read(begin, begin + MOST)
@@ -420,7 +428,7 @@ def _all_lines(stream: IndexedStream, place: Any) -> Iterator[tuple[bytes, list[
 
 
 def lines_of(
-    stream: IndexedStream, place: Any, rows: Iterable[Row]
+    stream: IndexedStream, place: Place, rows: Iterable[Row]
 ) -> Iterator[tuple[bytes, list[int]]]:
     """Yields lines of a stream, some together, and their numbers. Lines that are near each other
     are read together with what is between them. `AllLines` as rows are all lines, and

@@ -2,11 +2,11 @@
 from __future__ import annotations
 
 import os
-from collections.abc import Iterator, Sequence
+from collections.abc import Generator, Iterator, Sequence
 from dataclasses import dataclass, replace
 from itertools import chain, groupby
 from operator import itemgetter
-from typing import TYPE_CHECKING, Any
+from typing import TYPE_CHECKING
 
 from ..engine import CallStatus, OutOfDate, RawFeature, ReadFault, RequestError, library
 from ..engine.judge import Box, Limits, Options, Query, Texts, Work, work_of
@@ -37,6 +37,8 @@ from .line_reader import (
 
 if TYPE_CHECKING:
     from ..attributes.cql2 import Condition, Filter
+    from ..foreign import Cells
+    from ..sources import AnyPath
 
 TOGETHER = 500  # footprints of one query: older versions of SQLite take at most 999 values
 REPEATED = (
@@ -69,18 +71,17 @@ class RepeatedId:
 class Selection(Iterator[IndexedFeature]):
     """The features that a query selects. Leaving a `with` block closes their streams."""
 
-    def __init__(self, features: Any) -> None:
+    def __init__(self, features: Generator[IndexedFeature, None, None]) -> None:
         self._features = features
 
     def __enter__(self) -> Selection:
         return self
 
-    def __exit__(self, *_: Any) -> None:
+    def __exit__(self, *_: object) -> None:
         self._features.close()
 
     def __next__(self) -> IndexedFeature:
-        feature: IndexedFeature = next(self._features)
-        return feature
+        return next(self._features)
 
 
 class Index:
@@ -94,7 +95,7 @@ class Index:
         attributes: The attributes that a filter can name, by their columns.
     """
 
-    def __init__(self, path: Any, *, base: str | None = None) -> None:
+    def __init__(self, path: bytes | AnyPath, *, base: str | None = None) -> None:
         """Opens an index.
 
         Args:
@@ -128,7 +129,7 @@ class Index:
     def __enter__(self) -> Index:
         return self
 
-    def __exit__(self, *_: Any) -> None:
+    def __exit__(self, *_: object) -> None:
         self.close()
 
     def close(self) -> None:
@@ -229,9 +230,9 @@ class Index:
                     words = f"it has the same URL as {other}: give each stream a name of its own"
                     raise RequestError(words, None, stream.path)
 
-    def footprints(self, fids: Sequence[int]) -> dict[int, Any]:
+    def footprints(self, fids: Sequence[int]) -> dict[int, bytes]:
         """Returns the footprints of features, by their numbers in the index, if it has any."""
-        found: dict[int, Any] = {}
+        found: dict[int, bytes] = {}
         if LAYER in self._base.tables:
             with self._base.reading():
                 for begin in range(0, len(fids), TOGETHER):
@@ -283,7 +284,7 @@ class Index:
             most: The most features to return.
         """
         first = stream.first_fid - 1
-        within = [first + min(after, stream.features), first + stream.features]
+        within: list[object] = [first + min(after, stream.features), first + stream.features]
         found = self._found(work, ["fid > ? AND fid <= ?"], within, f" LIMIT {most}")
         return [(fid - first, Row(*row)) for fid, *row in found]
 
@@ -307,8 +308,8 @@ class Index:
             return features > 0 and reads_all(self._base, work, features, size)
 
     def _found(
-        self, work: Work, conditions: list[str], given: list[Any], end: str = ""
-    ) -> Iterator[Any]:
+        self, work: Work, conditions: list[str], given: list[object], end: str = ""
+    ) -> Iterator[Cells]:
         """Yields the rows of the features that meet the conditions and that a query may keep."""
         of_work, values = terms_of(work)
         conditions += of_work
@@ -397,7 +398,7 @@ class Index:
         self.check()
         return Selection(self._features(self.work(ids, types, lods, box, where)))
 
-    def _features(self, work: Work) -> Any:
+    def _features(self, work: Work) -> Generator[IndexedFeature, None, None]:
         for stream, rows in self._selected(work):
             first = next(rows, None)
             # no row has a place then, and the header is invalid for a query with a box

@@ -3,7 +3,7 @@ by bit."""
 from __future__ import annotations
 
 from collections.abc import Sequence
-from typing import TYPE_CHECKING, Any
+from typing import TYPE_CHECKING, TypeVar
 
 import numpy as np
 
@@ -13,6 +13,10 @@ from .bulk import INWARD, LOWER, OUTWARD, UPPER, Columns, Ranges
 
 if TYPE_CHECKING:
     from ..engine.records import Records
+    from ..foreign import Array
+    from .footprints import Surface
+
+    Surfaces = list[Surface]
 
 AXES = ("x", "y", "z")
 MEMBERS = (  # of a record
@@ -27,13 +31,14 @@ SPLIT = 2.0**27 + 1  # splits a float in two halves of 26 bits
 ROW = np.dtype([("key", ">u8"), ("number", ">i8"), ("edges", ">f4", 4)])
 # each byte as two, with a zero between each two bits
 _SPREAD = np.array([upper << 8 | lower for upper, lower in zip(UPPER, LOWER)], "u8")
-Interval = tuple[Any, Any]
+Interval = tuple["Array", "Array"]
+Floats = TypeVar("Floats", "Array", float)
 
 
 def in_order(rows: bytes) -> bytes:
     """Returns rows sorted by their keys. Others keep their order."""
     words = np.frombuffer(rows, "u8").reshape(-1, ROW.itemsize // 8)
-    keys: Any = np.frombuffer(rows, ROW)["key"]
+    keys: Array = np.frombuffer(rows, ROW)["key"]
     ordered: bytes = words.take(keys.astype("u8").argsort(kind="stable"), axis=0).tobytes()
     return ordered
 
@@ -71,12 +76,12 @@ def columns_of(
     return columns._replace(geometry=_polygons(start, x, y), cells=_cells(fids, x, y))
 
 
-def _column(values: Any) -> Column:
+def _column(values: Array) -> Column:
     """Returns a column of these values, which are at least one."""
     return Same(values[0].item()) if (values == values[0]).all() else values.tolist()
 
 
-def _ranges(records: Any) -> Ranges:
+def _ranges(records: Array) -> Ranges:
     x, y, z = (
         (int(records[f"{axis}min"].min()), int(records[f"{axis}max"].max())) for axis in AXES
     )
@@ -86,7 +91,7 @@ def _ranges(records: Any) -> Ranges:
 # ---- world coordinates
 
 
-def _intervals(axis: Axis, least: Any, greatest: Any) -> Interval:
+def _intervals(axis: Axis, least: Array, greatest: Array) -> Interval:
     """Returns the least and the greatest world coordinates of pairs of vertices, rounded outward,
     as `Axis.intervals` does."""
     farthest = max(-int(least.min()), int(greatest.max()))
@@ -103,7 +108,7 @@ def _intervals(axis: Axis, least: Any, greatest: Any) -> Interval:
     return below, above
 
 
-def _rounded(counts: Any, unit: float, way: float) -> Any:
+def _rounded(counts: Array, unit: float, way: float) -> Array:
     """Returns the floats nearest to `counts / unit`, toward minus or plus infinity.
 
     A quotient of floats is the nearest one. If it is too great or too small for this way, its
@@ -123,7 +128,7 @@ def _rounded(counts: Any, unit: float, way: float) -> Any:
     return np.where(is_wrong, np.nextafter(about, way), about)
 
 
-def _halves(number: Any) -> tuple[Any, Any]:
+def _halves(number: Floats) -> tuple[Floats, Floats]:
     large = number * SPLIT
     high = large - (large - number)
     return high, number - high
@@ -135,7 +140,7 @@ def _halves(number: Any) -> tuple[Any, Any]:
 def _polygons(start: bytes, x: Interval, y: Interval) -> list[bytes]:
     """Returns extents as polygons, as `geopackage.polygons` does."""
     size = len(start)
-    made: Any = np.empty(len(x[0]), np.dtype([("start", f"V{size}"), ("ring", "<f8", 10)]))
+    made: Array = np.empty(len(x[0]), np.dtype([("start", f"V{size}"), ("ring", "<f8", 10)]))
     made["start"] = np.void(start)
     (xmin, xmax), (ymin, ymax) = x, y
     for place, edge in enumerate((xmin, ymin, xmax, ymin, xmax, ymax, xmin, ymax, xmin, ymin)):
@@ -144,9 +149,14 @@ def _polygons(start: bytes, x: Interval, y: Interval) -> list[bytes]:
     return polygons
 
 
+def _length(surface: Surface) -> int:
+    """Returns how many vertices a surface has, if it is a text of one ring. 0 for any other."""
+    return surface.count(b",") + 1 if isinstance(surface, bytes) and b"[" not in surface else 0
+
+
 def polygons(
-    surfaces: list[Any], vertices: bytes, axes: Sequence[Axis], scale: Sequence[float], steep: float
-) -> tuple[int, bytes, list[Any]]:
+    surfaces: Surfaces, vertices: bytes, axes: Sequence[Axis], scale: Sequence[float], steep: float
+) -> tuple[int, bytes, Surfaces]:
     """Returns surfaces as polygons in WKB, as the module `footprints` makes them: how many have a
     place on a map, these, and the surfaces that are left. Those have holes or a rare length. All
     are left if a number is too large for floats.
@@ -158,17 +168,15 @@ def polygons(
         scale: How long the units of x, y and z are.
         steep: The least share of the area of a surface that is not vertical.
     """
-    lengths = [
-        each.count(b",") + 1 if isinstance(each, bytes) and b"[" not in each else 0
-        for each in surfaces
-    ]
+    lengths = list(map(_length, surfaces))
     length = max(set(lengths), key=lengths.count)
     if length < 3:
         return 0, b"", surfaces
     points = np.fromstring(vertices.translate(None, b"[] \t\r\n"), "i8", sep=",").reshape(-1, 3)
     if not all(map(_are_exact, axes, points.T[:2])) or np.ptp(points, axis=0).max() > SMALL:
         return 0, b"", surfaces
-    rings = b",".join(each for each, count in zip(surfaces, lengths) if count == length)
+    texts = (each for each, count in zip(surfaces, lengths) if count == length)
+    rings = b",".join(each for each in texts if isinstance(each, bytes))
     others = [each for each, count in zip(surfaces, lengths) if count != length]
     corners = points[np.fromstring(rings, "i8", sep=",").reshape(-1, length)]
     up = _turns(corners, np.array(scale), steep)
@@ -180,19 +188,19 @@ def polygons(
         axis=2,
     )[up != 0]
     left = np.where((up[up != 0] > 0)[:, None, None], places, places[:, ::-1])
-    made: Any = np.empty(len(left), _POLYGON + [("points", "<f8", (length + 1, 2))])
+    made: Array = np.empty(len(left), _POLYGON + [("points", "<f8", (length + 1, 2))])
     made["order"], made["kind"], made["rings"], made["count"] = 1, 3, 1, length + 1
     made["points"][:, :-1], made["points"][:, -1] = left, left[:, 0]
     return len(made), made.tobytes(), others
 
 
-def _are_exact(axis: Axis, values: Any) -> bool:
+def _are_exact(axis: Axis, values: Array) -> bool:
     """Whether the quotients of some vertices are the nearest floats."""
     farthest = max(abs(int(values.min())), abs(int(values.max())))
     return bool(max(farthest * abs(axis.scale) + abs(axis.shift), axis.unit) < EXACT)
 
 
-def _turns(corners: Any, scale: Any, steep: float) -> Any:
+def _turns(corners: Array, scale: Array, steep: float) -> Array:
     """Returns for each ring a number above 0 if it turns left on a map, and below 0 if it turns
     right. 0 if it has no area there, or is vertical."""
     here = (corners - corners[:, :1]).astype("f8")
@@ -206,9 +214,9 @@ def _turns(corners: Any, scale: Any, steep: float) -> Any:
     return np.where(np.abs(up) > steep * aside, up, 0)
 
 
-def _cells(numbers: Any, x: Interval, y: Interval) -> bytes:
+def _cells(numbers: Array, x: Interval, y: Interval) -> bytes:
     """Returns the key and the cell of each feature, as the functions of `bulk` make them."""
-    rows: Any = np.empty(len(numbers), ROW)
+    rows: Array = np.empty(len(numbers), ROW)
     rows["key"] = _spread(x[0]) | _spread(y[0]) << np.uint64(1)
     rows["number"] = numbers
     for place, edge in enumerate((*x, *y)):
@@ -218,10 +226,11 @@ def _cells(numbers: Any, x: Interval, y: Interval) -> bytes:
     return cells
 
 
-def _spread(numbers: Any) -> Any:
+def _spread(numbers: Array) -> Array:
     words = numbers.astype("f4").view("u4")
     ordered = np.where(words >> np.uint32(31), ~words, words | np.uint32(0x80000000))
     first, second, third = (
         _SPREAD[ordered >> np.uint32(bits) & np.uint32(255)] for bits in (24, 16, 8)
     )
-    return first << np.uint64(32) | second << np.uint64(16) | third
+    spread: Array = first << np.uint64(32) | second << np.uint64(16) | third
+    return spread

@@ -12,13 +12,16 @@ import socket
 import threading
 from contextlib import suppress
 from functools import lru_cache
-from typing import Any
+from typing import TYPE_CHECKING
 from urllib.parse import SplitResult, quote, unquote, urljoin, urlsplit, urlunsplit
 from urllib.request import getproxies, proxy_bypass
 
 from .. import __version__
 from ..engine import CityseqError, OutOfDate, ReadFault, RequestError, read_fault
 from .line_reader import SHORTER, IndexedStream, RangePlace
+
+if TYPE_CHECKING:
+    from ..foreign import Package
 
 REDIRECTIONS = 5
 MOVED = (301, 302, 303, 307, 308)
@@ -28,7 +31,7 @@ OTHER_RANGE = "the server answers with another range than was asked for"
 
 
 try:
-    urllib3: Any = importlib.import_module("urllib3")
+    urllib3: Package = importlib.import_module("urllib3")
 except ImportError as missing:
     raise CityseqError(
         "a base needs the package urllib3, which is missing: install python3-urllib3 by apt, or"
@@ -55,8 +58,8 @@ class AnswerWatch:
 
     def __init__(self) -> None:
         self.count, self.is_late, self.is_new = 0, False, False
-        self._connection: Any = None
-        self._socket: Any = None
+        self._connection: _Noted | None = None
+        self._socket: socket.socket | None = None
         self._is_ended = threading.Event()
         self._thread = threading.Thread(target=self._run, name="watch", daemon=True)
 
@@ -70,13 +73,14 @@ class AnswerWatch:
         self._is_ended.set()
         self._thread.join()
 
-    def note(self, connection: Any) -> None:
+    def note(self, connection: _Noted) -> None:
         """Takes the connection that the answer comes by. It may have no socket yet."""
         self._connection = connection
 
     def note_socket(self) -> None:
         """Takes the socket of the connection, which forgets it when the head of the answer says
         that it is the last one."""
+        assert self._connection is not None
         self._socket = self._connection.sock
 
     def _run(self) -> None:
@@ -85,15 +89,16 @@ class AnswerWatch:
             if self.count - before < LEAST_RATE * PATIENCE:
                 self.is_late = True
                 for each in (getattr(self._connection, "sock", None), self._socket):
-                    with suppress(OSError, AttributeError):
-                        socket.socket.shutdown(each, socket.SHUT_RDWR)
+                    if each is not None:  # a connection has none before it is made
+                        with suppress(OSError, AttributeError):
+                            socket.socket.shutdown(each, socket.SHUT_RDWR)
             before = self.count
 
 
 class _Noted:
     """A connection that a watch can close."""
 
-    sock: Any
+    sock: socket.socket | None
 
     def connect(self) -> None:
         _current.watch.is_new = True
@@ -106,7 +111,7 @@ class _Noted:
         _current.watch.note_socket()
 
 
-def _pools() -> Any:
+def _pools() -> dict[str, type]:
     """Returns the kinds of pools, by scheme. Their connections can be watched."""
     found = {}
     for scheme, kind in (
@@ -119,7 +124,7 @@ def _pools() -> Any:
 
 
 @lru_cache(maxsize=8)
-def _manager(proxy: str | None) -> Any:
+def _manager(proxy: str | None) -> Package:
     """Returns what keeps the connections, to servers or to a proxy."""
     logger = logging.getLogger("urllib3")
     if logger.level == logging.NOTSET:
@@ -165,7 +170,7 @@ def _proxy_for(parts: SplitResult) -> str | None:
     return url
 
 
-def ask(url: str, headers: Any, watch: AnswerWatch) -> Any:
+def ask(url: str, headers: dict[str, str], watch: AnswerWatch) -> Package:
     """Returns the answer to a request, before its body is read. The server may have closed a kept
     connection in the meantime: then the request is made again.
 
@@ -229,7 +234,7 @@ def url_of(base: str, path: str) -> str:
     return urlunsplit((parts.scheme, parts.netloc, whole, parts.query, ""))
 
 
-def _origin(url: str) -> Any:
+def _origin(url: str) -> tuple[str, str | None, int | None]:
     parts = urlsplit(url)
     return parts.scheme, parts.hostname, parts.port
 
@@ -282,7 +287,7 @@ class WebPlace(RangePlace):
     def _fault(self, words: str) -> ReadFault:
         return ReadFault(f"read fault: {words}", None, self._told)
 
-    def _answer(self, begin: int, end: int, watch: AnswerWatch) -> Any:
+    def _answer(self, begin: int, end: int, watch: AnswerWatch) -> Package:
         """Returns the answer of the server, after its redirections."""
         for _ in range(REDIRECTIONS + 1):
             headers = {
@@ -305,14 +310,14 @@ class WebPlace(RangePlace):
         raise self._fault(f"the server leads elsewhere more than {REDIRECTIONS} times")
 
     @staticmethod
-    def _leave(answer: Any, left: int) -> None:
+    def _leave(answer: Package, left: int) -> None:
         """Keeps the connection for the next request, if the answer has ended."""
         if left == 0 and answer.headers.get("Content-Length") == str(answer.tell()):
             answer.release_conn()
         else:
             answer.close()
 
-    def _checked(self, answer: Any, begin: int, end: int, watch: AnswerWatch) -> bytes:
+    def _checked(self, answer: Package, begin: int, end: int, watch: AnswerWatch) -> bytes:
         """Returns the body of an answer, if it is the range that was asked for."""
         stream = self._stream
         if answer.status == 200:
@@ -337,7 +342,7 @@ class WebPlace(RangePlace):
         self._state = state
         return self._body(answer, end - begin, watch)
 
-    def _body(self, answer: Any, size: int, watch: AnswerWatch) -> bytes:
+    def _body(self, answer: Package, size: int, watch: AnswerWatch) -> bytes:
         pieces: list[bytes] = []
         while watch.count < size:
             piece = answer.read(min(PIECE, size - watch.count))

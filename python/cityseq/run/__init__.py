@@ -25,7 +25,7 @@ from collections.abc import Callable, Iterable, Iterator
 from contextlib import contextmanager
 from dataclasses import dataclass, field, fields
 from importlib import import_module
-from typing import TYPE_CHECKING, Any, Protocol
+from typing import TYPE_CHECKING, Protocol
 
 from ..engine import (
     CallStatus,
@@ -37,7 +37,7 @@ from ..engine import (
     Status,
     WriteFault,
 )
-from ..engine.judge import Answer, Options, Query, Work
+from ..engine.judge import Answer, Limits, Options, Query, Work
 from ..sources import CHANGED, size_of
 
 if TYPE_CHECKING:
@@ -46,6 +46,7 @@ if TYPE_CHECKING:
     from ..engine.records import Range, Tally
     from ..engine.reports import Report
     from ..engine.world import Extent
+    from ..foreign import Package
     from ..sources.outputs import Writer
 
 
@@ -189,6 +190,20 @@ class Origin(Protocol):
         """Whether the file has changed since it was opened."""
 
 
+class Passing:
+    """What takes reports and keeps none, so that they are not described before it asks.
+
+    Attributes:
+        take: Gets each report.
+    """
+
+    def __init__(self, take: Tell) -> None:
+        self.take = take
+
+    def __call__(self, report: Report) -> None:
+        self.take(report)
+
+
 class Fold:
     """The answer for the chunks of a stream so far. The parts of each answer go to their takers,
     which may raise `WriteFault`.
@@ -236,8 +251,10 @@ class Fold:
     def _pass_on(self, answer: Answer, lines: int) -> None:
         """Passes on the reports, the output and the rest of an answer that follows so many lines
         after the header."""
+        are_kept = not isinstance(self._tell, Passing)
         for report in answer.reports:
-            self._tell(report.moved(lines))
+            moved = report.moved(lines)
+            self._tell(moved.kept() if are_kept else moved)
         if answer.end is not None:
             self._tell(answer.end.moved(lines))
         if self.fault is not None:
@@ -314,12 +331,26 @@ def number_of_jobs(jobs: int | None) -> int:
     return jobs
 
 
-def one_options(options: Options | None, keywords: Options) -> Options:
+def one_options(
+    options: Options | None,
+    limits: tuple[int, int],
+    flags: tuple[bool, bool, bool],
+    jobs: int | None = None,
+    part_size: int | None = None,
+) -> Options:
     """Returns the options, or those that the keywords make.
+
+    Args:
+        options: The options, if they are given.
+        limits: The keywords `line_limit` and `depth`.
+        flags: The keywords `keep_going`, `tree` and `extensions`.
+        jobs, part_size: These keywords.
 
     Raises:
         RequestError: Both are given, or one has a value that it may not have.
     """
+    keep_going, tree, extensions = flags
+    keywords = Options(Limits(*limits), keep_going, tree, jobs, part_size, extensions)
     if options is not None and keywords != Options():
         raise RequestError("options are given as `options` or by keywords, and not as both")
     found = keywords if options is None else options
@@ -342,7 +373,7 @@ def one_query(query: Query | None, keywords: Query) -> Query:
 
 @contextmanager
 def watched(
-    progress: Callable[[int], None] | bool | None, sources: Iterable[Any]
+    progress: Callable[[int], None] | bool | None, sources: Iterable[object]
 ) -> Iterator[Callable[[int], None] | None]:
     """Gives what takes the number of bytes that were done. If it is a bar, closes it at the end.
 
@@ -355,7 +386,7 @@ def watched(
         yield None
     else:
         try:
-            tqdm: Any = import_module("tqdm.auto").tqdm
+            tqdm: Package = import_module("tqdm.auto").tqdm
         except ImportError as missing:
             words = "a bar needs the package tqdm: install cityseq[progress]"
             raise CityseqError(words) from missing
@@ -363,7 +394,7 @@ def watched(
             yield bar.update
 
 
-def _size(sources: Iterable[Any]) -> int | None:
+def _size(sources: Iterable[object]) -> int | None:
     """Returns how many bytes sources have. None if one has no known size."""
     try:
         sizes = [size_of(source) for source in sources]

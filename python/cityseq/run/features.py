@@ -12,7 +12,7 @@ from dataclasses import dataclass, field
 from functools import cached_property, lru_cache, partial
 from itertools import chain
 from math import nan
-from typing import TYPE_CHECKING, Any
+from typing import TYPE_CHECKING, TypeVar
 
 from ..engine import (
     LOD_CLASSES,
@@ -38,10 +38,13 @@ if TYPE_CHECKING:
 
     from ..attributes import Asked
     from ..engine.world import Extent
+    from ..foreign import Array, Json, Object, Package
 
     Column = array[int]
+    TableColumn = list[str] | list[tuple[str, ...]] | list[Json] | array[int] | array[float]
 
 
+T = TypeVar("T", int, float)
 ROOM = 1 << 19  # bytes of lines that are read at once
 TOGETHER = 4_096  # features whose columns are made together
 MANY = 262_144  # features after which numpy is loaded, which takes as long as it saves for so many
@@ -85,7 +88,7 @@ class Feature:
     attributes_place: tuple[int, int] = field(default=(0, 0), repr=False)
 
     @cached_property
-    def attributes(self) -> dict[str, Any]:
+    def attributes(self) -> Object:
         """The attributes of the main city object, as Python reads JSON. There are none if they are
         no object. Of a repeated name the first counts."""
         from ..attributes import told  # few runs need it
@@ -93,7 +96,7 @@ class Feature:
         begin, length = self.attributes_place
         return told(self.bytes[begin : begin + length])
 
-    def json(self) -> Any:
+    def json(self) -> Json:
         """Returns the feature as Python's JSON reader gives it."""
         return deep(partial(json.loads, self.bytes))
 
@@ -189,7 +192,7 @@ def _are_same(column: Column) -> bool:
     return column == column[:1] * len(column)
 
 
-def _packed(letter: str, values: Sequence[Any]) -> array[Any]:
+def _packed(letter: str, values: Sequence[T]) -> array[T]:
     """Returns an array, which takes a third of the time that `array(letter, values)` takes."""
     return array(letter, struct.pack(f"{len(values)}{letter}", *values))
 
@@ -202,13 +205,13 @@ class _World:
         units = units_of(scale), units_of(shift)
         self._axis = None if None in units else Axis(*units)  # type: ignore[arg-type]
 
-    def edges(self, np: Any, least: Column, greatest: Column) -> list[array[float]]:
+    def edges(self, np: Package | None, least: Column, greatest: Column) -> list[array[float]]:
         """Returns the least and the greatest coordinate of each feature, from its vertices. `np` is
         numpy or None."""
         by_sign = (greatest, least) if self._given[0].is_signed() else (least, greatest)
         return [self._floats(np, vertices) for vertices in by_sign]
 
-    def _floats(self, np: Any, vertices: Column) -> array[float]:
+    def _floats(self, np: Package | None, vertices: Column) -> array[float]:
         """By numpy, a quotient of floats is the nearest one to that of the numbers, if both are
         floats exactly."""
         axis = self._axis
@@ -234,11 +237,11 @@ class _Table:
 
     def __init__(self, attributes: Asked = ()) -> None:
         self._attributes = attributes
-        self._rows: list[dict[str, Any]] = []
-        self.columns: dict[str, Any] = {"id": []}
-        self.columns.update({name: array("Q") for name in ("line", *COUNTS)})
-        self.columns.update({name: [] for name in SETS})
-        self.columns.update({name: array("d") for name in EDGES})
+        self._rows: list[Object] = []
+        self._ids: list[str] = []
+        self._counts: dict[str, array[int]] = {name: array("Q") for name in ("line", *COUNTS)}
+        self._sets: dict[str, list[tuple[str, ...]]] = {name: [] for name in SETS}
+        self._edges: dict[str, array[float]] = {name: array("d") for name in EDGES}
         self._world: list[_World] = []
         self._waiting: list[bytes] = []  # records
         self._waits = 0
@@ -249,12 +252,12 @@ class _Table:
 
         self._world = self._world or [_World(*axis) for axis in zip(*transform_of(header))]
         ids = records_of.all_unescaped(records_of.spelled_ids(part, raw))
-        self.columns["id"] += ids
+        self._ids += ids
         numbers = memoryview(raw).cast("q")[:: records_of.MEMBERS]
         places: Sequence[int] = range(numbers[0] + lines, numbers[-1] + lines + 1)
         if len(places) != len(ids):  # not all lines are kept
             places = [line + lines for line in numbers.tolist()]
-        self.columns["line"] += _packed("Q", places)
+        self._counts["line"] += _packed("Q", places)
         if self._attributes:
             from ..attributes import rows_of, texts_of  # few runs need it
 
@@ -268,17 +271,17 @@ class _Table:
         """Adds the columns of the records that wait."""
         if not self._waits:
             return
-        has_many = len(self.columns["id"]) >= MANY or "numpy" in sys.modules
+        has_many = len(self._ids) >= MANY or "numpy" in sys.modules
         np = _numpy() if has_many else None
         numbers = memoryview(b"".join(self._waiting)).cast("q")
         width = records_of.MEMBERS
-        columns: Any = [numbers[member::width] for member in range(width)]
+        columns: Array | list[memoryview] = [numbers[member::width] for member in range(width)]
         if np:  # it copies them faster
             columns = np.frombuffer(numbers, "i8").reshape(-1, width).T.copy()
         for name, member in COUNTS.items():
-            self.columns[name].frombytes(columns[member].tobytes())
+            self._counts[name].frombytes(columns[member].tobytes())
         for name, member in SETS.items():
-            self.columns[name] += _all_names(name, array("q", columns[member].tobytes()))
+            self._sets[name] += _all_names(name, array("q", columns[member].tobytes()))
         some = columns[RANGES[0]].tolist()
         bare = [place for place, has in enumerate(some) if not has] if 0 in some else []
         for number, axis in enumerate(self._world):
@@ -287,22 +290,26 @@ class _Table:
             for name, floats in zip(EDGES[2 * number :], axis.edges(np, *ends)):
                 for place in bare:
                     floats[place] = nan
-                self.columns[name] += floats
+                self._edges[name] += floats
         self._waiting, self._waits = [], 0
 
-    def add_attributes(self) -> None:
-        """Adds the columns of attributes. A name that is taken gets a number."""
-        from ..attributes.columns import ColumnNames  # few runs need it
-
+    def columns(self) -> dict[str, TableColumn]:
+        """Returns the columns. A name of an attribute that is taken gets a number."""
+        found: dict[str, TableColumn] = {"id": self._ids, **self._counts, **self._sets}
+        found.update(self._edges)
         asked = self._attributes
-        names = dict.fromkeys(chain.from_iterable(self._rows)) if isinstance(asked, str) else asked
-        columns = ColumnNames(self.columns)
-        for name in names:
-            self.columns[columns.new(name)] = [row.get(name) for row in self._rows]
+        if asked:
+            from ..attributes.columns import ColumnNames  # few runs need it
+
+            met = chain.from_iterable(self._rows)
+            columns = ColumnNames(found)
+            for name in dict.fromkeys(met) if isinstance(asked, str) else asked:
+                found[columns.new(name)] = [row.get(name) for row in self._rows]
+        return found
 
 
 @lru_cache(maxsize=1)
-def _numpy() -> Any:
+def _numpy() -> Package | None:
     """Returns numpy. None if it is not installed."""
     try:
         import numpy
@@ -311,7 +318,7 @@ def _numpy() -> Any:
     return numpy
 
 
-def table(source: Source, work: Work, attributes: Asked = ()) -> dict[str, Any]:
+def table(source: Source, work: Work, attributes: Asked = ()) -> dict[str, TableColumn]:
     """Returns the columns of a table with a row for each kept feature."""
     made, file, lines = _Table(attributes), name_of(source), 0
     for header, part in parts_of(source, work, ROOM):
@@ -322,6 +329,4 @@ def table(source: Source, work: Work, attributes: Asked = ()) -> dict[str, Any]:
             raise fault_of(answer, header, part, lines, file)
         lines += answer.lines - 1
     made.end()
-    if attributes:
-        made.add_attributes()
-    return made.columns
+    return made.columns()

@@ -14,7 +14,7 @@ from functools import partial
 from itertools import chain, islice
 from queue import SimpleQueue
 from threading import Lock
-from typing import TYPE_CHECKING, Any, Generic, Protocol, TypeVar, cast
+from typing import TYPE_CHECKING, Generic, Protocol, TypeVar, cast
 
 from ..engine import CallStatus
 from ..engine.judge import Answer, Work, judge
@@ -30,6 +30,7 @@ STACK = 4 << 20  # bytes: a call of the library takes up to 2 MB, and its caller
 PATIENCE = 2.0  # seconds that a thread has to begin, and between two looks whether one is alive
 
 T = TypeVar("T")
+Out = TypeVar("Out", covariant=True)
 _starting = threading.Lock()  # because the size of stacks is set for the whole process
 AHEAD = 2  # chunks that wait, in addition to those that are judged
 MOST_RUNS = 256  # streams that are begun and whose results have not been given
@@ -70,7 +71,7 @@ class Job(Generic[T]):
 
     def __init__(self, call: Callable[[], T], pool: Pool) -> None:
         self._call, self._pool = call, pool
-        self._value: Any = None
+        self._value: T | None = None
         self._fault: BaseException | None = None
         self._is_done = False
         self._taken, self._open = _thread.allocate_lock(), _thread.allocate_lock()
@@ -120,7 +121,8 @@ class Pool:
     def __init__(self, most: int) -> None:
         self._most, self._submitted, self._process = most, 0, os.getpid()
         self._calls: SimpleQueue[Callable[[], None]] = SimpleQueue()
-        self._ends: list[Any] = []  # a lock for each thread, which holds it until it ends
+        # a lock for each thread, which holds it until it ends
+        self._ends: list[_thread.LockType] = []
         # at its end Python stops these threads, and then nothing could wait for them
         atexit.register(self.__exit__)
 
@@ -174,7 +176,7 @@ class Pool:
             else:
                 self._calls.put(_thread.exit)  # it ends if it begins later
 
-    def _work(self, begun: Any, end: Any) -> None:
+    def _work(self, begun: _thread.LockType, end: _thread.LockType) -> None:
         begun.release()
         try:
             while True:
@@ -268,6 +270,22 @@ class Stream:
 Answers = tuple[list[Answer], bool]  # of the next chunks, and whether the stream has no more
 
 
+class Pending(Protocol[Out]):
+    """A call that was begun, here or elsewhere."""
+
+    def cancel(self) -> object:
+        """Keeps the call from being made, if it has not begun."""
+
+    def done(self) -> bool:
+        """Whether the result is here."""
+
+    def result(self) -> Out:
+        """Waits for the result, and returns it."""
+
+
+Submit = Callable[[Callable[[], Answers]], Pending[Answers]]
+
+
 def _answer_of(judge: Judge, chunk: Chunk) -> Answers:
     return [judge(chunk)], chunk.is_last
 
@@ -306,7 +324,7 @@ class _Run:
     stream: Stream
     is_read_by_pool: bool
     chunks: Generator[Chunk, None, None]
-    calls: deque[Any] = field(default_factory=deque)
+    calls: deque[Pending[Answers]] = field(default_factory=deque)
     held: deque[list[Answer]] = field(default_factory=deque)
     is_read: bool = False
     reading: Lock = field(default_factory=Lock)
@@ -358,9 +376,7 @@ class _Order:
     only stream. If there are more streams, or the pool has one thread, the pool reads packed files.
     """
 
-    def __init__(
-        self, submit: Callable[[Callable[[], Answers]], Any], ahead: Callable[[], int]
-    ) -> None:
+    def __init__(self, submit: Submit, ahead: Callable[[], int]) -> None:
         """Takes what begins a call and returns its job, and what says how many calls are begun
         before the first is awaited."""
         self._submit, self._ahead = submit, ahead
@@ -448,11 +464,7 @@ def _shared_out(streams: Iterable[Stream], jobs: int) -> Iterator[tuple[Stream, 
         yield stream, (len(begun) > 1 or jobs == 1) and is_packed(stream.source)
 
 
-def results_by(
-    streams: Iterable[Stream],
-    submit: Callable[[Callable[[], Answers]], Any],
-    ahead: Callable[[], int],
-) -> Results:
+def results_by(streams: Iterable[Stream], submit: Submit, ahead: Callable[[], int]) -> Results:
     """Yields the result of each stream, in order. `submit` begins a call elsewhere, and returns its
     future. `ahead` says how many calls begin before the first is awaited."""
     return _Order(submit, ahead).results((stream, False) for stream in streams)

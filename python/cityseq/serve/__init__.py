@@ -15,8 +15,8 @@
 """
 from __future__ import annotations
 
-from collections.abc import Awaitable, Callable
-from typing import TYPE_CHECKING, Any
+from collections.abc import Awaitable, Callable, Iterable
+from typing import TYPE_CHECKING
 
 from ..engine import RequestError
 
@@ -24,7 +24,8 @@ if TYPE_CHECKING:
     from aiohttp import web
 
     from ..cli.requests import Serve
-    from .settings import Settings
+    from ..sources import AnyPath
+    from .settings import Limits, Settings
 
 __all__ = ["app", "runner"]
 NEEDS = (("aiohttp", "aiohttp"), ("jinja2", "Jinja2"))
@@ -43,12 +44,12 @@ def _require() -> None:
 
 
 def app(
-    *indexes: Any,
+    *indexes: AnyPath,
     base: str | None = None,
     url: str | None = None,
     cors: str | None = None,
     jobs: int | None = None,
-    limits: Any = None,
+    limits: Limits | None = None,
 ) -> web.Application:
     """Returns an application of aiohttp that serves indexes.
 
@@ -66,24 +67,36 @@ def app(
         ReadFault: An index cannot be read.
         RequestError: An argument has a value that it may not have, or aiohttp is missing.
     """
-    settings = _settings(indexes, limits, base=base, url=url, cors=cors, jobs=jobs)
+    settings = _settings(indexes, (base, url, cors), jobs, limits)
     from .application import Server, application
 
     return application(Server(settings))
 
 
-def _settings(indexes: Any, limits: Any = None, **options: Any) -> Settings:
-    """Returns the settings for the arguments of `app`."""
+def _settings(
+    indexes: Iterable[AnyPath],
+    urls: tuple[str | None, str | None, str | None],
+    jobs: int | None,
+    limits: Limits | None,
+) -> Settings:
+    """Returns the settings for the arguments of `app`. The URLs are `base`, `url` and `cors`."""
     import os
 
     _require()
     from .settings import Limits, Settings
 
-    return Settings(tuple(map(os.fsdecode, indexes)), limits=limits or Limits(), **options)
+    paths, (base, url, cors) = tuple(map(os.fsdecode, indexes)), urls
+    return Settings(paths, base, url, cors=cors, jobs=jobs, limits=limits or Limits())
 
 
 def runner(
-    *indexes: Any, quiet: bool = False, **options: Any
+    *indexes: AnyPath,
+    quiet: bool = False,
+    base: str | None = None,
+    url: str | None = None,
+    cors: str | None = None,
+    jobs: int | None = None,
+    limits: Limits | None = None,
 ) -> Callable[[], Awaitable[web.AppRunner]]:
     """Returns a function that makes the server of a process, as the worker of aiohttp for gunicorn
     calls it. It logs requests to standard output.
@@ -91,13 +104,13 @@ def runner(
     Args:
         *indexes: The paths of the indexes.
         quiet: Whether no requests are logged.
-        **options: As those of `app`: `base`, `url`, `cors`, `jobs` and `limits`.
+        base, url, cors, jobs, limits: As those of `app`.
 
     Raises:
         ReadFault: An index cannot be read.
         RequestError: An argument has a value that it may not have, or aiohttp is missing.
     """
-    settings = _settings(indexes, **options)
+    settings = _settings(indexes, (base, url, cors), jobs, limits)
     from .context import Catalogue
 
     Catalogue(settings).close()  # a process opens the indexes for itself

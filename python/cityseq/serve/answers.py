@@ -9,7 +9,7 @@ from collections.abc import Callable, Iterator, Sequence
 from dataclasses import dataclass
 from functools import partial
 from http import HTTPStatus
-from typing import Any
+from typing import TYPE_CHECKING
 from urllib.parse import quote, quote_plus, urlsplit
 
 from aiohttp import web
@@ -28,6 +28,9 @@ from ..engine import (
 from ..engine.world import deep
 from ..indexes.index_pages import Replaced
 from .settings import Settings
+
+if TYPE_CHECKING:
+    from ..foreign import Object
 
 LONGEST_DETAIL = 1_000  # characters of a detail: it may contain what a client sent
 NO_DESCRIPTOR = (errno.EMFILE, errno.ENFILE)
@@ -70,7 +73,7 @@ class Problem(Exception):
         super().__init__(detail)
         self.status, self.detail, self.headers = status, detail, headers or {}
 
-    def told(self) -> dict[str, Any]:
+    def told(self) -> Object:
         """Returns the members of the problem."""
         title = HTTPStatus(self.status).phrase
         return {
@@ -332,7 +335,7 @@ class Links:
         path: str,
         formats: Sequence[Format],
         chosen: Format,
-        parameters: Callable[[Format], dict[str, Any]] = lambda form: {},
+        parameters: Callable[[Format], Object] = lambda form: {},
     ) -> list[Link]:
         """Returns the links from an answer to itself, and to its other formats. `parameters` are
         those of a format."""

@@ -7,12 +7,13 @@ from __future__ import annotations
 
 import asyncio
 import json
+import zlib
 from collections import Counter, deque
 from collections.abc import AsyncGenerator, Callable, Iterable, Iterator
 from contextlib import aclosing
 from functools import partial
 from itertools import islice
-from typing import Any
+from typing import TypeVar
 
 from aiohttp import web
 
@@ -43,6 +44,7 @@ from .sending import Pace, write
 BODY = "-"  # the name of a body in reports
 UNPACKED = 1 << 19  # bytes that are unpacked at once
 FEW, MANY = 1 << 9, 1 << 18  # packed bytes that a member gets at first, and at most
+T = TypeVar("T")
 Task = Callable[[], Answer]
 
 
@@ -53,7 +55,7 @@ class Unpacking:
         """Takes whether it is packed, and its greatest length. None: its first bytes show it."""
         self._is_packed, self._limit = is_packed, limit
         self._kind = Gzip()
-        self._member: Any = None
+        self._member: zlib._Decompress | None = None
         self._size, self._has_ended = FEW, False  # of the next part; whether a member has ended
         self._head, self._has_text = b"", False  # the first bytes of the last member
         self._begin = b""  # the first bytes, as long as they are too few to show it
@@ -242,9 +244,9 @@ def _asked_of(command: str, query: Query) -> Wanted:
     """
     only_counts = query.flag("summary") and "max_reports" not in query
     make: type[Check] | type[Filter] = Filter if command == "filter" else Check
-    given: dict[str, Any] = {name: query.number(name) for name in ("line_limit", "depth")}
+    given: dict[str, object] = {name: query.number(name) for name in ("line_limit", "depth")}
     given.update({name: query.flag(name) for name in FLAGS})
-    wanted = make(max_reports=0 if only_counts else query.number("max_reports"), **given)
+    wanted = make((), max_reports=0 if only_counts else query.number("max_reports"), **given)
     if isinstance(wanted, Filter):
         wanted.exclude = query.flag("exclude")
         wanted.id, wanted.type, wanted.lod, wanted.bbox = map(
@@ -406,7 +408,7 @@ class Judgement:
         return b"".join(json.dumps(each).encode("ascii") + b"\n" for each in objects)
 
 
-async def _cancelled(waiting: Iterable[asyncio.Future[Any]]) -> None:
+async def _cancelled(waiting: Iterable[asyncio.Future[T]]) -> None:
     """Cancels reads and calls, and waits until they have ended."""
     ending = list(waiting)
     for each in ending:

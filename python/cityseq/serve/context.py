@@ -8,7 +8,7 @@ from collections.abc import Awaitable, Callable, Iterator, Mapping
 from dataclasses import dataclass
 from functools import cached_property
 from hashlib import sha256
-from typing import TYPE_CHECKING, Any
+from typing import TYPE_CHECKING
 
 from aiohttp import web
 
@@ -22,6 +22,7 @@ from .parameters import Parameter, Query, of_format
 from .settings import Settings
 
 if TYPE_CHECKING:
+    from ..foreign import Json
     from .application import Server
 
 
@@ -214,10 +215,10 @@ class Context:
         text = self.server.pages.render(name, links=self.links, **given)
         return web.Response(text=text, content_type="text/html", headers=headers)
 
-    def document(self, told: Any, page: str, **given: Any) -> web.Response:
+    def document(self, told: Json, page: str, **given: object) -> web.Response:
         """Returns a document in the format that the client accepts."""
         if self.chosen == HTML:
-            return self.page(page, told=told, **given)
+            return self.page(page, None, told=told, **given)
         body, headers = dumped(told) + b"\n", {"Content-Type": self.chosen.media_type}
         return web.Response(body=body, headers=headers)
 

@@ -5,6 +5,7 @@ from __future__ import annotations
 
 import re
 from collections.abc import Sequence
+from typing import TYPE_CHECKING
 
 from aiohttp import web
 
@@ -38,7 +39,6 @@ from .parameters import (
     RELATION,
     STRING,
     SUMMARY,
-    Object,
     Parameter,
     has_filters,
     of_all,
@@ -47,6 +47,9 @@ from .parameters import (
     queryables,
 )
 from .settings import Limits
+
+if TYPE_CHECKING:
+    from ..foreign import Object
 
 TITLE = "City models by cityseq"
 DESCRIPTION = (

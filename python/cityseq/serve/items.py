@@ -8,7 +8,7 @@ from collections.abc import Callable, Iterator
 from contextlib import closing
 from decimal import ROUND_CEILING, ROUND_FLOOR, Decimal
 from functools import partial
-from typing import Any, NamedTuple
+from typing import TYPE_CHECKING, NamedTuple
 
 from aiohttp import web
 
@@ -43,6 +43,9 @@ from .parameters import (
 )
 from .sending import send_page
 
+if TYPE_CHECKING:
+    from ..foreign import Json, Object
+
 LISTS = ("ids", "type", "lod")
 SELECTS = [each.name for each in SELECTION]
 NOT_SELECTIVE = {"datetime", "bbox-crs", "filter-lang", "filter-crs"}
@@ -56,7 +59,7 @@ def _ring(box: Extent) -> list[list[list[float]]]:
     return [[[west, south], [east, south], [east, north], [west, north], [west, south]]]
 
 
-def _geometry(extent: Extent | None, system: System, asked: str | None) -> dict[str, Any] | None:
+def _geometry(extent: Extent | None, system: System, asked: str | None) -> Object | None:
     """Returns the geometry of an extent in a system. It has two parts if it lies over the
     antimeridian (RFC 7946), and is None if it has no place there."""
     box = None if extent is None else system.extent_in(asked, extent)
@@ -70,7 +73,7 @@ def _geometry(extent: Extent | None, system: System, asked: str | None) -> dict[
     return {"type": "MultiPolygon", "coordinates": rings}
 
 
-def _rings(polygons: list[Polygon], system: System, asked: str | None) -> Any:
+def _rings(polygons: list[Polygon], system: System, asked: str | None) -> Json:
     """Returns the coordinates of polygons in a system. None if a point has no place there."""
     points = [point for polygon in polygons for ring in polygon for point in ring]
     moved = system.points_in(asked, points)
@@ -80,7 +83,7 @@ def _rings(polygons: list[Polygon], system: System, asked: str | None) -> Any:
     return [[[next(places) for _ in ring] for ring in polygon] for polygon in polygons]
 
 
-def _shape(found: Found, system: System, asked: str | None) -> dict[str, Any] | None:
+def _shape(found: Found, system: System, asked: str | None) -> Object | None:
     """Returns the geometry of a feature: its ground, or its extent. That also stands for a ground
     that lies over the antimeridian."""
     shape = _geometry(found.extent, system, asked)
@@ -90,7 +93,7 @@ def _shape(found: Found, system: System, asked: str | None) -> dict[str, Any] | 
     return shape if coordinates is None else {"type": "MultiPolygon", "coordinates": coordinates}
 
 
-def feature_of(found: Found, system: System, asked: str | None) -> dict[str, Any]:
+def feature_of(found: Found, system: System, asked: str | None) -> Object:
     """Returns a feature. Its geometry has the coordinates of a system, None for its own."""
     low, high = found.heights or (None, None)
     return {
@@ -202,9 +205,7 @@ class Cut:
         is_possible = form == GEOJSON or self.collection.system.is_own(self.system)
         return self.query.text("crs") if is_possible else None
 
-    def links_of(
-        self, path: str | None, parameters: Callable[[Format], dict[str, Any]]
-    ) -> list[Link]:
+    def links_of(self, path: str | None, parameters: Callable[[Format], Object]) -> list[Link]:
         """Returns the links to this answer, if it has a path, to its other formats, and to the
         collection."""
         links, formats = self.context.links, self.context.resource.formats
@@ -250,7 +251,7 @@ class Items(Cut):
                 "the stream was indexed anew after the page before this one: begin again with the"
                 " first page",
             )
-        self.selects: dict[str, Any] = {
+        self.selects: Object = {
             name: query.texts(name) if name in LISTS else query.text(name)
             for name in [
                 *SELECTS,
@@ -290,7 +291,7 @@ class Items(Cut):
             " the links to the next pages",
         )
 
-    def _parameters(self, after: int, form: Format) -> dict[str, Any]:
+    def _parameters(self, after: int, form: Format) -> Object:
         """Returns the parameters of the page that begins after a feature."""
         more = {"after": after, "mark": self.collection.mark} if after else {}
         return {
@@ -339,7 +340,7 @@ class Items(Cut):
             count += len(texts)
         following = self.following(page.next)
         links = [*self.own_links(), *([] if following is None else [following])]
-        told: dict[str, Any] = {"numberReturned": count, "links": links}
+        told: Object = {"numberReturned": count, "links": links}
         if not set(self.selects) - NOT_SELECTIVE:
             told["numberMatched"] = self.collection.stream.features
         yield b"]," + dumped(told)[1:] + b"\n"

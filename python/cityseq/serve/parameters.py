@@ -9,7 +9,7 @@ from dataclasses import dataclass
 from datetime import date
 from decimal import Decimal, InvalidOperation
 from importlib.util import find_spec
-from typing import TYPE_CHECKING, Any
+from typing import TYPE_CHECKING
 from urllib.parse import unquote_to_bytes
 
 from aiohttp import web
@@ -21,9 +21,9 @@ from .answers import HTML, SCHEMA, Format, Problem
 from .settings import MOST_REPORTS, REPORTS, Limits
 
 if TYPE_CHECKING:
+    from ..foreign import Object
     from .context import Catalogue, Context
 
-Object = dict[str, Any]
 USUAL_LIMIT = 1_000
 ON_A_PAGE, MOST_ON_A_PAGE = 50, 1_000  # features as HTML: usually, and at most
 LANGUAGE = "cql2-text"

@@ -9,7 +9,6 @@ import socket
 import sys
 import time as clock
 from collections.abc import Sequence
-from typing import Any
 
 from aiohttp import web
 from aiohttp.abc import AbstractAccessLogger
@@ -68,7 +67,7 @@ def _when(now: float) -> str:
     return clock.strftime(f"%d/{MONTHS[told.tm_mon - 1]}/%Y:%H:%M:%S +0000", told)
 
 
-def body_size(request: Any, response: Any) -> int:
+def body_size(request: web.BaseRequest, response: web.StreamResponse) -> int:
     """Returns how many bytes the body of an answer has, without those of chunks."""
     if request.method == "HEAD" or response.status == 204:
         return 0
@@ -80,7 +79,7 @@ def body_size(request: Any, response: Any) -> int:
 class Combined(AbstractAccessLogger):
     """Logs requests in the combined format."""
 
-    def log(self, request: Any, response: Any, time: float) -> None:
+    def log(self, request: web.BaseRequest, response: web.StreamResponse, time: float) -> None:
         """Logs a request that was answered."""
         version, headers = request.version, request.headers
         line = f"{request.method} {request.raw_path} HTTP/{version[0]}.{version[1]}"
@@ -161,8 +160,9 @@ def runner_of(server: Server, is_quiet: bool) -> web.AppRunner:
 class Refused(asyncio.Protocol):
     """A connection that is one too many."""
 
-    def connection_made(self, transport: Any) -> None:
+    def connection_made(self, transport: asyncio.BaseTransport) -> None:
         """Ends it."""
+        assert isinstance(transport, asyncio.WriteTransport)
         transport.abort()
 
 
@@ -176,7 +176,7 @@ class Process:
 
     def __init__(self, server: Server, is_quiet: bool) -> None:
         self.server, self._limits = server, server.limits
-        self.sockets: Sequence[Any] = ()
+        self.sockets: Sequence[socket.socket] = ()
         self._runner = runner_of(server, is_quiet)
         self._stop = asyncio.Event()
         self._loop = asyncio.get_running_loop()
@@ -224,11 +224,11 @@ class Process:
         await self._runner.cleanup()
 
     def _connection(self) -> asyncio.Protocol:
-        server: Any = self._runner.server
+        server = self._runner.server
+        assert server is not None
         if len(server.connections) >= self._limits.connections:
             return Refused()
-        connection: asyncio.Protocol = server()
-        return connection
+        return server()
 
     def _greet(self, host: str) -> None:
         """Writes where the server is."""
@@ -256,13 +256,13 @@ class Process:
             say(f"{self.server.busy} answers are broken off after {self._limits.stop:g} seconds")
 
 
-def url_of(listener: Any) -> str:
+def url_of(listener: socket.socket) -> str:
     """Returns the URL of a socket that listens."""
     host, port = listener.getsockname()[:2]
     return f"http://[{host}]:{port}/" if ":" in host else f"http://{host}:{port}/"
 
 
-def _tell(_: asyncio.AbstractEventLoop, context: dict[str, Any]) -> None:
+def _tell(_: asyncio.AbstractEventLoop, context: dict[str, object]) -> None:
     """Says what fails in the event loop, in one line."""
     if not isinstance(context.get("exception"), ConnectionError):
         say(shown(f"{context['message']}: {context.get('exception')}"))

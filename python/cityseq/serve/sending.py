@@ -9,7 +9,7 @@ from collections.abc import Awaitable, Callable, Iterator
 from contextlib import closing, contextmanager
 from functools import partial
 from hashlib import blake2b
-from typing import Any, TypeVar
+from typing import TypeVar
 
 from aiohttp import web
 
@@ -21,6 +21,7 @@ from .answers import SOON, Problem, accepted
 from .settings import Limits
 
 T = TypeVar("T")
+Item = TypeVar("Item")
 WHOLE = 1 << 20  # bytes: a shorter answer has its length in its head
 PIECE = 1 << 16  # bytes that are written at once
 PACKED = 1 << 10  # bytes: a shorter answer is not packed
@@ -157,7 +158,7 @@ def _told(
         loop.call_soon_threadsafe(_set, future.set_result, future, value)
 
 
-def _set(setter: Callable[[Any], None], future: asyncio.Future[Any], value: object) -> None:
+def _set(setter: Callable[[Item], None], future: asyncio.Future[T], value: Item) -> None:
     if not future.done():
         setter(value)
 

@@ -2,8 +2,7 @@
 from __future__ import annotations
 
 from dataclasses import dataclass, field
-from typing import Any
-from urllib.parse import urlsplit
+from urllib.parse import SplitResult, urlsplit
 
 from ..cli.requests import Serve
 from ..engine import RequestError
@@ -75,7 +74,7 @@ class Settings:
             _check_origin(self.cors)
 
 
-def _parts(url: str, what: str) -> Any:
+def _parts(url: str, what: str) -> SplitResult:
     """Returns the parts of a URL. Raises `RequestError` if it is not an http or https URL."""
     try:
         parts = urlsplit(url)

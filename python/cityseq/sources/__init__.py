@@ -10,9 +10,8 @@ import re
 import select
 import stat
 import sys
-from collections.abc import Generator, Iterable, Iterator
-from functools import partial
-from typing import IO, TYPE_CHECKING, Any, Union
+from collections.abc import Callable, Generator, Iterable, Iterator
+from typing import TYPE_CHECKING, Any, TypeGuard, Union
 
 from ..engine import READ_FAULTS, CityseqError, InvalidStream, ReadFault, RequestError, read_fault
 from .packed import (
@@ -29,17 +28,17 @@ from .packed import (
 if TYPE_CHECKING:
     from array import array
 
+    from ..foreign import Readable, Writable
     from .remote import RemoteFile
 
-    Buffer = Union[bytes, bytearray, memoryview, array[Any], mmap.mmap]
+    Buffer = Union[bytes, bytearray, memoryview, array[int], array[float], mmap.mmap]
+    AnyPath = Union[str, os.PathLike[str], os.PathLike[bytes]]
 
 
-Source = Union[str, "os.PathLike[Any]", "Buffer", IO[bytes]]
+Source = Union["AnyPath", "Buffer", "Readable"]
 
 State = tuple[int, int]  # of a file
-Watch = Union[
-    "LocalFile", "RemoteFile"
-]  # each shows whether the file has changed since it was made
+Watch = Union["LocalFile", "RemoteFile"]  # shows whether the file changed since it was made
 Identity = tuple[int, int]
 ENDINGS = (".city.json", ".city.json.gz")  # of the names of whole CityJSON files
 CHANGED = "changed while it was read"
@@ -50,24 +49,24 @@ SCHEME = re.compile(r"[A-Za-z][A-Za-z0-9+.:-]*://")  # or several, as simplecach
 LONGEST_PATH = 4_096  # bytes: a longer text is no path
 
 
-def is_path(source: Any) -> bool:
+def is_path(source: object) -> TypeGuard[AnyPath]:
     """Whether a source or a target is a path, except `-`. Bytes are not a path: they are the
     stream itself."""
     return isinstance(source, (str, os.PathLike)) and os.fsdecode(source) != "-"
 
 
-def is_url(source: Any) -> bool:
+def is_url(source: object) -> TypeGuard[str]:
     """Whether a source is a URL that `fsspec` reads, such as s3://bucket/town.city.jsonl."""
     return isinstance(source, str) and SCHEME.match(source) is not None
 
 
-def remote_of(file: Any) -> RemoteFile | None:
+def remote_of(file: object) -> RemoteFile | None:
     """Returns the file of a URL that a file object reads or unpacks. None for other files."""
     inner = file.packed if isinstance(file, Unpacker) else file
     return getattr(getattr(inner, "raw", None), "remote", None)
 
 
-def bytes_of(source: Any) -> memoryview | None:
+def bytes_of(source: Any) -> memoryview | None:  # no type says that an object has bytes
     """Returns the bytes of a source that is an object with bytes, such as `bytes`, an array or a
     mapped file. None for other sources."""
     is_file = hasattr(source, "read") and not isinstance(source, mmap.mmap)
@@ -79,7 +78,11 @@ def bytes_of(source: Any) -> memoryview | None:
         return None
 
 
-def name_of(source: Any) -> str:
+def _is_file(source: Source) -> TypeGuard[Readable]:
+    return hasattr(source, "read") and bytes_of(source) is None
+
+
+def name_of(source: object) -> str:
     """Returns the name of a source in reports."""
     if is_url(source):
         return str(source).partition("?")[0]  # a query may have a key in it
@@ -91,7 +94,7 @@ def name_of(source: Any) -> str:
     return name if isinstance(name, str) else "<stream>"
 
 
-def size_of(source: Any) -> int | None:
+def size_of(source: object) -> int | None:
     """Returns how many bytes a source has, or None if this is known only after reading. For a
     packed file these are packed bytes."""
     held = bytes_of(source)
@@ -99,21 +102,21 @@ def size_of(source: Any) -> int | None:
         return held.nbytes
     if is_url(source):
         with contextlib.suppress(OSError), open_raw(source) as file:
-            return file.raw.remote.size  # type: ignore[no-any-return]
+            remote = remote_of(file)
+            return None if remote is None else remote.size
         return None
     return os.path.getsize(source) if is_path(source) and os.path.isfile(source) else None
 
 
-def _poll_of(file: Any) -> Any:
+def _poll_of(file: Readable) -> select.poll | None:
     """Returns an object that shows whether a pipe or a terminal has bytes. None for other files."""
     try:
         descriptor = file.fileno()
         mode = os.fstat(descriptor).st_mode
     except (AttributeError, OSError, ValueError):
         return None
-    if isinstance(file, Unpacker) or not (
-        stat.S_ISFIFO(mode) or stat.S_ISSOCK(mode) or stat.S_ISCHR(mode)
-    ):
+    kinds = (stat.S_ISFIFO, stat.S_ISSOCK, stat.S_ISCHR)
+    if isinstance(file, Unpacker) or not any(is_kind(mode) for is_kind in kinds):
         return None
     poll = select.poll()
     poll.register(descriptor, select.POLLIN)
@@ -123,11 +126,11 @@ def _poll_of(file: Any) -> Any:
 class Reader:
     """Reads a file object. If a read fails, keeps the fault as `fault`, and the input ends."""
 
-    def __init__(self, file: Any, name: str = "<stream>", is_text: bool = False) -> None:
+    def __init__(self, file: Readable, name: str = "<stream>", is_text: bool = False) -> None:
         """Takes a file object and its name. If it is not known to be a text, it is unpacked if its
         first bytes show that it is packed."""
         self.file, self.name = file, name
-        self._read: Any = partial(read_some, file)
+        self._read: Callable[[int], object] = lambda most: read_some(file, most)
         self.fault: CityseqError | None = None
         self._poll = _poll_of(file)
         self._has_begun = is_text
@@ -205,7 +208,7 @@ class TextsFile(io.RawIOBase):
         return piece
 
 
-def open_raw(path: str) -> Any:
+def open_raw(path: AnyPath) -> io.BufferedReader:
     """Returns the file object of a path or of a URL, which gives the bytes as they are."""
     if not is_url(path):
         return open(path, "rb")
@@ -214,7 +217,7 @@ def open_raw(path: str) -> Any:
     return open_url(path)
 
 
-def _raw_or_parts(path: str) -> Any:
+def _raw_or_parts(path: str) -> io.BufferedReader | TextsFile:
     """Returns the same as `open_raw`, or what reads the parts of a folder."""
     try:
         return open_raw(path)
@@ -227,7 +230,7 @@ def _raw_or_parts(path: str) -> Any:
             raise fault from None
 
 
-def _open_path(path: str) -> Any:
+def _open_path(path: str) -> io.BufferedReader | TextsFile | Unpacker:
     """Returns the file object of a path. It unpacks a packed file."""
     file = _raw_or_parts(path)
     try:
@@ -240,7 +243,7 @@ def _open_path(path: str) -> Any:
         raise
 
 
-def _path_of(source: Any) -> str:
+def _path_of(source: AnyPath) -> str:
     """Returns the path that a source is. Raises `RequestError` if it is a text and no path."""
     path = os.fsdecode(source)
     if "\n" in path and len(os.fsencode(path)) > LONGEST_PATH:
@@ -250,7 +253,7 @@ def _path_of(source: Any) -> str:
     return path
 
 
-def _open(source: Source) -> Any:
+def _open(source: Source) -> io.BufferedIOBase | io.RawIOBase:
     """Opens a source that is a path or bytes. The caller must close the file object."""
     if isinstance(source, (str, os.PathLike)):
         return _open_path(_path_of(source))
@@ -262,7 +265,7 @@ def _open(source: Source) -> Any:
     )
 
 
-def is_packed(source: Any) -> bool:
+def is_packed(source: object) -> bool:
     """Whether a source is the path of a packed file."""
     try:
         if not is_url(source) and not (is_path(source) and os.path.isfile(source)):
@@ -273,7 +276,7 @@ def is_packed(source: Any) -> bool:
         return False
 
 
-def state_of(file: Any) -> State:
+def state_of(file: Readable | int) -> State:
     """Returns the size of an open file, and its time of change in nanoseconds, or what stands for
     it if the file has a URL. If one of them differs later, the file has changed."""
     remote = remote_of(file)
@@ -316,7 +319,7 @@ class LocalFile:
         return os.preadv(self._descriptor, [room], begin)
 
 
-def watch_of(file: Any) -> Watch | None:
+def watch_of(file: Readable) -> Watch | None:
     """Returns a watch of the file of a file object. None if it is neither regular nor of a URL."""
     remote = remote_of(file)
     if remote is not None:
@@ -332,7 +335,7 @@ def watch_of(file: Any) -> Watch | None:
 def opened(source: Source) -> Iterator[Reader]:
     """Yields a reader of a source, and closes what was opened for it."""
     name = name_of(source)
-    if hasattr(source, "read") and bytes_of(source) is None:
+    if _is_file(source):
         yield Reader(source, name)
         return
     if isinstance(source, str) and source == "-":
@@ -350,14 +353,14 @@ def opened(source: Source) -> Iterator[Reader]:
         yield Reader(file, name, is_text=not isinstance(file, io.BufferedReader))
 
 
-def is_whole(source: Any, whole: bool | None = None) -> bool:
+def is_whole(source: object, whole: bool | None = None) -> bool:
     """Whether a source is a whole file. If that is not said, the end of its name says it."""
     if whole is None:
         return is_path(source) and os.fsdecode(source).endswith(ENDINGS)
     return whole
 
 
-def stream_of(source: Source, whole: bool | None) -> Any:
+def stream_of(source: Source, whole: bool | None) -> Source:
     """Returns the stream of a source: that of a whole file, or the source itself."""
     if not is_whole(source, whole):
         return source
@@ -376,14 +379,20 @@ def refuse_whole(paths: list[str]) -> None:
             )
 
 
-def wait_for(file: Any) -> None:
+def _descriptor_of(file: object) -> int:
+    """Returns the descriptor of a file. Raises `AttributeError` if it has no such method."""
+    descriptor: int = getattr(file, "fileno")()
+    return descriptor
+
+
+def wait_for(file: Writable) -> None:
     """Waits until a file that does not block may take more."""
     poll = select.poll()
-    poll.register(file.fileno(), select.POLLOUT)
+    poll.register(_descriptor_of(file), select.POLLOUT)
     poll.poll()
 
 
-def _write_some(file: Any, text: memoryview) -> int:
+def _write_some(file: Writable, text: memoryview) -> int:
     """Writes some of a text, and returns how many bytes the file took. Waits if it took none.
 
     A raw file that does not block returns None if it takes nothing, and a buffered one raises
@@ -404,7 +413,7 @@ def _write_some(file: Any, text: memoryview) -> int:
     return written
 
 
-def write_all(file: Any, text: Text) -> None:
+def write_all(file: Writable, text: Text) -> None:
     """Writes all of a text to a binary file, which may take only a part of it at a time.
 
     Raises:
@@ -445,21 +454,22 @@ def part_of(path: str) -> str | None:
     return None if target is None else target + UNFINISHED
 
 
-def identity(thing: Any, standard: int) -> Identity | None:
+def identity(thing: object, standard: int) -> Identity | None:
     """Returns the device and the inode of the file of a source or an output. `-` is the given
     standard descriptor. None if the file does not exist, or is neither a regular file nor a block
     device."""
     try:
-        if not is_path(thing):
-            thing = standard if isinstance(thing, str) else thing.fileno()
-        state = os.stat(thing)
+        if is_path(thing):
+            state = os.stat(thing)
+        else:
+            state = os.stat(standard if isinstance(thing, str) else _descriptor_of(thing))
     except (AttributeError, OSError, ValueError):
         return None
     is_kept = stat.S_ISREG(state.st_mode) or stat.S_ISBLK(state.st_mode)
     return (state.st_dev, state.st_ino) if is_kept else None
 
 
-def _written_for(outputs: Iterable[Any]) -> Iterator[tuple[str, Any]]:
+def _written_for(outputs: Iterable[object]) -> Iterator[tuple[str, object]]:
     """Yields the name of each output, and each file that is written for it."""
     for output in (
         os.fsdecode(output) if isinstance(output, bytes) else output for output in outputs
@@ -471,7 +481,7 @@ def _written_for(outputs: Iterable[Any]) -> Iterator[tuple[str, Any]]:
                 yield part, part
 
 
-def _read_for(sources: Iterable[Any]) -> Iterator[Any]:
+def _read_for(sources: Iterable[object]) -> Iterator[object]:
     """Yields each source that may be a file, and the files that are read for a folder of parts."""
     for source in sources:
         if isinstance(source, bytes):
@@ -483,13 +493,13 @@ def _read_for(sources: Iterable[Any]) -> Iterator[Any]:
             yield from files_in(os.fsdecode(source))
 
 
-def _identities(sources: Iterable[Any]) -> set[Identity]:
+def _identities(sources: Iterable[object]) -> set[Identity]:
     """Returns the identities of the files that are read."""
     found = (identity(source, 0) for source in _read_for(sources))
     return {each for each in found if each}
 
 
-def refuse_same(sources: Iterable[Any], outputs: Iterable[Any]) -> None:
+def refuse_same(sources: Iterable[object], outputs: Iterable[object]) -> None:
     """Raises `RequestError` if an output is a file that is read. The output `-` is standard
     output."""
     read = _identities(sources)
@@ -498,7 +508,7 @@ def refuse_same(sources: Iterable[Any], outputs: Iterable[Any]) -> None:
             raise RequestError(f"{name}: the output is a file that is read")
 
 
-def refuse_standard(sources: Iterable[Any]) -> None:
+def refuse_standard(sources: Iterable[object]) -> None:
     """Raises `RequestError` if standard output or standard error is a file that is read. If that
     is standard error, nothing is written to it any more, not even this fault."""
     sources = list(sources)

@@ -10,13 +10,17 @@ import sys
 from collections.abc import Callable, Iterator
 from contextlib import suppress
 from functools import partial
-from typing import IO, Any, Union
+from typing import TYPE_CHECKING, BinaryIO, TextIO, Union
 
 from ..engine import RequestError, Text, WriteFault, write_fault
 from . import UNFINISHED, is_path, name_of, target_of, wait_for, write_all
 from .packed import LEVEL, Packer, Packing, pack, packing_by_name, require
 
-Target = Union[str, bytes, "os.PathLike[Any]", IO[bytes]]
+if TYPE_CHECKING:
+    from ..foreign import Writable
+    from . import AnyPath
+
+Target = Union["AnyPath", bytes, "Writable"]
 
 OTHER_PACKINGS = (".xz", ".lzma", ".bz2", ".lz4", ".br", ".z", ".zip", ".7z", ".tgz")
 LONGEST = 255  # bytes of a file's name
@@ -153,7 +157,7 @@ class Batch:
                 raise write_fault(fault, name) from fault
 
 
-def flush_all(file: Any) -> None:
+def flush_all(file: Writable) -> None:
     """Flushes a binary file, which may take only a part at a time.
 
     Raises:
@@ -170,11 +174,11 @@ def flush_all(file: Any) -> None:
 class _Decoded:
     """Writes UTF-8 to an output that takes text alone, such as that of a notebook."""
 
-    def __init__(self, output: Any) -> None:
+    def __init__(self, output: TextIO) -> None:
         self._output, self.flush = output, output.flush
         self._decode = codecs.getincrementaldecoder("utf-8")("replace").decode
 
-    def write(self, text: bytes | bytearray | memoryview) -> int:
+    def write(self, text: Text) -> int:
         """Writes all of these bytes."""
         self._output.write(self._decode(bytes(text)))
         return len(text)
@@ -253,7 +257,7 @@ class Writer:
         self.name = name_of(target)
         self._path = checked_output(self.name) if is_path(target) else None
         self._part: Part | None = None  # where the path is written until it is whole
-        self._file: Any = target if hasattr(target, "write") else None
+        self._file: Writable | None = None if isinstance(target, (str, os.PathLike)) else target
         self._keep_partial, self._batch, self._level, self._see = keep_partial, batch, level, see
         self.limit: Limit | None = None
         self.features, self._has_header = 0, False
@@ -291,7 +295,9 @@ class Writer:
     def write_packed(self, text: bytes) -> None:
         """Writes bytes that `pack` returned."""
         try:
-            self._opened().write_packed(text)
+            file = self._opened()
+            assert isinstance(file, Packer)
+            file.write_packed(text)
         except (OSError, ValueError) as fault:
             raise write_fault(fault, self.name) from fault
 
@@ -324,7 +330,7 @@ class Writer:
                     file.finish()
                 else:
                     flush_all(file)
-                if self._path is not None:
+                if self._path is not None and hasattr(file, "close"):
                     file.close()
             if whole and self._part is not None:
                 if self._batch is None:
@@ -341,8 +347,9 @@ class Writer:
         """Closes a file that was opened here and is not whole. Removes it, unless it must be
         kept."""
         with suppress(OSError, ValueError):
-            if self._path is not None and self._file is not None:
-                self._file.close()
+            file = self._file
+            if self._path is not None and file is not None and hasattr(file, "close"):
+                file.close()
         if self._part is not None:
             if self._keep_partial:
                 with suppress(OSError):
@@ -351,20 +358,21 @@ class Writer:
                 self._part.discard()
         self._part = None
 
-    def _opened(self) -> Any:
+    def _opened(self) -> Writable:
         if self._file is None and self._path is None:
             if sys.stdout is None:
                 raise OSError("standard output is closed")
-            self._file = getattr(sys.stdout, "buffer", None) or _Decoded(sys.stdout)
+            buffer: Writable | None = getattr(sys.stdout, "buffer", None)
+            self._file = buffer or _Decoded(sys.stdout)
         elif self._file is None:
             assert self._path is not None
-            file = self._made(self._path)
+            file: Writable = self._made(self._path)
             self._file = file
             if self.packing is not None:
                 self._file = Packer(file, self.packing, self._level)
         return self._file
 
-    def _made(self, path: str) -> Any:
+    def _made(self, path: str) -> BinaryIO:
         """Opens the file that a path is written to until it is whole."""
         target = target_of(path)
         if target is None:

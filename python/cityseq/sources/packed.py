@@ -15,9 +15,14 @@ import zlib
 from collections.abc import Callable
 from functools import partial
 from importlib import import_module
-from typing import IO, Any
+from typing import TYPE_CHECKING
 
 from ..engine import Text as Text
+
+if TYPE_CHECKING:
+    from _typeshed import ReadableBuffer
+
+    from ..foreign import Package, Readable, Writable
 
 Note = Callable[[int, int, bool], None]
 
@@ -65,7 +70,7 @@ def may_be_packed(head: bytes) -> bool:
     return any(packing.mark.startswith(head) and packing.mark != head for packing in Packing)
 
 
-def _zstandard() -> Any:
+def _zstandard() -> Package:
     try:
         return import_module("zstandard")
     except ImportError:
@@ -83,7 +88,7 @@ def block_length(head: bytes) -> int:
     return int.from_bytes(head[16:HEAD], "little") + 1
 
 
-def _blocks(file: Any) -> bool:
+def _blocks(file: Readable) -> bool:
     """Whether a read of a file is known to wait for bytes."""
     try:
         return os.get_blocking(file.fileno())
@@ -91,14 +96,14 @@ def _blocks(file: Any) -> bool:
         return False
 
 
-def read_some(file: Any, most: int) -> Any:
+def read_some(file: Readable, most: int) -> bytes:
     """Returns at most `most` bytes of a file object, and none at its end. A buffered file that does
     not block gives none too if none are ready: then this waits for the next one.
 
     Raises:
         OSError: The file does not block, no bytes are ready, and nothing shows when they are.
     """
-    piece = (getattr(file, "read1", None) or file.read)(most)
+    piece: bytes | None = (getattr(file, "read1", None) or file.read)(most)
     if piece is None:
         raise OSError(NOT_READY)
     if piece != b"" or not isinstance(file, BUFFERED) or _blocks(file):
@@ -109,7 +114,7 @@ def read_some(file: Any, most: int) -> Any:
     return bytes(room[:count])
 
 
-def _wait_for(file: Any) -> None:
+def _wait_for(file: Readable) -> None:
     """Waits until a file has bytes. Raises `OSError` if it has no descriptor."""
     poll = select.poll()
     try:
@@ -126,15 +131,14 @@ class Gzip:
     read, head = READ, HEAD
 
     @staticmethod
-    def member() -> Any:
+    def member() -> zlib._Decompress:
         """Returns an object that unpacks one more member."""
         return zlib.decompressobj(wbits=31)
 
     @staticmethod
-    def more(member: Any, packed: bytes, most: int) -> bytes:
+    def more(member: zlib._Decompress, packed: bytes, most: int) -> bytes:
         """Returns at most `most` bytes of text from some more packed bytes."""
-        text: bytes = member.decompress(packed, most)
-        return text
+        return member.decompress(packed, most)
 
 
 class _Zstd:
@@ -147,12 +151,12 @@ class _Zstd:
         self._context = zstandard.ZstdDecompressor()
         self.faults: tuple[type[Exception], ...] = (zstandard.ZstdError,)
 
-    def member(self) -> Any:
+    def member(self) -> Package:
         """Returns an object that unpacks one more frame."""
         return self._context.decompressobj()
 
     @staticmethod
-    def more(member: Any, packed: bytes, _: int) -> bytes:
+    def more(member: Package, packed: bytes, _: int) -> bytes:
         """Returns the text of some more packed bytes."""
         text: bytes = member.decompress(packed) if packed else b""
         return text
@@ -171,13 +175,13 @@ class Unpacker(io.RawIOBase):
         packed: The file.
     """
 
-    def __init__(self, file: IO[bytes], packing: Packing, head: bytes = b"") -> None:
+    def __init__(self, file: Readable, packing: Packing, head: bytes = b"") -> None:
         """Takes the file, how it is packed, and the bytes of it that were read before."""
         super().__init__()
         self._file, self._mark, self.packing = file, packing.mark, packing
-        self._read: Any = partial(read_some, file)
+        self._read = partial(read_some, file)
         self._kind: Gzip | _Zstd = Gzip() if packing is Packing.GZIP else _Zstd()
-        self._member: Any = None
+        self._member: zlib._Decompress | Package | None = None
         self._has_begun = False
         self._packed = head
         self._text = b""
@@ -229,6 +233,7 @@ class Unpacker(io.RawIOBase):
 
     def _more(self, most: int) -> bytes:
         """Returns some more text of a member, or none if more of the file must be read."""
+        assert self._member is not None
         text = self._kind.more(self._member, self._packed, most)
         self._length += len(text)
         is_whole = self._member.eof
@@ -303,7 +308,7 @@ class Packer(io.RawIOBase):
     """Packs what is written to it into a file. Short texts are gathered first. Packed bytes are
     written unchanged."""
 
-    def __init__(self, file: IO[bytes], packing: Packing, level: int = LEVEL) -> None:
+    def __init__(self, file: Writable, packing: Packing, level: int = LEVEL) -> None:
         super().__init__()
         self._file, self._packing, self._level = file, packing, level
         self._gathered: list[bytes] = []
@@ -312,13 +317,14 @@ class Packer(io.RawIOBase):
     def writable(self) -> bool:
         return True
 
-    def write(self, text: Any) -> int:
+    def write(self, text: ReadableBuffer) -> int:
         """Packs all of a text."""
         self._gathered.append(bytes(text))
-        self._size += len(text)
+        size = len(self._gathered[-1])
+        self._size += size
         if self._size >= BLOCK:
             self._write_gathered()
-        return len(text)
+        return size
 
     def write_packed(self, packed: Text) -> None:
         """Writes bytes that `pack` returned."""
@@ -341,5 +347,6 @@ class Packer(io.RawIOBase):
 
     def close(self) -> None:
         """Closes the file."""
-        self._file.close()
+        if hasattr(self._file, "close"):
+            self._file.close()
         super().close()

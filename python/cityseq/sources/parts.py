@@ -5,14 +5,21 @@ from __future__ import annotations
 import io
 import json
 import os
-from collections.abc import Generator
+from collections.abc import Generator, Iterable
 from dataclasses import asdict, dataclass
-from typing import Any
+from typing import TYPE_CHECKING
 
 from ..engine import RequestError, read_fault
 from . import PIECE, TextsFile, is_path, is_url, open_raw
 from .packed import Packing, Unpacker, packing_of
 from .regular import BlockHash
+
+if TYPE_CHECKING:
+    from typing import TypeGuard
+
+    from _typeshed import WriteableBuffer
+
+    from . import AnyPath
 
 MANIFEST, KIND = "_manifest.json", "cityseq parts"
 HEAD = 1 << 16  # bytes that are read at once for a header
@@ -77,17 +84,17 @@ def _is_plain(part: ListedPart) -> bool:
     return isinstance(name, str) and name.startswith("part-") and not {"/", "\0"} & set(name)
 
 
-def _is_folder(path: Any) -> bool:
+def _is_folder(path: object) -> TypeGuard[AnyPath]:
     """Whether a path is that of a folder with a manifest, or a URL ends as one of a folder does."""
     if is_url(path):
-        return bool(path.endswith("/"))
+        return path.endswith("/")
     return is_path(path) and os.path.isfile(os.path.join(os.fsdecode(path), MANIFEST))
 
 
-def expanded(paths: list[Any]) -> list[Any]:
+def expanded(paths: list[object]) -> list[object]:
     """Returns these paths, with the parts of each folder in its place. Raises `ReadFault` if its
     manifest cannot be read."""
-    found: list[Any] = []
+    found: list[object] = []
     for path in paths:
         if not _is_folder(path):
             found.append(path)
@@ -100,19 +107,19 @@ def expanded(paths: list[Any]) -> list[Any]:
     return found
 
 
-def regular_paths(paths: Any, what: str) -> list[str]:
+def regular_paths(paths: bytes | AnyPath | Iterable[object], what: str) -> list[str]:
     """Returns paths of regular files, or the only one, with the parts of each folder in its place.
 
     Raises:
         ReadFault: A manifest cannot be read.
         RequestError: One is not a path, or is that of a device or a pipe. `what` begins the words.
     """
-    listed = [paths] if isinstance(paths, (str, bytes, os.PathLike)) else list(paths)
+    listed: list[object] = [paths] if isinstance(paths, (str, bytes, os.PathLike)) else list(paths)
     for path in (listed := expanded(listed)):
         is_special = is_path(path) and os.path.exists(path) and not os.path.isfile(path)
         if not is_path(path) or is_special and not os.path.isdir(path):
             raise RequestError(f"{what} regular files by their paths: {path!r} is none")
-    return list(map(os.fsdecode, listed))
+    return [os.fsdecode(path) for path in listed if is_path(path)]
 
 
 class _Hashed(io.RawIOBase):
@@ -126,9 +133,9 @@ class _Hashed(io.RawIOBase):
     def readable(self) -> bool:
         return True
 
-    def readinto(self, room: Any) -> int:
+    def readinto(self, room: WriteableBuffer) -> int:
         """Fills some of a room. Returns how many bytes it read, and 0 at the end."""
-        count: int = self._file.readinto(room)
+        count = self._file.readinto(room)
         self.digest.add(memoryview(room)[:count])
         return count
 
@@ -168,7 +175,7 @@ def _texts(folder: str, parts: list[ListedPart]) -> Generator[bytes, None, None]
                 raise OSError(f"{part.name} is not the one that {MANIFEST} has")
 
 
-def _unpacked(raw: _Hashed, path: str) -> Any:
+def _unpacked(raw: _Hashed, path: str) -> io.BufferedReader | Unpacker:
     """Returns the file of a part, which unpacks it if it is packed."""
     file = io.BufferedReader(raw, PIECE)
     packing = packing_of(file.peek(len(Packing.ZSTD.mark)), path)

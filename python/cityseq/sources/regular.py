@@ -10,7 +10,7 @@ from array import array
 from collections.abc import Callable, Iterable, Iterator
 from contextlib import suppress
 from dataclasses import dataclass
-from typing import TYPE_CHECKING, Any, NamedTuple
+from typing import TYPE_CHECKING, NamedTuple
 from zlib import crc32
 
 from ..engine import Room, Text, library
@@ -19,6 +19,8 @@ from . import PIECE, LocalFile, State, open_raw, remote_of, state_of
 from .chunks import TAIL, Chunk, whole_lines
 
 if TYPE_CHECKING:
+    from ..foreign import Readable
+    from . import Watch
     from .remote import RemoteFile
 
 LOOK = 1 << 14  # bytes of the first read for the end of a line
@@ -30,19 +32,17 @@ class RegularFile:
 
     def __init__(self, file: int | RemoteFile) -> None:
         """Takes a descriptor, or the file of a URL."""
-        self._file: Any = LocalFile(file) if isinstance(file, int) else file
+        self._file: Watch = LocalFile(file) if isinstance(file, int) else file
         self.size = self._file.size
 
     @property
     def state(self) -> State:
         """The size, and the time of change in nanoseconds, or what stands for it."""
-        state: State = self._file.state_now()
-        return state
+        return self._file.state_now()
 
     def look(self, begin: int, end: int) -> bytes:
         """Returns the bytes between two places, or those that one read gives."""
-        found: bytes = self._file.read(begin, end)
-        return found
+        return self._file.read(begin, end)
 
     def expect(self, end: int) -> None:
         """Notes that this thread will read up to a place."""
@@ -98,7 +98,7 @@ class RegularFile:
         return b"".join(pieces), None
 
 
-def regular_file(file: Any, kind: type[RegularFile] | None = None) -> RegularFile | None:
+def regular_file(file: Readable, kind: type[RegularFile] | None = None) -> RegularFile | None:
     """Returns the regular file of a file object, as one of this kind. None if it has none."""
     kind = kind or RegularFile
     remote = remote_of(file)
@@ -265,7 +265,7 @@ class BlockHash:
         self.count, self._sum = 0, 0
         self._sums = array("L")
 
-    def add(self, piece: Any) -> None:
+    def add(self, piece: Text) -> None:
         """Takes the next bytes."""
         rest = memoryview(piece)
         while rest:
@@ -308,7 +308,7 @@ class HashedFile(RegularFile):
     """A regular file that is judged. The threads that read its parts make the CRC-32s of the blocks
     in them, while they have the bytes at hand."""
 
-    def __init__(self, file: Any) -> None:
+    def __init__(self, file: int | RemoteFile) -> None:
         super().__init__(file)
         self._sums = array("q", [UNKNOWN]) * -(-self.size // BLOCK)
 
@@ -353,7 +353,7 @@ def sha256_of(path: str, is_stopped: Callable[[], bool] = _never) -> str | None:
     return digest.hexdigest()
 
 
-def state_now(path: str) -> dict[str, Any]:
+def state_now(path: str) -> dict[str, int | None]:
     """Returns the size of a regular file, and its time of change in nanoseconds since 1970. They
     are None for anything else: those of a pipe or a folder do not show what is in it."""
     with suppress(OSError):

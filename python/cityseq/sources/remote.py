@@ -8,11 +8,18 @@ import os
 import threading
 from collections.abc import Callable
 from importlib import import_module
-from typing import Any
+from typing import TYPE_CHECKING, TypeVar
 from urllib.parse import urlsplit
 
 from ..engine import CityseqError, RequestError, why
 from . import name_of
+
+if TYPE_CHECKING:
+    from _typeshed import WriteableBuffer
+
+    from ..foreign import Package
+
+T = TypeVar("T")
 
 BLOCK = 4 << 20  # bytes of one request for lines that follow each other
 BUFFER = 1 << 20  # bytes that are read ahead of what is read once, such as a header
@@ -20,7 +27,7 @@ BUFFER = 1 << 20  # bytes that are read ahead of what is read once, such as a he
 MARKS = "ETag etag Content-MD5 md5Hash LastModified last_modified updated mtime".split()
 
 
-def system_of(url: str) -> tuple[Any, str]:
+def system_of(url: str) -> tuple[Package, str]:
     """Returns the file system of a URL, and the path there.
 
     Raises:
@@ -30,7 +37,7 @@ def system_of(url: str) -> tuple[Any, str]:
     if urlsplit(url).password is not None:
         raise RequestError("a URL has no password: put it into the configuration of fsspec")
     try:
-        found: tuple[Any, str] = import_module("fsspec.core").url_to_fs(url)
+        found: tuple[Package, str] = import_module("fsspec.core").url_to_fs(url)
         return found
     except ImportError as missing:
         words = f"a URL needs fsspec and its package for this scheme: {why(missing)}"
@@ -121,7 +128,7 @@ class RemoteFile:
         return len(piece)
 
     @staticmethod
-    def _call(call: Callable[..., Any], *given: object, **named: object) -> Any:
+    def _call(call: Callable[..., T], *given: object, **named: object) -> T:
         """Makes a call of a file system. Raises `OSError` with words that have no URL."""
         try:
             return call(*given, **named)
@@ -143,10 +150,11 @@ class _Raw(io.RawIOBase):
     def readable(self) -> bool:
         return True
 
-    def readinto(self, room: Any) -> int:
+    def readinto(self, room: WriteableBuffer) -> int:
         """Fills some of a room. Returns how many bytes it read, and 0 at the end."""
-        piece = self.remote.read(self._place, self._place + len(room))
-        room[: len(piece)] = piece
+        view = memoryview(room)
+        piece = self.remote.read(self._place, self._place + len(view))
+        view[: len(piece)] = piece
         self._place += len(piece)
         return len(piece)
 
