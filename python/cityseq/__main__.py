@@ -25,6 +25,10 @@ def run() -> NoReturn:
         run_command()
     except KeyboardInterrupt:
         _end(130, "interrupted")
+    except RuntimeError as fault:  # Python 3.11 wraps what comes while a class is made
+        if not isinstance(fault.__cause__, KeyboardInterrupt):
+            raise
+        _end(130, "interrupted")
     except MemoryError:
         _end(5, "out of memory")
     except ImportError as fault:

@@ -2,10 +2,12 @@
 import contextlib
 import gzip
 import importlib.util
+import io
 import json
 import lzma
 import os
 import re
+import signal
 import subprocess
 import sys
 import textwrap
@@ -13,6 +15,7 @@ import unittest
 from unittest import mock
 
 import cityseq
+from cityseq import cli
 from cityseq.cli.output import put
 from cityseq.cli.requests import COMMANDS
 
@@ -54,6 +57,53 @@ class Commands(InFolder):
             words, block = shown[0]
             output, said, status = command(*words.split(), cwd=support.ROOT)
             self.assertEqual((output, said, status), (b"", textwrap.dedent(block), 1), name)
+
+    def test_an_interrupt_while_a_class_is_made(self):
+        """Python 3.11 gives RuntimeError for what a field raises there."""
+
+        def made(number):
+            def name(*_):
+                signal.raise_signal(number)
+
+            type("Made", (), {"field": type("Field", (), {"__set_name__": name})()})
+
+        for number, words in (
+            (signal.SIGINT, "interrupted\n"),
+            (signal.SIGTERM, "stopped by SIGTERM\n"),
+        ):
+            said = io.StringIO()
+            before = signal.getsignal(signal.SIGTERM)
+            self.addCleanup(signal.signal, signal.SIGTERM, before)
+            cli.end_by_signals()
+            with (
+                mock.patch.object(cli, "_run", lambda _, number=number: made(number)),
+                contextlib.redirect_stderr(said),
+            ):
+                status = cli.main(["check", "-"])
+            self.assertEqual((said.getvalue(), status), (words, 128 + number))
+
+    def test_an_interrupt_while_the_command_is_loaded(self):
+        code = (
+            "import signal, sys\n"
+            "class Loader:\n"
+            "    def find_spec(self, name, *_):\n"
+            "        if name == 'cityseq.cli':\n"
+            "            class Field:\n"
+            "                def __set_name__(self, *_):\n"
+            "                    signal.raise_signal(signal.SIGINT)\n"
+            "            type('Made', (), {'field': Field()})\n"
+            "sys.meta_path.insert(0, Loader())\n"
+            "from cityseq.__main__ import run\n"
+            "run()\n"
+        )
+        ran = subprocess.run(
+            [sys.executable, "-c", code, "check", "-"],
+            capture_output=True,
+            env={**os.environ, "PYTHONPATH": os.path.join(support.ROOT, "python")},
+            preexec_fn=support.heed_interrupts,
+            timeout=60,
+        )
+        self.assertEqual((ran.stdout, ran.stderr, ran.returncode), (b"", b"interrupted\n", 130))
 
     def test_keep_going(self):
         output, said, status = command("check", "--keep-going", example("delivery"))

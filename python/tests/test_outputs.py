@@ -122,7 +122,7 @@ class Wholes(InFolder):
             )
             ran.stdin.write(HEADER + PLAIN * 200_000)
             ran.stdin.flush()
-            for _ in range(200):
+            for _ in range(1_200):
                 if support.unfinished(self.folder):
                     break
                 time.sleep(0.05)

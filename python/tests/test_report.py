@@ -180,10 +180,11 @@ class Command(InFolder):
                 env={**os.environ, "PYTHONPATH": os.path.join(support.ROOT, "python")},
                 preexec_fn=support.heed_interrupts,
             )
-            for _ in range(400):
+            for _ in range(6_000):
                 if len(support.unfinished(self.page.parent)) == 3:
                     break
                 time.sleep(0.01)
+            self.assertEqual(len(support.unfinished(self.page.parent)), 3)
             run.send_signal(number)
             _, said = run.communicate(timeout=120)
             self.assertEqual((said.decode(), run.returncode), (words, 128 + number))

@@ -5,6 +5,7 @@ import itertools
 import json
 import os
 import resource
+import select
 import signal
 import subprocess
 import sys
@@ -184,7 +185,8 @@ class Unblocked(InFolder):
             preexec_fn=support.heed_interrupts,
         )
         os.close(writing)
-        time.sleep(1.5)
+        self.assertEqual(select.select([reading], [], [], 60)[0], [reading])
+        time.sleep(0.5)
         ran.send_signal(signal.SIGINT)
         _, said = ran.communicate(timeout=60)
         os.close(reading)

@@ -48,7 +48,7 @@ class _Once(argparse.Action):
     """Stores the value of an option, and refuses a second one."""
 
     def __call__(
-        self, _: Any, namespace: argparse.Namespace, values: Any, option_string: str | None = None
+        self, _: object, namespace: argparse.Namespace, values: object, name: str | None = None
     ) -> None:
         if hasattr(namespace, self.dest):
             raise argparse.ArgumentError(self, "it is given more than once")
@@ -58,7 +58,8 @@ class _Once(argparse.Action):
 class _Help(argparse.Action):
     """Asks for the help on a command."""
 
-    def __call__(self, parser: Any, *_: Any) -> NoReturn:
+    def __call__(self, parser: argparse.ArgumentParser, *_: object) -> NoReturn:
+        assert isinstance(parser, _Parser)
         raise Answered(_help(parser.prog, parser.command))
 
 
@@ -77,7 +78,7 @@ class _Parser(argparse.ArgumentParser):
         self.command, self.has_minus = command, False
         self.add_argument("-h", "--help", nargs=0, action=_Help)
         for option in options_of(command):
-            takes: dict[str, Any] = {"nargs": 0}
+            takes: dict[str, Any] = {"nargs": 0}  # `add_argument` has no type for them
             if option.value is not None:
                 takes = {"type": option.read, "metavar": option.value}
             self.add_argument(
@@ -94,7 +95,7 @@ class _Parser(argparse.ArgumentParser):
         tip = MINUS if MISSING[1] in message and self.has_minus else None
         raise _mistake(self.prog, shown(message), tip, self.command)
 
-    def read(self, words: Sequence[str]) -> dict[str, Any]:
+    def read(self, words: Sequence[str]) -> dict[str, Any]:  # as argparse has them
         """Returns the fields that the words set."""
         words, more = list(words), []
         if "--" in words:  # all words after it are files
@@ -244,7 +245,10 @@ def _is_short_of_memory(fault: BaseException) -> bool:
     Python itself, whose calls sometimes do not say that memory is short."""
     words = str(fault).lower()
     if isinstance(fault, SystemError):
-        return "returned null without setting an exception" in words and _has_limit()
+        import resource  # few faults need it
+
+        has_limit = resource.getrlimit(resource.RLIMIT_AS)[0] != resource.RLIM_INFINITY
+        return has_limit and "returned null without setting an exception" in words
     return isinstance(fault, ImportError) and any(each in words for each in SHORT_OF_MEMORY)
 
 
@@ -257,11 +261,11 @@ def _lacks_folder() -> bool:
     return False
 
 
-def _has_limit() -> bool:
-    """Whether the memory of this process is limited."""
-    import resource  # few faults need it
-
-    return resource.getrlimit(resource.RLIMIT_AS)[0] != resource.RLIM_INFINITY
+def _interrupt_of(fault: BaseException | None) -> BaseException | None:
+    """Returns the interrupt behind a fault, or None. Python 3.11 wraps one that comes in a class."""
+    while fault is not None and not isinstance(fault, (KeyboardInterrupt, Stopped)):
+        fault = fault.__cause__ or fault.__context__
+    return fault
 
 
 def _status_of(fault: BaseException, request: Request | None) -> int:
@@ -287,6 +291,8 @@ def _status_of(fault: BaseException, request: Request | None) -> int:
         case Stopped():
             say(f"stopped by {fault.name}")
             return STOPPED + fault.value
+        case Exception() if (interrupt := _interrupt_of(fault)) is not None:
+            return _status_of(interrupt, request)
         case Exception():
             say(
                 f"unexpected failure: {_traced(fault)}. This is a fault of cityseq: please report"
