@@ -72,8 +72,8 @@ class Commands(InFolder):
             (signal.SIGTERM, "stopped by SIGTERM\n"),
         ):
             said = io.StringIO()
-            before = signal.getsignal(signal.SIGTERM)
-            self.addCleanup(signal.signal, signal.SIGTERM, before)
+            self.addCleanup(signal.signal, number, signal.getsignal(number))
+            signal.signal(signal.SIGINT, signal.default_int_handler)
             cli.end_by_signals()
             with (
                 mock.patch.object(cli, "_run", lambda _, number=number: made(number)),

@@ -262,7 +262,7 @@ def _lacks_folder() -> bool:
 
 
 def _interrupt_of(fault: BaseException | None) -> BaseException | None:
-    """Returns the interrupt behind a fault, or None. Python 3.11 wraps one that comes in a class."""
+    """Returns the interrupt behind a fault, or None. Python 3.11 wraps one in a class's body."""
     while fault is not None and not isinstance(fault, (KeyboardInterrupt, Stopped)):
         fault = fault.__cause__ or fault.__context__
     return fault
