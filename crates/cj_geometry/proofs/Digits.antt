@@ -14,7 +14,7 @@ number_at s i j = scalar Number (record { start = i; stop = j; spelling = s })
 of_digits : {s : List ℕ} (n : ℕ) → is_int (digits_front s) ≡ true → digits_rest s ≡ []
     → n ≡ digits_value (digits_front s) → n < 10 ^ 18 → (c : Class s) → Ok (Some (pos n)) ≡ whole_answer c
 of_digits {s} n int rest value small c =
-    sym (answer_digits s n c (record { int = int; rest = rest; value = value; small = small }))
+    sym (search (arith, answer_digits))
 
 zero_read : (c : Class (codes "0")) → Ok (Some (pos 0)) ≡ whole_answer c
 unfolding digits_front digits_rest begins begins_digit is_int is_empty
@@ -44,15 +44,15 @@ minus_one = record {
         refl;
   };
   same = record { coefficients = refl };
-  normal = record { normal = λ e. absurd (omega (arith, e)) };
+  normal = grind arith;
 }
 
 minus_one_read : (c : Class (codes "-1")) → Ok (Some (negsuc 0)) ≡ whole_answer c
 minus_one_read c =
-    sym (answer_whole (codes "-1") (number_of (negsuc 0) (pos 0)) minus_one
-    (record { digits = omega arith; power_low = omega (arith, ints); power_high = omega (arith, ints) })
+    sym (answer_whole (codes "-1") _ minus_one
+    (grind (arith, ints))
     (negsuc 0) c
-    (record { same = record { coefficients = refl }; small = omega arith }))
+    (grind arith))
 
 module _ (i j : ℕ) where
   module _ (reason : Reason) (count : Option ℕ) where

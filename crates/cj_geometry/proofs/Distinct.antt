@@ -1,5 +1,5 @@
 -- Distinct names, told by walks that each deal with the least names above the last ones.
-use Rattle.cj_geometry.proofs.Common.{All, AreNamesInOrder, Ascend, Bool, Contains, DuplicateName, Finding, IfSome, List, None, Option, Some, Tree, [], ap, are_same_texts, arith, cond, false, found_at, get_or, inl, inr, is_above, last_of, least, names_of, neighbours, one, refl, repeat_of, repeats, repeats_of, start_of, sym, text_of, true, ℕ, ◌++◌, ◌+◌, ◌<◌, ◌∙◌, ◌∷◌, ◌≡◌, ◌≤◌}
+use Rattle.cj_geometry.proofs.Common.{All, AreNamesInOrder, Ascend, Bool, Contains, DuplicateName, Finding, IfSome, List, None, Option, Some, Tree, [], ap, are_same_texts, arith, cond, false, found_at, inl, inr, is_above, last_of, least, names_of, neighbours, one, refl, repeat_of, repeats, repeats_of, start_of, sym, text_of, true, ℕ, ◌++◌, ◌+◌, ◌<◌, ◌∙◌, ◌∷◌, ◌≡◌, ◌≤◌}
 use Rattle.std.proofs.lemmas.Bool.{and_parts, cond_both, ltb-true}
 use Rattle.std.proofs.lemmas.List.Elements.{All-contains, All-head, All-tail, All-nil, All-cons, All-append, Contains-get_or, Contains-append_left, Contains-append_right, Contains-append_cases}
 use Rattle.cj_spans.proofs.Findings.{least-append}
@@ -23,7 +23,7 @@ told_if name t = cond (are_same_texts (text_of t) (text_of name)) (one Duplicate
 
 only_one : (b : Bool) (t : Tree) (f : Finding) → Contains (cond b (one DuplicateName t) []) f → (b ≡ true)
     × (f ≡ found_at (start_of t) DuplicateName)
-only_one true t f c = search (arith, contains_cases, contains_none)
+only_one true t f c = search arith
 only_one false t f c = absurd (contains_none f c)
 
 later_of : (name : Tree) (ms : List (Tree × Tree)) (f : Finding) → Contains (repeats_of name ms) f → (u : Tree)
@@ -32,8 +32,7 @@ later_of : (name : Tree) (ms : List (Tree × Tree)) (f : Finding) → Contains (
 later_of name [] f c = absurd (contains_none f c)
 later_of name (m ∷ ms) f c =
     elim (Contains-append_cases (told_if name m.0) (repeats_of name ms) f c) [
-      | inl h ↦ let e = only_one (are_same_texts (text_of m.0) (text_of name)) m.0 f h in
-          (m.0, contains_first m.0 (names_of ms), e.0, e.1)
+      | inl h ↦ grind (arith, only_one, contains_first)
       | inr h ↦ let r = later_of name ms f h in (r.0, contains_later m.0 (names_of ms) r.0 r.1, r.2, r.3)
     ]
 
@@ -63,16 +62,7 @@ repeat_is (m ∷ ms) o f c =
             is = r.3;
           }
       | inr h ↦
-          let r = repeat_is ms o.1 f h in
-          record {
-            earlier = r.earlier;
-            later = r.later;
-            first = contains_later m.0 (names_of ms) r.earlier r.first;
-            second = contains_later m.0 (names_of ms) r.later r.second;
-            same = r.same;
-            behind = r.behind;
-            is = r.is;
-          }
+          grind (arith, repeat_is ms o.1 f h, contains_later)
     ]
 
 -- ---- a later name of the same text has a finding
@@ -83,14 +73,10 @@ told_of : (name : Tree) (ms : List (Tree × Tree)) (u : Tree) → Contains (name
 told_of name [] u c s = absurd (contains_none u c)
 told_of name (m ∷ ms) u c s =
     elim (contains_cases m.0 (names_of ms) u c) [
-      | inl e ↦ Contains-append_left (told_if name m.0) (repeats_of name ms) (found_at (start_of u) DuplicateName)
-          (here e)
+      | inl e ↦ grind arith
       | inr d ↦ Contains-append_right (told_if name m.0) (repeats_of name ms) (found_at (start_of u) DuplicateName)
           (told_of name ms u d s)
     ]
-  where
-    here : m.0 ≡ u → Contains (told_if name m.0) (found_at (start_of u) DuplicateName)
-    here e = rw (e, s) (contains_first (found_at (start_of u) DuplicateName) [])
 
 pub repeat_told : (ms : List (Tree × Tree)) → AreNamesInOrder ms → (t u : Tree) → Contains (names_of ms) t
     → Contains (names_of ms) u → are_same_texts (text_of u) (text_of t) ≡ true → start_of t < start_of u
@@ -101,7 +87,7 @@ repeat_told (m ∷ ms) o t u ct cu s l =
       | inl e ↦ absurd (not_first e)
       | inr d ↦ elim (contains_cases m.0 (names_of ms) t ct) [
         | inl e ↦ Contains-append_left (repeats_of m.0 ms) (repeats ms) (found_at (start_of u) DuplicateName)
-            (told_of m.0 ms u d (ap (λ x. are_same_texts (text_of u) (text_of x)) e ∙ s))
+            (grind (arith, told_of))
         | inr c ↦ Contains-append_right (repeats_of m.0 ms) (repeats ms) (found_at (start_of u) DuplicateName)
             (repeat_told ms o.1 t u c d s l)
       ]
@@ -120,7 +106,7 @@ repeat_told (m ∷ ms) o t u ct cu s l =
 
 repeat_among : (ms : List (Tree × Tree)) → AreNamesInOrder ms → (floor : Option Tree) (t : Tree)
     → IfSome floor (Contains (names_of ms)) → Contains (names_of ms) t → All (Contains (repeats ms)) (repeat_of floor t)
-repeat_among ms o None t cf ct = All-nil (Contains (repeats ms))
+repeat_among ms o None t cf ct = All-nil _
 repeat_among ms o (Some u) t cf ct =
     search (arith, cond_both, and_parts, All-cons, repeat_told, ltb-true, All-nil)
 
@@ -158,7 +144,7 @@ reached_more {ms} o {old} {now} {floor} {last} {ts} r n e f =
     let more = neighbours_among ms o floor ts r.floor_named n.named in
     rw (e, f) (record {
       told = r.told ++ neighbours floor ts;
-      sum = ap (λ x. least x (neighbours floor ts)) r.sum ∙ sym (least-append old r.told (neighbours floor ts));
+      sum = grind (arith, least-append);
       right = All-append (Contains (repeats ms)) r.told (neighbours floor ts) r.right more;
       floor_named = last_among (names_of ms) floor ts r.floor_named n.named;
       dealt = all_dealt (names_of ms) now floor ts n.no_gap n.ascend n.past r.dealt;
@@ -173,7 +159,7 @@ pub all_reached : {ms : List (Tree × Tree)} → AreNamesInOrder ms → {old now
     → HasReached ms old now floor → ((t : Tree) → Contains (names_of ms) t → is_above floor t ≡ false)
     → now ≡ least old (repeats ms)
 all_reached {ms} o {old} {now} r done =
-    sym (told_all now (repeats ms) (λ k d l. told_at (get_or (repeats ms) k d) (Contains-get_or (repeats ms) k d l)))
+    sym (told_all now (repeats ms) (λ k d l. told_at _ (Contains-get_or (repeats ms) k d l)))
     ∙ ap (λ x. least x (repeats ms)) r.sum ∙ absorbed old r.told (repeats ms) r.right
   where
     told_at : (f : Finding) → Contains (repeats ms) f → least now (f ∷ []) ≡ now
@@ -215,10 +201,7 @@ fewer p q (t ∷ ts) u f c a b =
     let h = one_each (p t) (q t) (f t) in
     elim (contains_cases t ts u c) [
       | inl e ↦
-          let x : passed (p t) ≡ 1 = ap (λ v. passed (p v)) e ∙ ap passed a in
-          let y : passed (q t) ≡ 0 = ap (λ v. passed (q v)) e ∙ ap passed b in
-          let r = no_more p q ts f in
-          omega arith
+          grind (arith, no_more)
       | inr d ↦ let r = fewer p q ts u f d a b in omega arith
     ]
 
@@ -227,5 +210,5 @@ pub fewer_left : {ms : List (Tree × Tree)} {floor : Option Tree} {ts : List Tre
     → Contains ts t → is_above floor t ≡ true
     → left_above (names_of ms) (last_of floor ts) < left_above (names_of ms) floor
 fewer_left {ms} {floor} {ts} t n c a =
-    fewer (is_above floor) (is_above (last_of floor ts)) (names_of ms) t (λ u h. last_past floor ts n.ascend n.past u h)
+    fewer (is_above floor) _ (names_of ms) t (λ u h. last_past floor ts n.ascend n.past u h)
     (All-contains (Contains (names_of ms)) ts t n.named c) a (none_past floor ts t n.ascend c)

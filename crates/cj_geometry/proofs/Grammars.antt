@@ -30,17 +30,7 @@ exp_forth [] h = (pos 0, inl (refl, refl))
 exp_forth (b ∷ s) h =
     let sign = sign_forth h.1.sign h.1.sign_is in (
       signed sign.0 (digits_value h.1.digits),
-      inr (record {
-        mark = b;
-        negative = sign.0;
-        sign = h.1.sign;
-        digits = h.1.digits;
-        mark_is = h.0;
-        sign_is = sign.1;
-        digits_are = h.1.digits_are;
-        joined = ap (λ x. b ∷ x) h.1.joined;
-        value = refl;
-      }),
+      grind arith,
     )
 
 pub read_number : (s : List ℕ) → scanned.IsNumber s → SpellsNumber s
@@ -49,16 +39,7 @@ read_number s n =
     let frac = frac_forth n.frac n.frac_is in
     let exp = exp_forth n.exp n.exp_is in (
       record { negative = minus.0; int = n.int; frac = frac.0; exponent = exp.0 },
-      record {
-        minus = n.minus;
-        fraction = n.frac;
-        exp = n.exp;
-        minus_is = minus.1;
-        int_is = n.int_is;
-        frac_is = frac.1;
-        exp_is = exp.1;
-        joined = n.joined;
-      },
+      grind arith,
     )
 
 -- ---- what is read as a number is scanned as one
@@ -78,16 +59,16 @@ sign_back true s e = inr (inr e)
 
 exp_back : (e : ℤ) (s : List ℕ) → read.IsExp e s → scanned.IsExp s
 exp_back e s (inl (z, q)) = rw q tt
-exp_back e s (inr p) = search (arith, sign_back)
+exp_back e s (inr p) = search arith
 
 pub scanned_number : (s : List ℕ) → SpellsNumber s → scanned.IsNumber s
-scanned_number s (w, n) = search (arith, minus_back, frac_back, exp_back)
+scanned_number s (w, n) = search arith
 
 pub one_grammar : (s : List ℕ) → IsScalar Number s ↔ SpellsNumber s
 one_grammar s = (read_number s, scanned_number s)
 
 pub atom_number : (line : List ℕ) (i j : ℕ) → IsAtom line Number i j → SpellsNumber (slice_range line i j)
-atom_number line i j a = read_number (slice_range line i j) a.spelled
+atom_number line i j a = read_number _ a.spelled
 
 -- ---- what a text holds is spelled in it
 
@@ -114,7 +95,7 @@ module _ {b : List ℕ} where
   last_item : (ts : Items) (t v : Tree) → Spelled b t → (Contains (list_items ts) v → Spelled b v)
       → Contains (list_items (add_item ts t)) v → Spelled b v
   last_item ts t v last earlier h =
-      elim (Contains-push_cases (list_items ts) t v (rw items-add at h)) [
+      elim (Contains-push_cases _ t v (rw items-add at h)) [
         | inl k ↦ earlier k
         | inr e ↦ rw e at last
       ]
@@ -126,7 +107,7 @@ module _ {b : List ℕ} where
   last_value : (ms : Members) (n : Atom) (t : Tree) (m : Tree × Tree) → Spelled b t
       → (Contains (list_members ms) m → Spelled b m.1) → Contains (list_members (add_member ms n t)) m → Spelled b m.1
   last_value ms n t m last earlier h =
-      elim (Contains-push_cases (list_members ms) (scalar Text n, t) m (rw members-add at h)) [
+      elim (Contains-push_cases _ _ m (rw members-add at h)) [
         | inl k ↦ earlier k
         | inr e ↦ subst (λ x. Spelled b x.1) e last
       ]
@@ -154,7 +135,7 @@ module _ {b : List ℕ} where
 
   spelled_number : {i j : ℕ} {u : Tree} → Value b i j u → kind_of u ≡ Number → SpellsNumber (spelling_of b u)
   spelled_number (atom k i j a) e =
-      read_number (slice_range b i j) (rw e at a.spelled)
+      read_number _ (rw e at a.spelled)
   spelled_number _ e = cc
 
 pub held_number : (line : List ℕ) (t u : Tree) → Json line t → IsWithinTree t u → kind_of u ≡ Number

@@ -1,7 +1,7 @@
 -- What is kept of a list at even steps.
 use Rattle.cj_geometry.proofs.Common.{AreSizesAt, List, Tree, [], ap, arith, cases_lt, drop, get_or, inl, inr, length, length-set, refl, set, size, slice_get, suc, sym, take, total_size, zero, ℕ, ◌%◌, ◌++◌, ◌+◌, ◌-◌, ◌<◌, ◌∙◌, ◌∷◌, ◌≡◌, ◌≤◌}
-use Rattle.std.proofs.Common.{◌*◌, ◌/◌, mul-zero, get_or-set_same, get_or-set_other, take-append-drop}
-use Rattle.std.proofs.lemmas.Nat.{mul-le, div_below}
+use Rattle.std.proofs.Common.{◌*◌, ◌/◌, get_or-set_same, get_or-set_other, take-append-drop}
+use Rattle.std.proofs.lemmas.Nat.{div_below}
 
 -- of a walk over a list: what is left, and what was noted before it
 pub record IsNoted (places step : ℕ) (ts left : List Tree) (sizes : List ℕ) (place until sum : ℕ) : Type 0 where
@@ -35,7 +35,7 @@ begins step {ts} {left} sizes room below same small = search arith
 pub has_place : {places step : ℕ} {ts left : List Tree} (t : Tree) (rest : List Tree) {sizes : List ℕ}
     {place until passed : ℕ} → IsNoted places step ts left sizes place until passed → left ≡ t ∷ rest → until ≡ 0
     → place < places
-has_place {places} {step} t rest {place} w e z = search (arith, cases_lt, mul-le)
+has_place {places} {step} t rest {place} w e z = search arith
 
 -- it is noted
 pub noted_one : {places step : ℕ} {ts left : List Tree} (t : Tree) (rest : List Tree) {sizes : List ℕ}
@@ -43,7 +43,6 @@ pub noted_one : {places step : ℕ} {ts left : List Tree} (t : Tree) (rest : Lis
     → IsNoted places step ts left (set sizes place passed) (place + 1) step passed
 noted_one {step} {ts} {left} t rest {sizes} {place} {passed} w e z =
     let in_room = has_place t rest w e z in
-    let long = w.room in
     let at : place * step ≡ length ts - length left = (let n = w.next in omega arith) in
     record {
       room = length-set sizes place passed ∙ w.room;
@@ -73,19 +72,10 @@ pub passes : {places step : ℕ} {ts left : List Tree} (t : Tree) (rest : List T
 passes {ts} {left} t rest {passed} w e more =
     let count = ap length e in let sum = ap total_size e in let few = w.few in
     let one : suc (length ts - length left) ≡ length ts - length rest = omega arith in
-    record {
-      room = w.room;
-      below = w.below;
-      small = w.small;
-      few = omega arith;
-      rest = sym (rest_of (length ts - length left) ts t rest (sym w.rest ∙ e)) ∙ ap (λ k. drop k ts) one;
-      passed = omega arith;
-      next = omega arith;
-      noted = w.noted;
-    }
+    grind (arith, rest_of)
 
 steps_some : (places step n : ℕ) → n < places * step → 0 < step
-steps_some places zero n h = absurd (omega (arith, mul-zero places))
+steps_some places zero n h = absurd (omega arith)
 steps_some places (suc step) n h = omega arith
 
 -- both ways of a turn

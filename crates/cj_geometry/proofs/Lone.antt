@@ -1,10 +1,10 @@
 -- Items at the front of an array that hold nothing, and have no finding.
-use Rattle.cj_geometry.proofs.Common.{AreLone, Finding, IfSome, IsSome, List, None, Option, Reason, Some, Tree, [], ap, arith, drop, flat_map, index, is_outside, length, length-drop, nat_lt, nat_tests, not, pos, refl, scalar, size, suc, sym, take, total_size, whole_number, whole_of, zero, ℕ, ℤ, ◌++◌, ◌+◌, ◌<◌, ◌∙◌, ◌∷◌, ◌≡◌, ◌≤◌}
+use Rattle.cj_geometry.proofs.Common.{AreLone, Finding, IfSome, IsSome, List, None, Option, Reason, Some, Tree, [], ap, arith, drop, flat_map, index, is_outside, length, length-drop, nat_lt, not, pos, refl, scalar, size, suc, sym, take, total_size, whole_number, whole_of, zero, ℕ, ℤ, ◌++◌, ◌+◌, ◌<◌, ◌∙◌, ◌∷◌, ◌≡◌, ◌≤◌}
 use Rattle.std.proofs.Common.{get_or, take-append-drop}
 use Rattle.std.proofs.lemmas.List.{drop_more, take_more}
 use Rattle.std.proofs.lemmas.List.Concat.{flat_map-append}
 use Rattle.cj_geometry.proofs.ListSteps.{total_size-append}
-use Rattle.cj_geometry.proofs.Numbers.{index-of-whole, whole-told}
+use Rattle.cj_geometry.proofs.Numbers.{whole-told}
 
 -- ---- one item more
 
@@ -27,7 +27,7 @@ module _ (n : ℕ) (ts : List Tree) (t : Tree) (rest : List Tree) (next : drop n
 -- what is counted is less than what an array holds
 pub lone-below : {n : ℕ} {ts : List Tree} → AreLone n ts → n ≤ total_size ts
 lone-below {n} {ts} h =
-    omega (arith, total_size-append (take n ts) (drop n ts), ap total_size (take-append-drop n ts), h.sizes)
+    omega (arith, total_size-append (take n ts) (drop n ts), ap total_size (take-append-drop n ts))
 
 -- ---- a whole number
 
@@ -46,7 +46,7 @@ whole-none t w e = whole-told (λ w. []) t w e
 
 pub index-none : (t : Tree) (n bound : ℕ) → whole_of t ≡ Some (pos n) → (reason : Reason) (count : Option ℕ)
     → is_outside count (pos n) ≡ not (nat_lt n bound) → n < bound → index reason count t ≡ []
-index-none t n bound is reason count outside below = search (arith, nat_tests, index-of-whole)
+index-none t n bound is reason count outside below = search arith
 
 -- ---- the rest
 
@@ -70,3 +70,6 @@ pub left-falls : (n : ℕ) (ts : List Tree) {us vs : List Tree} → us ≡ drop 
     → n + 1 ≤ length ts
     → length vs < length us
 left-falls n ts a b l = search (arith, length-drop)
+
+-- what attributes of functions name
+pub ruleset lone_facts = (index-none, left-falls, lone-below, lone-more, whole-size, whole-there)

@@ -29,7 +29,7 @@ same_beside ks fs gs a = λ f. (
 
 pub absorbed : (o : Option Finding) (fs gs : List Finding) → All (Contains gs) fs → least (least o fs) gs ≡ least o gs
 absorbed o fs gs a = sym (least-append o fs gs)
-    ∙ least_only (list_found o ++ gs) (list_found o ++ (fs ++ gs)) (least o gs) (least o (fs ++ gs))
+    ∙ least_only _ _ (least o gs) _
     (same_beside (list_found o) fs gs a) (fold_least o gs) (fold_least o (fs ++ gs))
 
 -- ---- lists
@@ -46,10 +46,10 @@ pub contains_first : {X : Type 0} (x : X) (xs : List X) → Contains (x ∷ xs) 
 contains_first x xs = (0, omega arith, refl)
 
 pub contains_later : {X : Type 0} (x : X) (xs : List X) (y : X) → Contains xs y → Contains (x ∷ xs) y
-contains_later x xs y c = let l = c.1 in (suc c.0, omega arith, c.2)
+contains_later x xs y c = (suc c.0, omega arith, c.2)
 
 pub contains_none : {X : Type 0} (y : X) → Contains [] y → ⊥
-contains_none y c = let l = c.1 in absurd (omega arith)
+contains_none y c = absurd (omega arith)
 
 -- ---- what is told of a name
 
@@ -90,7 +90,7 @@ past_above (Some f) u h = λ t k. earlier_on f u t h k
 front : (ns : List Tree) (floor : Option Tree) (t : Tree) (ts : List Tree) → HaveNoGap ns floor (t ∷ ts)
     → All (λ u. is_earlier u t ≡ false) ts → (u : Tree) → Contains ns u → is_above floor u ≡ true
     → is_earlier u t ≡ false
-front ns floor t ts g a u c h = search (arith, contains_cases, earlier_itself, All-contains, All-head)
+front ns floor t ts g a u c h = search (arith, earlier_itself, All-contains, All-head)
 
 repeat_shown : (p t : Tree) → are_same_texts (text_of t) (text_of p) ≡ true → start_of p < start_of t
     → repeat_of (Some p) t ≡ one DuplicateName t
@@ -102,28 +102,21 @@ next_told : (ns : List Tree) (o : Option Finding) (floor : Option Tree) (n t u :
     → are_same_texts (text_of u) (text_of t) ≡ true → start_of t < start_of u → is_above floor u ≡ true
     → is_earlier n u ≡ false → IsTold (least o (repeat_of floor n)) u
 next_told ns o None n t u f ct cu s l a h =
-    let tu = earlier_by_start t u (sym (same_texts (text_of u) (text_of t) s)) l in
-    absurd (both_sides (on_upto t u n tu h) (f t ct refl))
+    absurd (both_sides (on_upto t u n (earlier_by_start t u (sym (same_texts (text_of u) (text_of t) s)) l) h)
+    (f t ct refl))
 next_told ns o (Some p) n t u f ct cu s l a h =
-    let tu = earlier_by_start t u (sym (same_texts (text_of u) (text_of t) s)) l in
-    let tn = on_upto t u n tu h in
+    let tn = on_upto t u n (earlier_by_start t u (sym (same_texts (text_of u) (text_of t) s)) l) h in
     let tie = tied u n (f u cu a) h in
-    let pt : is_earlier p t ≡ false = none_true (is_earlier p t) (λ k. both_sides tn (f t ct k)) in
+    let pt = none_true _ (λ k. both_sides tn (f t ct k)) in
     let pn = on_upto p u n a h in
-    let tu_text : text_of t ≡ text_of u = sym (same_texts (text_of u) (text_of t) s) in
-    let e : text_of p ≡ text_of n = text_between t p n (tu_text ∙ tie.text) pt pn in
-    let same : are_same_texts (text_of n) (text_of p) ≡ true =
-    ap (λ x. are_same_texts x (text_of p)) (sym tie.text)
-    ∙ ap (λ x. are_same_texts (text_of u) x) (e ∙ sym tie.text ∙ sym tu_text) ∙ s in
-    let r = repeat_shown p n same (start_by_earlier p n e pn) in
-    told_as (least o (repeat_of (Some p) n)) n u (sym tie.start)
-    (rw r (told_now o n))
+    let tu_text = sym (same_texts (text_of u) (text_of t) s) in
+    grind (arith, text_between, repeat_shown, start_by_earlier, told_as, told_now)
 
 dealt_more : (ns : List Tree) (o : Option Finding) (floor : Option Tree) (n : Tree)
     → ((x : Tree) → Contains ns x → is_above floor x ≡ true → is_earlier x n ≡ false) → AreDealt ns o floor
     → AreDealt ns (least o (repeat_of floor n)) (Some n)
 dealt_more ns o floor n f d = λ t u ct cu s l h.
-    by_side (is_above floor u) t u refl ct cu s l h
+    by_side _ t u refl ct cu s l h
   where
     by_side : (b : Bool) (t u : Tree) → is_above floor u ≡ b → Contains ns t → Contains ns u
         → are_same_texts (text_of u) (text_of t) ≡ true → start_of t < start_of u → is_above (Some n) u ≡ false
@@ -145,16 +138,16 @@ gap_on ns floor t ts g p = λ u c h.
     ]
 
 past_rest : (t : Tree) (ts : List Tree) → All (λ u. is_earlier u t ≡ false) ts → All (IsPast (Some t)) ts
-past_rest t ts a = λ k d l v h. upto_on t (get_or ts k d) v (a k d l) h
+past_rest t ts a = λ k d l v h. upto_on t _ v (a k d l) h
 
 pub all_dealt : (ns : List Tree) (o : Option Finding) (floor : Option Tree) (ts : List Tree) → HaveNoGap ns floor ts
     → Ascend ts → All (IsPast floor) ts → AreDealt ns o floor
     → AreDealt ns (least o (neighbours floor ts)) (last_of floor ts)
 all_dealt ns o floor [] g a p d = d
 all_dealt ns o floor (t ∷ ts) g a p d =
-    let e = dealt_more ns o floor t (front ns floor t ts g a.0) d in
     let r = all_dealt ns (least o (repeat_of floor t)) (Some t) ts
-    (gap_on ns floor t ts g (All-head (IsPast floor) t ts p)) a.1 (past_rest t ts a.0) e in
+    (gap_on ns floor t ts g (All-head (IsPast floor) t ts p)) a.1 (past_rest t ts a.0)
+    (dealt_more ns o floor t (front ns floor t ts g a.0) d) in
     rw least-append r
 
 -- ---- the last of them
@@ -170,7 +163,7 @@ none_past floor (t ∷ []) u a c =
     ]
 none_past floor (t ∷ v ∷ ts) u a c =
     elim (contains_cases t (v ∷ ts) u c) [
-      | inl e ↦ rw (← e) (past_last (last_of (Some v) ts) t v (All-head (λ x. is_earlier x t ≡ false) v ts a.0)
+      | inl e ↦ rw (← e) (past_last _ t v (All-head (λ x. is_earlier x t ≡ false) v ts a.0)
           (none_past (Some t) (v ∷ ts) v a.1 (contains_first v ts)))
       | inr d ↦ none_past (Some t) (v ∷ ts) u a.1 d
     ]

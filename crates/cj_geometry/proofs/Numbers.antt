@@ -1,5 +1,5 @@
 -- What reading a number says of its findings.
-use Rattle.cj_geometry.proofs.Common.{Class, DecimalFault, Err, Finding, IfSome, IsInt, IsNumberInRange, IsNumberOutOfRange, IsSome, List, None, NotWhole, Number, Ok, Option, Reason, Result, Some, SpellsNumber, Tree, [], ap, arith, cond, decimal_of, fault_reason, get_or, index, inl, inr, is_outside, kind_by, kind_of, least, nat_tests, number, of_z, one, option_and_then, pos, refl, result_ok, scalar, slice_range, spelling, spelling_of, sym, to_z, value_findings, w64, whole_answer, whole_findings, whole_of, ℕ, ℤ, ◌<◌, ◌^◌, ◌∙◌, ◌∷◌, ◌≡◌, ◌≤◌}
+use Rattle.cj_geometry.proofs.Common.{Class, DecimalFault, Err, Finding, IfSome, IsInt, IsNumberInRange, IsNumberOutOfRange, IsSome, List, None, NotWhole, Number, Ok, Option, Reason, Result, Some, SpellsNumber, Tree, [], ap, arith, cond, decimal_of, fault_reason, get_or, index, inl, inr, is_outside, kind_by, kind_of, least, number, of_z, one, option_and_then, pos, refl, result_ok, scalar, slice_range, spelling, spelling_of, sym, to_z, value_findings, w64, whole_answer, whole_findings, whole_of, ℕ, ℤ, ◌<◌, ◌^◌, ◌∙◌, ◌∷◌, ◌≡◌, ◌≤◌}
 use Rattle.std.proofs.Common.{unsigned_abs, unwrap_or}
 use Rattle.std.proofs.lemmas.Int.{to_z-of_z, fits_signed_from_abs}
 use Rattle.cj_geometry.specs.Meaning.Numbers.{of_whole}
@@ -82,11 +82,11 @@ by-whole rule t (Err e) w is = absurd (cc is)
 
 -- a rule on a whole number is that on its value
 pub whole-told : (rule : ℤ → List Finding) (t : Tree) (w : ℤ) → whole_of t ≡ Some w → of_whole rule t ≡ rule w
-whole-told rule t w is = search (arith, whole-kind, by-whole)
+whole-told rule t w is = search arith
 
 pub index-of-whole : (t : Tree) (w : ℤ) → whole_of t ≡ Some w → (reason : Reason) (count : Option ℕ)
     → index reason count t ≡ cond (is_outside count w) (one reason t) []
-index-of-whole t w is reason count = whole-told (λ w. cond (is_outside count w) (one reason t) []) t w is
+index-of-whole t w is reason count = whole-told (λ w. cond _ (one reason t) []) t w is
 
 -- an index has no finding but at itself
 pub index-told : {found : Option Finding} (t : Tree) → ((r : Reason) → least found (one r t) ≡ found)
@@ -109,23 +109,23 @@ module _ (line : List ℕ) (t : Tree) (kind : kind_of t ≡ Number) where
   pub number-fault : (e : DecimalFault) → (e ≡ NotANumber → ¬ SpellsNumber (spelling_of line t))
       → (e ≡ OutOfRange → IsNumberOutOfRange (spelling_of line t)) → number t ≡ one (fault_reason e) t
   number-fault e none out =
-      rw kind (number-class t (class (spelling t))
+      rw kind (number-class t _
       ∙ ap (number-by t) (answer_fault (spelling t) e (class (spelling t)) (rw spelled at none) (rw spelled at out)))
 
   -- with what a call has read of the spelling, which is s
   module _ (s : List ℕ) (same : s ≡ spelling_of line t) (r q : Result (Option ℤ) DecimalFault)
       (read : (c : Class s) → r ≡ whole_answer c) (is : r ≡ q) where
     answer : whole_answer (class (spelling t)) ≡ q
-    answer = sym ((rw (same ∙ spelled) at read) (class (spelling t))) ∙ is
+    answer = sym ((rw (same ∙ spelled) at read) _) ∙ is
 
     pub index-read : (reason : Reason) (count : Option ℕ) → index reason count t ≡ index-by reason count t q
     index-read reason count = search (arith, index-class, class, answer)
 
     pub whole-read : whole_of t ≡ whole-if q
-    whole-read = rw kind (whole-class (class (spelling t)) ∙ ap whole-if answer)
+    whole-read = rw kind (whole-class _ ∙ ap whole-if answer)
 
     pub number-read : number t ≡ number-by t q
-    number-read = rw kind (number-class t (class (spelling t)) ∙ ap (number-by t) answer)
+    number-read = rw kind (number-class t _ ∙ ap (number-by t) answer)
 
   -- with the whole number that a call may have read of it
   module _ (s : List ℕ) (same : s ≡ spelling_of line t) where
@@ -144,11 +144,11 @@ module _ (line : List ℕ) (t : Tree) (kind : kind_of t ≡ Number) where
 
 -- ---- what stands in a line as few digits is a number
 digit-kind : (b : ℕ) → 45 ≤ b → b < 64 → kind_by b ≡ Number
-digit-kind b low high = grind (arith, nat_tests)
+digit-kind b low high = grind arith
 
 int-first : (s : List ℕ) → IsInt s → (45 ≤ get_or s 0 0) × (get_or s 0 0 < 64)
 int-first [] int = absurd int
-int-first (b ∷ t) (inl zero) = let e = zero.0 in (omega arith, omega arith)
+int-first (b ∷ t) (inl zero) = (omega arith, omega arith)
 int-first (b ∷ t) (inr more) = search arith
 
 signed-first : (s : List ℕ) → IsFewSigned s → (45 ≤ get_or s 0 0) × (get_or s 0 0 < 64)
@@ -157,7 +157,7 @@ signed-first s (inr minus) = search arith
 
 kind-at : (line : List ℕ) (start stop : ℕ) → start < stop → (45 ≤ get_or (slice_range line start stop) 0 0)
     × (get_or (slice_range line start stop) 0 0 < 64) → kind_by (byte line start) ≡ Number
-kind-at line start stop order first = search (arith, first_is, digit-kind)
+kind-at line start stop order first = search (arith, first_is)
 
 -- where a node stands, and what was read there
 module _ {line b : List ℕ} (t : Tree) (start stop : ℕ) (e : b ≡ line) (order : start < stop)
@@ -165,16 +165,16 @@ module _ {line b : List ℕ} (t : Tree) (start stop : ℕ) (e : b ≡ line) (ord
   read-there : (w : ℤ) → kind_by (byte line start) ≡ Number
       → ((c : Class (slice_range b start stop)) → whole_answer c ≡ Ok (Some w)) → whole_of t ≡ Some w
   read-there w number answer =
-      whole-there line t (sym kind ∙ number) (slice_range line start stop) same w (rw e at answer)
+      whole-there line t (sym kind ∙ number) _ same w (rw e at answer)
 
   pub few-there : (n : ℕ) → IsFewDigits (slice_range b start stop)
       → ((c : Class (slice_range b start stop)) → whole_answer c ≡ Ok (Some (pos n))) → whole_of t ≡ Some (pos n)
-  few-there n few answer = search (arith, read-there, kind-at, int-first)
+  few-there n few answer = search (arith, read-there, kind-at)
 
   pub signed-there : (w : ℤ) → IsFewSigned (slice_range b start stop)
       → ((c : Class (slice_range b start stop)) → whole_answer c ≡ Ok (Some w)) → whole_of t ≡ Some w
   signed-there w few answer =
-      read-there w (kind-at line start stop order (signed-first (slice_range line start stop) (rw e at few))) answer
+      read-there w (kind-at line start stop order (signed-first _ (rw e at few))) answer
 
   pub few-there-if : (o : Option ℕ) → (IsSome o → IsFewDigits (slice_range b start stop))
       → IfSome o (λ n. (c : Class (slice_range b start stop)) → whole_answer c ≡ Ok (Some (pos n)))
@@ -192,8 +192,7 @@ module _ {line b : List ℕ} (t : Tree) (start stop : ℕ) (e : b ≡ line) (ord
   pub begun-there : (kind_of t ≡ Number → scanned.IsNumber (slice_range line start stop))
       → IsNumberIfBegun (slice_range b start stop)
   begun-there number =
-      rw e (λ low high. read_number (slice_range line start stop)
-      (number (sym kind ∙ kind-at line start stop order (low, high))))
+      rw e (grind (arith, read_number, kind-at))
 
   pub word-there-if : (o : Option ℕ) → kind_of t ≡ Number
       → IfSome o (λ d. (n : ℕ) × IsWordOf d n
@@ -201,3 +200,6 @@ module _ {line b : List ℕ} (t : Tree) (start stop : ℕ) (e : b ≡ line) (ord
       → IfSome o (λ d. (n : ℕ) × IsWordOf d n × (whole_of t ≡ Some (pos n)))
   word-there-if None number read = read
   word-there-if (Some d) number read = (read.0, read.1, read-there (pos read.0) (kind ∙ number) read.2)
+
+-- what attributes of functions name
+pub ruleset number_facts = (begun-there, index-told)

@@ -1,7 +1,7 @@
 -- The table of types, row by row.
-use Rattle.cj_geometry.proofs.Common.{Bool, List, None, Option, Some, Tree, [], ap, bytes_eq-Decides, chars, cond, false, has_text, length, nat_eq, number_of, refl, row_at, row_numbered, sym, text_of, true, ℕ, ◌&&◌, ◌<◌, ◌∙◌, ◌∷◌, ◌≡◌}
+use Rattle.cj_geometry.proofs.Common.{Bool, List, None, Option, Some, Tree, [], ap, bytes_eq-Decides, chars, cond, false, has_text, length, nat_eq, number_of, refl, row_at, row_numbered, sym, text_of, true, ℕ, ◌&&◌, ◌<◌, ◌∙◌, ◌∷◌, ◌≡◌, arith}
 use Rattle.std.proofs.Common.{nat_le, lit<, eqb-true, bytes_eq}
-use Rattle.std.proofs.lemmas.Bool.{agree_below, agree_below_at, and_parts}
+use Rattle.std.proofs.lemmas.Bool.{agree_below, agree_below_at}
 use Rattle.cj_spans.specs.Meaning.Text.{are_same}
 use Rattle.cj_geometry.proofs.Texts.{text-is}
 use Rattle.cj_geometry.specs.Meaning.ObjectTypes.{ObjectRow, object_types, row_in, row_of}
@@ -89,12 +89,7 @@ is_row (Some r) q = bytes_eq r.name q.name && (bool_same r.is_second q.is_second
 row-is : (o : Option ObjectRow) (q : ObjectRow) → is_row o q ≡ true → o ≡ Some q
 row-is None q h = cc
 row-is (Some r) q h =
-    let parts = and_parts (bytes_eq r.name q.name) (bool_same r.is_second q.is_second && nat_eq r.number q.number) h in
-    let others = and_parts (bool_same r.is_second q.is_second) (nat_eq r.number q.number) parts.1 in
-    let name = (bytes_eq-Decides r.name q.name).0 parts.0 in
-    let level = same-bool r.is_second q.is_second others.0 in
-    let number = eqb-true r.number q.number others.1 in
-    λ i. Some (record { name = name i; is_second = level i; number = number i })
+    grind (arith, bytes_eq-Decides, same-bool)
 
 each-named : agree_below (λ k. is_row (row_with object_types (chars (row_numbered k).name)) (row_numbered k)) always 33
     ≡ true
@@ -104,7 +99,7 @@ each-named = refl
 is-named : (n : ℕ) → n < 33 → row_with object_types (chars (row_numbered n).name) ≡ Some (row_numbered n)
 unfolding always
 is-named n small =
-    row-is (row_with object_types (chars (row_numbered n).name)) (row_numbered n)
+    row-is _ _
     (agree_below_at (λ k. is_row (row_with object_types (chars (row_numbered k).name)) (row_numbered k)) always 33 n
     each-named small)
 
@@ -113,7 +108,7 @@ is-named n small =
 -- a text that is the name of a type is of that type alone
 pub of-name : (n : ℕ) (t : Tree) → n < 33 → has_text (chars (row_numbered n).name) t ≡ true
     → row_of t ≡ Some (row_numbered n)
-of-name n t small h = of-text object_types (chars (row_numbered n).name) t (text-is (chars (row_numbered n).name) t h)
+of-name n t small h = of-text object_types _ t (text-is _ t h)
     ∙ is-named n small
 
 pub of-name-type : (o : ObjectType) (t : Tree) → has_text (chars (row_at o).name) t ≡ true → row_of t ≡ Some (row_at o)
@@ -122,3 +117,6 @@ of-name-type o t h = of-name (number_of o) t (number-below o) h
 pub of-self : {o p : ObjectType} (t : Tree) → o ≡ p → has_text (chars (row_at p).name) t ≡ true
     → row_of t ≡ Some (row_at o)
 of-self {p} t is h = rw is (of-name-type p t h)
+
+-- what attributes of functions name
+pub ruleset type_facts = (type-number)

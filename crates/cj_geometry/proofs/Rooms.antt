@@ -2,7 +2,7 @@
 use Rattle.cj_geometry.proofs.Common.{All, All-permutation, AreLeast, Ascend, Bool, Contains, HoldNames, IfSome, IsHeldName, IsPermutation, IsWorded, List, None, Option, Some, Source, TakeOne, Tree, WordedName, [], ap, arith, compare_worded, drop, false, get_or, inl, inr, is_above, is_below, is_earlier, is_lt, is_past, is_some, last_of, length, length-append, length-drop, length-take-le, limit_in, map, name_in, names_in, names_of, refl, set, sym, take, true, ℕ, ◌&&◌, ◌++◌, ◌+◌, ◌<◌, ◌∙◌, ◌∷◌, ◌≡◌, ◌≤◌, ◌⊎◌}
 use Rattle.std.proofs.lemmas.Grind.{common_steps}
 use Rattle.std.proofs.lemmas.List.{get_or-map, length-map, map-append, take_more_set}
-use Rattle.std.proofs.lemmas.List.Elements.{All-contains, All-head, All-tail, All-nil, All-push, All-map, Contains-get_or, Contains-append_left, Contains-append_right, Contains-append_cases, Contains-push, All-contains_itself}
+use Rattle.std.proofs.lemmas.List.Elements.{All-contains, All-head, All-tail, All-push, All-map, Contains-get_or, Contains-append_left, Contains-append_right, Contains-append_cases, Contains-push, All-contains_itself}
 use Rattle.std.proofs.lemmas.List.Sorted.{length_permutation, Contains-permutation, IsPermutation-sym}
 use Rattle.cj_geometry.proofs.Ordered.{earlier_itself, earlier_not_back, on_upto, upto_upto, both_sides, none_true}
 use Rattle.cj_geometry.proofs.WordedNames.{less_as_earlier}
@@ -12,7 +12,7 @@ use Rattle.cj_geometry.proofs.Distinct.{AreNext, left_above, fewer_left}
 -- ---- lists
 
 pub contains_map : {X Y : Type 0} (f : X → Y) (xs : List X) (x : X) → Contains xs x → Contains (map f xs) (f x)
-contains_map f xs x c = search (arith, get_or-map, Contains-get_or, length-map)
+contains_map f xs x c = search (arith, get_or-map, length-map)
 
 pub contains_unmap : {X Y : Type 0} (f : X → Y) (xs : List X) (y : Y) → Contains (map f xs) y → (x : X) × Contains xs x
     × (f x ≡ y)
@@ -30,13 +30,12 @@ pub full_least : {s : Source} (room : List WordedName) (n : ℕ) (e : WordedName
     → take (length least) new ≡ least → AreLeast s (take n room ++ e ∷ []) (take (length least) new) c
 full_least {s} room n e {least} new {c} l f a h =
     let all : take (n + 1) (set room n e) ≡ set room n e = grind (arith, common_steps) in
-    let p : set room n e ≡ take n room ++ e ∷ [] = sym all ∙ take_more_set room n e l in
-    rw (h, ← p) a
+    grind (arith, take_more_set)
 
 -- ---- a walk begins, and passes a name over
 
 pub holds_first : (s : Source) (names : List Tree) (floor : Option Tree) → HoldNames s names names floor None []
-holds_first s names floor = search (arith, All-nil)
+holds_first s names floor = search arith
 
 pub holds_passed : {s : Source} {names : List Tree} (left : List Tree) {floor ceiling : Option Tree}
     {es : List WordedName} (t : Tree)
@@ -85,7 +84,7 @@ front_among : {s : Source} {es front : List WordedName} {next : WordedName} → 
     → (e : WordedName) → Contains front e → Contains es e
 front_among {es} {front} {next} a e c =
     Contains-permutation _ es e (IsPermutation-sym es _ a.permutation)
-    (Contains-append_left front (next ∷ a.others) e c)
+    (Contains-append_left front _ e c)
 
 pub next_among : {s : Source} {es front : List WordedName} {next : WordedName} → AreLeast s es front next
     → Contains es next
@@ -102,7 +101,7 @@ pub holds_least : {s : Source} {names left : List Tree} {floor ceiling : Option 
     {next : WordedName} → HoldNames s names left floor ceiling es → AreLeast s es front next
     → HoldNames s names left floor (Some (name_in s next)) front
 holds_least {s} {names} {left} {floor} {ceiling} {es} {front} {next} h a = record {
-  held = λ k d l. held_on (get_or front k d) (Contains-get_or front k d l);
+  held = λ k d l. held_on _ (Contains-get_or front k d l);
   whole = λ t c up b. still t b (h.whole t c up (below_more ceiling t (name_in s next) n.under b));
 }
   where
@@ -175,7 +174,7 @@ gathered_more {s} {names} left {floor} ceiling next e t es new f w a b o g =
       word = w;
       named = rw f (All-head (Contains names) t left g.rest);
       above = a;
-      under = below_under (limit_in s ceiling) (name_in s e) b;
+      under = below_under _ (name_in s e) b;
     } in
     by_room o (holds_pushed left i (rw f g.holds))
   where
@@ -202,7 +201,7 @@ still_there s fs t p (inr c) = absurd (contains_none t c)
 
 gap_none : {s : Source} {ns : List Tree} {floor ceiling : Option Tree} {es : List WordedName} (fs : List WordedName)
     → HoldNames s ns [] floor ceiling es → IsPermutation es fs → HaveNoGap ns floor (names_in s fs)
-gap_none {s} {ns} {floor} {ceiling} {es} fs h p = λ t c a. by_side (is_below ceiling t) t refl c a
+gap_none {s} {ns} {floor} {ceiling} {es} fs h p = λ t c a. by_side _ t refl c a
   where
     behind : (o : Option Tree) (t u : Tree) → is_below o t ≡ false → is_past o u ≡ false → is_earlier t u ≡ false
     behind None t u b k = absurd (both_sides refl b)
@@ -226,7 +225,7 @@ are_next {s} ms {floor} {ceiling} {es} fs h p a =
       ascend = a;
       named = All-map (Contains (names_of ms)) (name_in s) fs (λ k d l. (moved k d l).named);
       past = All-map (IsPast floor) (name_in s) fs
-          (λ k d l. past_above floor (name_in s (get_or fs k d)) (moved k d l).above);
+          (grind (arith, past_above));
       no_gap = gap_none fs h p;
     }
 
@@ -245,9 +244,7 @@ pub room_kept : (n : ℕ) (room fs : List WordedName) → n ≤ length room → 
 room_kept n room fs h p =
     let a = length_permutation (take n room) fs p in
     let b = length-take-le n room h in
-    let c = length-drop n room in
-    let d = length-append fs (drop n room) in
-    omega arith
+    grind (arith, length-drop, length-append)
 
 -- the first of the names that a walk gathered is above the floor
 pub first_held : {s : Source} (ms : List (Tree × Tree)) {floor ceiling : Option Tree} (es fs : List WordedName)

@@ -24,3 +24,6 @@ values-one m {d} t b h k =
     values-array m d t b (omega arith) k
     ∙ ap (λ e. other_count t b ++ paired (values m e) (items_of t) (items_if b)) low
     ∙ ap (λ fs. other_count t b ++ fs) (beside-entries m (items_of t) (items_if b))
+
+-- what attributes of functions name
+pub ruleset shape_facts = (shape-array, values-array, values-one)

@@ -11,7 +11,7 @@ few-signed {s} w short = search arith
 
 short-none : {line : List ℕ} {t : Tree} → IsShortWhole line t → whole_number t ≡ []
 short-none {line} {t} w =
-    let r = few_whole (spelling_of line t) (few-signed w.whole w.short) in
+    let r = few_whole _ (few-signed w.whole w.short) in
     whole-none t r.0 (whole-there line t w.kind (spelling_of line t) refl r.0 r.1)
 
 each-none : (line : List ℕ) (ts : List Tree) → All (IsShortWhole line) ts → flat_map whole_number ts ≡ []

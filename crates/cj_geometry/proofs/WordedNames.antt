@@ -1,5 +1,5 @@
 -- Names with the words of their texts are ordered as their names are.
-use Rattle.cj_geometry.proofs.Common.{All, AreLeast, Ascend, Equal, Greater, IsPermutation, IsSortedBy, IsWorded, Less, List, Ordering, Source, Tree, WordedName, [], ap, arith, cases_order, compare_names, compare_worded, false, get_or, inl, inr, is_earlier, is_lt, length, name_in, names_in, nat_cmp, nat_tests, ranks_by, sorted_far, start_of, suc, sym, text_of, word_in, ℕ, ◌++◌, ◌<◌, ◌∙◌, ◌∷◌, ◌≡◌, ◌≤◌}
+use Rattle.cj_geometry.proofs.Common.{All, AreLeast, Ascend, Equal, Greater, IsPermutation, IsSortedBy, IsWorded, List, Ordering, Source, Tree, WordedName, [], ap, arith, cases_order, compare_names, compare_worded, false, get_or, inl, inr, is_earlier, is_lt, length, name_in, names_in, nat_cmp, ranks_by, sorted_far, suc, text_of, word_in, ℕ, ◌++◌, ◌<◌, ◌∙◌, ◌∷◌, ◌≡◌, ◌≤◌}
 use denote.Param.Members.{Mut}
 use denote.Ref.{Bor}
 use Rattle.std.specs.Cmp.{IsTotalOrder, then_total, on_total, nat_cmp_total}
@@ -16,26 +16,23 @@ use Rattle.cj_geometry.proofs.Ordered.{less_number, order}
 -- ---- the words go along with the texts
 
 same_numbers : (m n : ℕ) → m ≡ n → nat_cmp m n ≡ Equal
-same_numbers m n h = grind (arith, nat_tests)
+same_numbers m n h = grind arith
 
 greater_numbers : (m n : ℕ) → n < m → nat_cmp m n ≡ Greater
-greater_numbers m n h = grind (arith, nat_tests)
+greater_numbers m n h = grind arith
 
 words_first : (t u : Tree) {v w : ℕ} → v ≡ front_word (text_of t) → w ≡ front_word (text_of u)
     → ordering_then (nat_cmp v w) (compare_names t u) ≡ compare_names t u
 words_first t u {v} {w} e f =
     elim (cases_order v w) [
-      | inl s ↦ ap (λ r. ordering_then r (compare_names t u)) (same_numbers v w s)
+      | inl s ↦ grind (arith, same_numbers)
       | inr (inl l) ↦
-          let h : compare_texts (text_of t) (text_of u) ≡ Less = less_by_words (text_of t) (text_of u) (omega arith) in
-          ap (λ r. ordering_then r (compare_names t u)) (less_number v w l)
-          ∙ sym (ap (λ r. ordering_then r (nat_cmp (start_of t) (start_of u))) h)
+          grind (arith, less_by_words, less_number)
       | inr (inr g) ↦
-          let h : compare_texts (text_of u) (text_of t) ≡ Less = less_by_words (text_of u) (text_of t) (omega arith) in
+          let h = less_by_words (text_of u) (text_of t) (omega arith) in
           let k : compare_texts (text_of t) (text_of u) ≡ Greater =
           (options_total nat_list_cmp_total).antisymm (text_of t) (text_of u) ∙ ap ordering_reverse h in
-          ap (λ r. ordering_then r (compare_names t u)) (greater_numbers v w g)
-          ∙ sym (ap (λ r. ordering_then r (nat_cmp (start_of t) (start_of u))) k)
+          grind (arith, greater_numbers)
     ]
 
 pub worded_as_names : (s : Source) (d e : WordedName) → IsWorded s d → IsWorded s e
@@ -56,7 +53,7 @@ each_later : (s : Source) (e : WordedName) (es : List WordedName) → IsWorded s
     → ((k : ℕ) (d : WordedName) → k < length es → is_lt (compare_worded s (get_or es k d) e) ≡ false)
     → All (λ u. is_earlier u (name_in s e) ≡ false) (names_in s es)
 each_later s e es h a f = All-map (λ u. is_earlier u (name_in s e) ≡ false) (name_in s) es
-    (λ k d l. sym (less_as_earlier s (get_or es k d) e (a k d l) h) ∙ f k d l)
+    (grind (arith, less_as_earlier))
 
 pub ascend_by : (s : Source) (es : List WordedName) → All (IsWorded s) es
     → ((i j : ℕ) (d : WordedName) → i ≤ j → j < length es → is_lt (compare_worded s (get_or es j d) (get_or es i d))
@@ -71,7 +68,7 @@ ascend_by s (e ∷ es) a f = (
 pub ascend_sorted : (s : Source) (es : List WordedName) → All (IsWorded s) es
     → IsSortedBy (λ d e. is_lt (compare_worded s d e)) es → Ascend (names_in s es)
 ascend_sorted s es a h =
-    ascend_by s es a (sorted_far (λ d e. is_lt (compare_worded s d e)) (ranks_by (worded_order s) (λ e. e)) es h)
+    ascend_by s es a (sorted_far (λ d e. is_lt _) (ranks_by (worded_order s) (λ e. e)) es h)
 
 -- ---- what a closure that compares by an order has a sort do
 

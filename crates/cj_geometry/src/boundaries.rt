@@ -16,6 +16,7 @@ use cj_spans::{Kind, Least, Node, Reason};
 /// It first counts the valid indices at the front, in a loop that does nothing else. All rules are
 /// checked for the rest.
 #[inline(always)]
+#[tactic(auto, using(cj_spans::proofs::Findings::least_on))]
 fn check_indices(node: Node, vertices: Bound, found: &mut Least)
     ensures { found.new ≡ least found.old (shape vertices.count 1 (tree node.entry)) }
 {
@@ -32,6 +33,7 @@ fn check_indices(node: Node, vertices: Bound, found: &mut Least)
 
 /// Checks that the value is a list of such lists: a surface of rings.
 #[inline(always)]
+#[tactic(auto, using(crate::proofs::OfKind::finding_steps))]
 fn check_rings(node: Node, vertices: Bound, found: &mut Least)
     ensures { found.new ≡ least found.old (shape vertices.count 2 (tree node.entry)) }
 {
@@ -47,6 +49,7 @@ fn check_rings(node: Node, vertices: Bound, found: &mut Least)
 
 /// Checks that the value has lists of this depth, and below them indices of vertices. Most lists
 /// are in surfaces, which it reads without a call for each.
+#[tactic(auto, using(crate::proofs::OfKind::finding_steps, crate::proofs::Shapes::shape_facts))]
 fn check_shape(node: Node, depth: u8, vertices: Bound, found: &mut Least)
     ensures { found.new ≡ least found.old (shape vertices.count depth (tree node.entry)) }
 {

@@ -56,6 +56,7 @@ fn note_sizes(list: Node, step: u64, sizes: &mut [u32])
 
 /// Returns the item of a number below the count. `sizes` are the records at each multiple of
 /// `step`.
+#[tactic(auto, using(crate::proofs::ListSteps::found_item))]
 fn item_behind<'a>(list: Node<'a>, step: u64, sizes: &[u32], number: u64) -> Option<Node<'a>>
     requires some { 0 < step }
     requires sizes { AreSizesAt step (items_of (tree list)) sizes.now }

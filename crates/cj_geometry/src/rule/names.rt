@@ -71,6 +71,7 @@ fn check_later(name: Node, rest: Members, found: &mut Least)
 
 /// The names of an object are distinct. Each is compared with each later one.
 #[inline(always)]
+#[tactic(auto, using(crate::proofs::OfKind::finding_steps))]
 fn check_pairs(object: Node, found: &mut Least)
     ensures { found.new ≡ least found.old (distinct (tree object.entry)) }
 {
@@ -155,6 +156,7 @@ fn put_back(room: &mut [WordedName], kept: &[WordedName])
 }
 
 /// Adds a name to the array. If the array is full then, it keeps the least names.
+#[tactic(auto, using(crate::proofs::Rooms::full_least))]
 fn put(
     object: Node,
     name: WordedName,

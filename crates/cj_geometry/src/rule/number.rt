@@ -70,6 +70,7 @@ fn read_more(node: Node) -> Option<u64>
 /// Returns the value of a number of at most eight digits. It reads the line there and does not test
 /// the kind. None for any other value, and near the start of the line.
 #[inline(always)]
+#[tactic(auto, using(crate::proofs::Numbers::number_facts))]
 fn read_word(node: Node) -> Option<u64>
     ensures { IfSome result (λ n. (n < 10 ^ 18) × (whole_of (tree node.entry) ≡ Some (pos n))) }
 {
@@ -107,6 +108,7 @@ fn read_more_signed(node: Node) -> Option<i64>
 /// Returns the value of a number of at most eight digits, perhaps with a minus, as [`read_word`]
 /// reads it.
 #[inline(always)]
+#[tactic(auto, using(crate::proofs::Numbers::number_facts))]
 fn read_word_signed(node: Node) -> Option<i64>
     ensures { IfSome result (λ w. whole_of (tree node.entry) ≡ Some w) }
 {
@@ -154,6 +156,7 @@ pub fn read_whole(node: Node) -> Option<i64>
 /// Returns the digits of a whole number as a word ([`Decimal::read_word_in`]), if they are at most
 /// eight. None for any other whole number, and near the start of the line.
 #[inline(always)]
+#[tactic(auto, using(crate::proofs::Numbers::number_facts))]
 pub fn read_whole_word(node: Node) -> Option<u64>
     requires { (w : ℤ) × (whole_of (tree node) ≡ Some w) }
     ensures { IfSome result (λ d. (n : ℕ) × IsWordOf d n × (whole_of (tree node.entry) ≡ Some (pos n))) }
@@ -252,6 +255,7 @@ impl Bound {
 /// Returns whether the value is a number of at most eight digits below the bound. It reads the line
 /// as [`read_word`] does, and computes no value.
 #[inline(always)]
+#[tactic(auto, using(crate::proofs::Numbers::number_facts))]
 pub(crate) fn is_few_below(node: Node, bound: Bound) -> bool
     ensures { IsTrue result → (n : ℕ) × (n < bound.limit) × (n < 10 ^ 18)
         × (whole_of (tree node.entry) ≡ Some (pos n)) }
@@ -262,6 +266,7 @@ pub(crate) fn is_few_below(node: Node, bound: Bound) -> bool
 
 /// Does what [`check_index`] does, with a bound. Nearly all indices are below it.
 #[inline(always)]
+#[tactic(auto, using(crate::proofs::Lone::lone_facts, crate::proofs::Numbers::number_facts))]
 pub fn check_index_below(node: Node, outside: Reason, bound: Bound, found: &mut Least)
     ensures { found.new ≡ least found.old (index outside bound.count (tree node.entry)) }
 {
@@ -278,6 +283,7 @@ pub fn check_index_below(node: Node, outside: Reason, bound: Bound, found: &mut 
 /// It reads only numbers of at most eight digits, one item after another, and does not look where
 /// each ends. It stops at the first item that it does not accept.
 #[inline(always)]
+#[tactic(auto, using(crate::proofs::Lone::lone_facts))]
 pub fn count_indices(node: Node, bound: Bound) -> u32
     ensures lone { AreLone result (items_of (tree node.entry)) }
     ensures none { (outside : ReasonOf)
@@ -298,6 +304,7 @@ pub fn count_indices(node: Node, bound: Bound) -> u32
 /// Returns a number of items at the front of an array that are all whole numbers, read in the same
 /// way. It too is at most the number of all such items there.
 #[inline(always)]
+#[tactic(auto, using(crate::proofs::Lone::lone_facts))]
 pub fn count_wholes(node: Node) -> u32
     ensures lone { AreLone result (items_of (tree node.entry)) }
     ensures none { flat_map whole_number (take result (items_of (tree node.entry))) ≡ [] }

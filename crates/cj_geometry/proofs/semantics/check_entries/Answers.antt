@@ -1,5 +1,4 @@
-use Rattle.cj_geometry.proofs.Common.{ap, arith, entry, flat_map, items_left, items_of, least, length, length-drop, option_map, other_count, tree, ◌∙◌}
-use Rattle.cj_spans.proofs.Findings.{least-two}
+use Rattle.cj_geometry.proofs.Common.{refl, ap, arith, entry, items_left, items_of, length, length-drop, tree, ◌∙◌}
 use Rattle.cj_geometry.proofs.Lone.{past-none}
 use Rattle.cj_geometry.proofs.semantics.check_entries.Goals as goal
 
@@ -11,17 +10,7 @@ loop-item-init c =
     let lone = front.ensures.lone in
     let left = ap items_left c.into_iter-item-iterator.ensures.into_iter_gives
     ∙ c.items_behind-item-items.ensures.items front.result lone.within lone.sizes in
-    let rest = ap length left ∙ length-drop front.result items in
     record {
-      found = ap (λ ts. least c.args.found.now (flat_map rule ts)) left
-          ∙ ap (least c.args.found.now) (past-none rule front.result items front.ensures.none);
-      count = omega (arith, rest, lone.within);
+      found = rw (left, past-none rule front.result items front.ensures.none) refl;
+      count = omega (arith, ap length left, length-drop front.result items, lone.within);
     }
-
-pub returns : goal.returns
-returns c =
-    let n = tree c.args.node in
-    let walked = rw c.in-None.ensures.steps.0.0 at c.loop-item.invariant.found in
-    least-two c.args.found.now c.loop-item.found c.check_evenness.new.found
-    (flat_map (entry c.args.surfaces.count) (items_of n)) (other_count n (option_map tree c.args.part)) walked
-    c.check_evenness.ensures

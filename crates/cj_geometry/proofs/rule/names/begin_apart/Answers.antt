@@ -1,5 +1,4 @@
 use Rattle.cj_geometry.proofs.Common.{ap, are_apart, arith, false, length-set, members_left, members_of, refl, replicate, sym, tree, true, ◌%◌, ◌∙◌}
-use Rattle.cj_spans.specs.View.{trees}
 use Rattle.cj_geometry.proofs.Initials.{apart-on, distinct_apart}
 use Rattle.cj_geometry.proofs.rule.names.begin_apart.Goals as goal
 
@@ -12,8 +11,7 @@ pub loop-name-preserved : goal.loop-name-preserved
 loop-name-preserved c =
     let code = c.in-Some-first_code.code in (
       c.loop-name.invariant.0
-          ∙ apart-on c.loop-name.taken (members_left c.next.new.self)
-          (trees (c.in-Some.name, c.in-Some.field-0-1)) code c.in-Some.ensures.steps.0
+          ∙ apart-on _ _ _ code c.in-Some.ensures.steps.0
           (sym c.first_code.ensures ∙ c.in-Some-first_code.is) c.if-taken-slot.false,
       length-set c.loop-name.taken (code % 32) true ∙ c.loop-name.invariant.1,
     )

@@ -3,5 +3,4 @@ use Rattle.cj_geometry.proofs.rule.names.deal.Goals as goal
 
 pub check_neighbours-requires-clause-names : goal.check_neighbours-requires-clause-names
 check_neighbours-requires-clause-names c =
-    All-permutation (IsWorded (source_of c.args.object)) c.args.names.now c.sort.new.names c.sort.ensures.permutation
-    c.requires.names
+    All-permutation (IsWorded (source_of c.args.object)) _ _ c.sort.ensures.permutation c.requires.names

@@ -1,4 +1,4 @@
-use Rattle.cj_geometry.proofs.Common.{ap, arith, false, is_above, is_below, limit_in, members_left, members_of, members_source, name_in, names_of, source_of, sym, take, tree, ◌&&◌, ◌∙◌, ◌≡◌}
+use Rattle.cj_geometry.proofs.Common.{ap, arith, false, is_above, is_below, limit_in, members_left, members_of, members_source, name_in, names_of, source_of, sym, tree, ◌&&◌, ◌∙◌, ◌≡◌}
 use Rattle.std.proofs.lemmas.Bool.{and_left, and_right}
 use Rattle.cj_geometry.proofs.Rooms.{gathered_first, gathered_passed, gathered_more}
 use Rattle.cj_geometry.proofs.rule.names.gather.Goals.{else-is_left-via-then-is_left+else-has_place, else-is_left-via-else-is_left}
@@ -36,10 +36,7 @@ loop-node-preserved-then-has_place c =
       count = r.count.1;
       more = λ h. r.count.0;
       source = y.3 ∙ i.source;
-      gathered = gathered_more (names_of (members_left c.next.new.self))
-          c.loop-node.held.ceiling c.put-held.result.ceiling name (tree c.in-Some.node)
-          (take c.loop-node.held.count c.loop-node.room) _
-          (rw e at c.of-name.ensures.name) (rw e at c.of-name.ensures.word)
+      gathered = gathered_more _ _ _ name _ _ _ (rw e at c.of-name.ensures.name) (rw e at c.of-name.ensures.word)
           (sym c.is_left.ensures ∙ c.if-is_left.true) (sym c.has_place.ensures ∙ c.if-has_place.true) r.taken
           (rw y.0 at i.gathered);
     }
@@ -66,6 +63,5 @@ loop-node-preserved c =
       count = i.count;
       more = i.more;
       source = y.3 ∙ i.source;
-      gathered = gathered_passed (names_of (members_left c.next.new.self)) name (tree c.in-Some.node)
-          (rw e at c.of-name.ensures.name) unwanted (rw y.0 at i.gathered);
+      gathered = gathered_passed _ name _ (rw e at c.of-name.ensures.name) unwanted (rw y.0 at i.gathered);
     }

@@ -1,12 +1,6 @@
 use Rattle.cj_spans.specs.View.{tree}
-use Rattle.cj_geometry.proofs.Numbers.{begun-there, few-there}
+use Rattle.cj_geometry.proofs.Numbers.{few-there}
 use Rattle.cj_geometry.proofs.rule.number.is_few_below.Goals as goal
-
-pub is_few_below_in-requires-clause-number : goal.is_few_below_in-requires-clause-number
-is_few_below_in-requires-clause-number c =
-    let span = c.span-start.ensures in
-    begun-there (tree c.args.node) c.span-start.result.0 c.span-start.result.1
-    c.line.ensures span.order span.spelling span.kind span.number
 
 pub returns : goal.returns
 returns c = λ holds.
@@ -16,6 +10,5 @@ returns c = λ holds.
       r.0,
       r.1,
       r.2,
-      few-there (tree c.args.node) c.span-start.result.0
-          c.span-start.result.1 c.line.ensures span.order span.spelling span.kind r.0 (read.few holds) r.3,
+      few-there (tree c.args.node) _ _ c.line.ensures span.order span.spelling span.kind r.0 (read.few holds) r.3,
     )

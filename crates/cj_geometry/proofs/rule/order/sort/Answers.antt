@@ -5,8 +5,7 @@ use Rattle.cj_geometry.proofs.rule.order.sort.Goals as goal
 pub returns-clause-order : goal.returns-clause-order
 returns-clause-order c =
     let s = source_of c.args.object in
-    ascend_sorted s c.sort_unstable_by.new.self
-    (All-permutation (IsWorded s) c.args.names.now c.sort_unstable_by.new.self
-    c.sort_unstable_by.ensures.permutation c.requires)
+    ascend_sorted s _
+    (All-permutation (IsWorded s) _ _ c.sort_unstable_by.ensures.permutation c.requires)
     (c.sort_unstable_by.ensures.sorted (λ d e. is_lt (compare_worded s d e)) (ranks_by (worded_order s) (λ e. e))
     (compares_as (compare_worded s) (λ a r f k. search rules)))

@@ -1,8 +1,0 @@
-use Rattle.cj_geometry.proofs.Common.{Some, line_of, sym, ◌∙◌}
-use Rattle.cj_geometry.proofs.Places.{line_if}
-use Rattle.cj_geometry.proofs.lod.lod_of.Goals as goal
-
-pub returns-then-is_an_instance-clause-line : goal.returns-then-is_an_instance-clause-line
-returns-then-is_an_instance-clause-line c =
-    line_if c.args.templates c.lod_of_template.result (Some (line_of c.args.node))
-    (sym c.if-is_an_instance.true ∙ c.is_an_instance.ensures) c.lod_of_template.ensures.source
