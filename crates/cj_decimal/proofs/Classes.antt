@@ -1,34 +1,34 @@
 -- Each spelling has one of the four classes.
-use Rattle.cj_decimal.proofs.Common.{◌≡◌, ℕ, ◌^◌, ◌<◌, List, Bool, true, false, Option, Some, None, ℤ, pos, negsuc, refl, arith, ints, nat_tests, unsigned_abs, Number, is_in_range, whole_by, as_whole, IsNormal, IsInRange, IsWhole, IsValue, is_number, written_of, Class, no_number, out_of_range, not_whole, whole}
+use Rattle.cj_decimal.proofs.Common.{◌≡◌, ℕ, ◌^◌, ◌<◌, List, Bool, true, false, Option, Some, None, ℤ, pos, negsuc, refl, arith, ints, unsigned_abs, Number, is_in_range, whole_by, as_whole, IsNormal, IsInRange, IsWhole, IsValue, is_number, written_of, Class, no_number, out_of_range, not_whole, whole}
 use Rattle.cj_decimal.specs.Meaning.Number.{small_whole}
 use Rattle.cj_decimal.proofs.Grammar.{spells_test, test_spells}
 use Rattle.cj_decimal.proofs.Law.{has_one_value}
-use Rattle.cj_decimal.proofs.Scales.{units_below, units_are, units_same}
+use Rattle.cj_decimal.proofs.Scales.{units_below}
 
 -- ---- the range
 
 pub in_range_test : {n : Number} → IsInRange n → is_in_range n ≡ true
-in_range_test {n} r = search (arith, nat_tests, ints)
+in_range_test {n} r = search arith
 
 pub test_in_range : (n : Number) → is_in_range n ≡ true → IsInRange n
-test_in_range n e = search (arith, nat_tests, ints)
+test_in_range n e = search arith
 
 -- ---- as a whole number
 
 small_is : (w : ℤ) → unsigned_abs w < 10 ^ 18 → small_whole w ≡ Some w
-small_is w h = grind (arith, nat_tests)
+small_is w h = grind arith
 
 is_small : (x w : ℤ) → small_whole x ≡ Some w → (w ≡ x) × (unsigned_abs w < 10 ^ 18)
-is_small x w h = (grind (arith, nat_tests), grind (arith, nat_tests))
+is_small x w h = (grind arith, grind arith)
 
 module _ (v : Number) (normal : IsNormal v) where
   whole_at : (p : ℤ) → v.power ≡ p → {w : ℤ} → IsWhole v w → whole_by v.coefficient p ≡ Some w
-  whole_at (pos k) e {w} is = search (arith, ints, units_are, small_is)
+  whole_at (pos k) e {w} is = search arith
   whole_at (negsuc k) e {w} is =
-      absurd (units_below v w (pos 0) normal is.same (omega (arith, ints, e)) (omega (arith, ints)))
+      absurd (units_below v w (pos 0) normal is.same (omega (arith, ints, e)) (omega arith))
 
   at_whole : (p : ℤ) → v.power ≡ p → (w : ℤ) → whole_by v.coefficient p ≡ Some w → IsWhole v w
-  at_whole (pos k) e w h = search (arith, ints, is_small, units_same)
+  at_whole (pos k) e w h = search arith
   at_whole (negsuc k) e w h = absurd (cc h)
 
   pub whole_is : {w : ℤ} → IsWhole v w → as_whole v ≡ Some w

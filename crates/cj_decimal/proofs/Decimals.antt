@@ -78,9 +78,9 @@ module _ (negative : Bool) {s : List ℕ} (p e : ℤ) (digits : AllDigits s) (pl
       none k = omega arith
   is_normal (b ∷ r) h =
       let l = cut_length h in
-      let all : AllDigits (b ∷ r) = digits_left (b ∷ r) (zeros h.many) (subst AllDigits h.joined digits) in (
+      let all = digits_left (b ∷ r) (zeros h.many) (subst AllDigits h.joined digits) in (
         trimmed_same negative (digits_value (b ∷ r)) h.many p (e -ℤ pos (length (b ∷ r)))
-            (cut_value h) (omega (arith, ints, place, l)),
+            (cut_value h) (omega (arith, ints, l)),
         trimmed_normal negative (digits_value (b ∷ r)) (e -ℤ pos (length (b ∷ r))) (ends_above 0 b r all h.ends),
       )
 
@@ -89,15 +89,14 @@ frac_digits_all digits s (inl none) = subst AllDigits (sym none.0) tt
 frac_digits_all digits s (inr some) = all_of digits some.0
 
 written_digits : {s : List ℕ} {n : Written} → Spells s n → AllDigits (n.int ++ n.frac)
-written_digits {n} h = search (arith, digits_both, int_digits, frac_digits_all)
+written_digits {n} h = search (arith, digits_both, int_digits)
 
 -- a number of the grammar has the value that is read
 value_is : {s : List ℕ} {n : Written} → Spells s n → IsValue s (normal_of n)
 value_is {n} h =
     let digits = n.int ++ n.frac in
-    let l = length-append n.int n.frac in
     let both = is_normal n.negative (n.exponent -ℤ pos (length n.frac)) (n.exponent +ℤ pos (length n.int))
-    (written_digits h) (omega (arith, ints, l)) (without_zeros digits) (cut digits) in
+    (written_digits h) (omega (arith, ints, length-append n.int n.frac)) (without_zeros digits) (cut digits) in
     record { written = n; spells = h; same = both.0; normal = both.1 }
 
 -- ---- the number of a spelling

@@ -1,11 +1,10 @@
 -- Numbers of at most eight digits, read by one word of eight bytes.
-use Rattle.cj_decimal.proofs.Common.{◌≡◌, ℕ, zero, suc, and_parts, ◌+◌, ◌-◌, ◌*◌, ◌/◌, ◌%◌, ◌^◌, ◌<◌, ◌≤◌, List, [], ◌∷◌, length, length-drop, length-map, slice_range, take, drop, map, Bool, true, false, ◌&&◌, ◌||◌, nat_le, nat_eq, refl, sym, ap, arith, ◌∙◌, inl, inr, not, get_or, ◌⊎◌, IsTrue, bit_and, bit_xor, and_block, xor_block, xor_lt, pow-add, pow-suc, shr-shr, and_mask, nat_tests, IsShort, after_frac, digits_front, digits_rest, begins, body, is_exp, is_frac, is_int, written_of, digits_value, value_after, AllDigits, IsDigit, IsInt, SpellsNumber, IsFewDigits, IsNumberIfBegun}
+use Rattle.cj_decimal.proofs.Common.{◌≡◌, ℕ, zero, suc, and_parts, ◌+◌, ◌-◌, ◌*◌, ◌/◌, ◌%◌, ◌^◌, ◌<◌, ◌≤◌, List, [], ◌∷◌, length, length-drop, length-map, slice_range, take, drop, map, Bool, true, false, ◌&&◌, ◌||◌, nat_le, nat_eq, refl, sym, ap, arith, ◌∙◌, inl, inr, not, get_or, ◌⊎◌, IsTrue, bit_and, bit_xor, and_block, xor_block, xor_lt, pow-add, pow-suc, shr-shr, and_mask, IsShort, after_frac, digits_front, digits_rest, begins, body, is_exp, is_frac, is_int, written_of, digits_value, value_after, AllDigits, IsDigit, IsInt, SpellsNumber, IsFewDigits, IsNumberIfBegun}
 use Rattle.std.proofs.lemmas.Nat.Bits.{and_high_mask}
 use Rattle.std.specs.Prelude.{replicate}
-use Rattle.std.proofs.lemmas.Bool.{agree_below_at, eq-eqb, ne_eqb, true_from_ne_false}
+use Rattle.std.proofs.lemmas.Bool.{agree_below_at, eq-eqb, ne_eqb}
 use Rattle.std.proofs.lemmas.List.{drop-take, drop-drop, get_or-take, get_or-drop, length-take-le}
-use Rattle.cj_decimal.proofs.Grammar.{digit_begins, digit_begins_alone, front_all, front_alone, front_rest, int_from_test, int_is_digits, minus_there, no_minus, spells_test, test_spells}
-use Rattle.cj_decimal.proofs.Parts.{not_int}
+use Rattle.cj_decimal.proofs.Grammar.{digit_begins, digit_begins_alone, front_all, front_rest, int_from_test, int_is_digits, minus_there, no_minus, spells_test, test_spells}
 use Rattle.cj_decimal.proofs.NumberBytes.{NumberBytes, number_bytes}
 use Rattle.cj_decimal.specs.Word.{little_endian, AllBelow, weighed}
 
@@ -20,9 +19,8 @@ by_bytes op none block c l (b ∷ s) h =
     let w = little_endian s in let v = little_endian (replicate (length s) c) in
     let p : b + 256 * w ≡ w * 2 ^ 8 + b = omega arith in
     let q : c + 256 * v ≡ v * 2 ^ 8 + c = omega arith in
-    let first = block w v b c h.0 l in
     let rest = by_bytes op none block c l s h.1 in
-    ap (λ n. op n (c + 256 * v)) p ∙ ap (op (w * 2 ^ 8 + b)) q ∙ omega (arith, first, rest)
+    ap (λ n. op n (c + 256 * v)) p ∙ ap (op (w * 2 ^ 8 + b)) q ∙ omega (arith, block w v b c h.0 l, rest)
 
 high_half : (b : ℕ) → b < 256 → bit_and b 240 ≡ b / 16 * 16
 high_half b l = and_high_mask 8 4 (omega arith) b l
@@ -34,7 +32,7 @@ high_halves s e h = ap (λ n. bit_and (little_endian s) (little_endian (replicat
 
 all_high : (s : List ℕ) → AllBelow 256 s → little_endian (map (λ b. bit_and b 240) s) ≡ 0 → AllBelow 16 s
 all_high [] h z = tt
-all_high (b ∷ s) h z = (omega (arith, z, high_half b h.0), all_high s h.1 (omega (arith, z)))
+all_high (b ∷ s) h z = (omega (arith, z, high_half b h.0), all_high s h.1 (omega arith))
 
 -- ---- one byte
 
@@ -48,13 +46,13 @@ right b l = agree_below_at (λ b. is_right b (bit_xor b 48)) (λ b. true) 256 b 
 
 module _ (b x : ℕ) (test : is_right b x ≡ true) where
   back : x < 10 → x + 48 ≡ b
-  back h = grind (arith, nat_tests)
+  back h = grind arith
 
   begun : x < 16 → (45 ≤ b) × (b < 64)
-  begun h = (grind (arith, nat_tests), grind (arith, nat_tests))
+  begun h = (grind arith, grind arith)
 
   digit_small : 48 ≤ b → b ≤ 57 → x < 10
-  digit_small low high = grind (arith, nat_tests)
+  digit_small low high = grind arith
 
 -- ---- the bytes before a number are cleared
 
@@ -70,17 +68,16 @@ clear_word : (j : ℕ) (s : List ℕ) → j ≤ length s → AllBelow 256 s
     → little_endian s / 2 ^ (8 * j) * 2 ^ (8 * j) ≡ little_endian (clear j s)
 unfolding clear
 clear_word zero s within h = omega arith
-clear_word (suc j) [] within h = absurd (omega (arith, within))
+clear_word (suc j) [] within h = absurd (omega arith)
 clear_word (suc j) (b ∷ s) within h =
     let n = b + 256 * little_endian s in
     let k : 8 * suc j ≡ 8 + 8 * j = omega arith in
-    let first : n / 2 ^ 8 ≡ little_endian s = omega (arith, h.0) in
-    let rest = clear_word j s (omega (arith, within)) h.1 in
+    let first : n / 2 ^ 8 ≡ little_endian s = omega arith in
     ap (λ i. n / 2 ^ i * 2 ^ i) k
     ∙ ap (λ q. q * 2 ^ (8 + 8 * j)) (sym (shr-shr n 8 (8 * j)) ∙ ap (λ q. q / 2 ^ (8 * j)) first)
     ∙ ap (λ p. little_endian s / 2 ^ (8 * j) * p) (pow-add 2 8 (8 * j))
     ∙ times_shifted (little_endian s / 2 ^ (8 * j)) (2 ^ (8 * j))
-    ∙ omega (arith, rest)
+    ∙ omega (arith, clear_word j s (omega (arith, within)) h.1)
 
 word_below : (s : List ℕ) → length s ≡ 8 → AllBelow 256 s → little_endian s < 2 ^ 64
 word_below s l h = rw l at (below s h)
@@ -93,7 +90,7 @@ masked : (j : ℕ) (s : List ℕ) → j ≤ 8 → length s ≡ 8 → AllBelow 25
     → bit_and (little_endian s) (2 ^ 64 - 2 ^ (8 * j)) ≡ little_endian (clear j s)
 masked j s k l h =
     and_high_mask 64 (8 * j) (omega arith) (little_endian s) (word_below s l h)
-    ∙ clear_word j s (omega (arith, k, l)) h
+    ∙ clear_word j s (omega arith) h
 
 -- ---- the number that eight digits spell
 
@@ -101,12 +98,11 @@ masked j s k l h =
 two_bytes : (n : ℕ) → bit_and n 0x000000ff000000ff ≡ n / 2 ^ 32 % 256 * 2 ^ 32 + n % 256
 two_bytes n =
     let parts : n ≡ n / 2 ^ 32 * 2 ^ 32 + n % 2 ^ 32 = omega arith in
-    let block : bit_and (n / 2 ^ 32 * 2 ^ 32 + n % 2 ^ 32) (255 * 2 ^ 32 + 255) ≡ bit_and (n / 2 ^ 32) 255 * 2 ^ 32
-    + bit_and (n % 2 ^ 32) 255 = and_block 32 (n / 2 ^ 32) 255 (n % 2 ^ 32) 255 (omega arith) (omega arith) in
-    let high : bit_and (n / 2 ^ 32) 255 ≡ n / 2 ^ 32 % 256 = and_mask (n / 2 ^ 32) 8 in
-    let low : bit_and (n % 2 ^ 32) 255 ≡ n % 2 ^ 32 % 256 = and_mask (n % 2 ^ 32) 8 in
+    let block = and_block 32 (n / 2 ^ 32) 255 (n % 2 ^ 32) 255 (omega arith) (omega arith) in
+    let high = and_mask (n / 2 ^ 32) 8 in
+    let low = and_mask (n % 2 ^ 32) 8 in
     let all = ap (λ m. bit_and m 0x000000ff000000ff) parts in
-    omega (arith, all, block, high, low)
+    omega arith
 
 -- the number of some pairs of digits, of which each second one counts
 of_pairs : {n : ℕ} (p q r s t u v w : ℕ) → n ≡ little_endian (p ∷ q ∷ r ∷ s ∷ t ∷ u ∷ v ∷ w ∷ [])
@@ -138,10 +134,9 @@ pub value_eight : (s : List ℕ) → length s ≡ 8 → AllBelow 10 s → (w n :
     → n ≡ digits_value (map (λ d. d + 48) s)
 unfolding weighed
 value_eight (a ∷ b ∷ c ∷ d ∷ e ∷ f ∷ g ∷ h ∷ []) l z w n is answer =
-    let s = a ∷ b ∷ c ∷ d ∷ e ∷ f ∷ g ∷ h ∷ [] in
     let value = of_pairs (10 * a + b) (10 * b + c) (10 * c + d) (10 * d + e) (10 * e + f) (10 * f + g) (10 * g + h)
     (10 * h) (pairs a b c d e f g h w z.0 is) (omega arith) in
-    answer ∙ value ∙ sym (value_weighed s ∙ sum a b c d e f g h)
+    answer ∙ value ∙ sym (value_weighed (a ∷ b ∷ c ∷ d ∷ e ∷ f ∷ g ∷ h ∷ []) ∙ sum a b c d e f g h)
   where
     pairs : (a b c d e f g h w : ℕ) → a < 10 → w ≡ little_endian (a ∷ b ∷ c ∷ d ∷ e ∷ f ∷ g ∷ h ∷ [])
         → w * 10 + w / 2 ^ 8 ≡ little_endian ((10 * a + b) ∷ (10 * b + c) ∷ (10 * c + d) ∷ (10 * d + e) ∷ (10 * e + f)
@@ -152,7 +147,7 @@ value_eight (a ∷ b ∷ c ∷ d ∷ e ∷ f ∷ g ∷ h ∷ []) l z w n is answ
     sum : (a b c d e f g h : ℕ) → weighed 10 (a ∷ b ∷ c ∷ d ∷ e ∷ f ∷ g ∷ h ∷ [])
         ≡ (10 * a + b) * 1000000 + (10 * c + d) * 10000 + (10 * e + f) * 100 + (10 * g + h)
     sum a b c d e f g h = omega arith
-value_eight _ l z w n is answer = absurd (omega (arith, l))
+value_eight _ l z w n is answer = absurd (omega arith)
 
 -- ---- the digits at the end of eight bytes
 
@@ -182,7 +177,6 @@ spelled [] h z = (tt, refl)
 spelled (b ∷ s) h z =
     let rest = spelled s h.1 z.1 in
     let e = back b _ (right b h.0) z.0 in
-    let l = z.0 in
     (((omega arith, omega arith), rest.0), rw e (ap (λ t. b ∷ t) rest.1))
 
 cleared : (j : ℕ) (s : List ℕ) → AllBelow 256 s → AllBelow 10 (clear j (without_zeros s)) → AllDigits (drop j s)
@@ -196,14 +190,14 @@ cleared (suc j) (b ∷ s) h z = cleared j s h.1 z.1
 
 digits_small : (j : ℕ) (s : List ℕ) → AllDigits (drop j s) → AllBelow 10 (clear j (without_zeros s))
 unfolding clear without_zeros
-digits_small zero (b ∷ s) d = (digit_small b _ (right b (omega (arith, d.0))) d.0.0 d.0.1, digits_small zero s d.1)
+digits_small zero (b ∷ s) d = (digit_small b _ (right b (omega arith)) d.0.0 d.0.1, digits_small zero s d.1)
 digits_small (suc j) (b ∷ s) d = (omega arith, digits_small j s d)
 digits_small _ _ d = tt
 
 -- of the bytes in a number of JSON those below 16 are digits
 low_digit : (b : ℕ) → IsDigit b ⊎ (16 ≤ bit_xor b 48) → bit_xor b 48 < 16 → bit_xor b 48 < 10
-low_digit b (inl digit) low = digit_small b _ (right b (omega (arith, digit))) digit.0 digit.1
-low_digit b (inr high) low = absurd (omega (arith, high, low))
+low_digit b (inl digit) low = digit_small b _ (right b (omega arith)) digit.0 digit.1
+low_digit b (inr high) low = absurd (omega arith)
 
 low_digits : (j : ℕ) (s : List ℕ) → NumberBytes (drop j s) → AllBelow 16 (clear j (without_zeros s))
     → AllBelow 10 (clear j (without_zeros s))
@@ -217,16 +211,16 @@ first_begun : (j : ℕ) (s : List ℕ) → j < length s → AllBelow 256 s → A
     → (45 ≤ get_or (drop j s) 0 0) × (get_or (drop j s) 0 0 < 64)
 unfolding clear without_zeros
 first_begun zero (b ∷ s) l h z = begun b _ (right b h.0) z.0
-first_begun (suc j) (b ∷ s) l h z = first_begun j s (omega (arith, l)) h.1 z.1
-first_begun _ _ l h z = absurd (omega (arith, l))
+first_begun (suc j) (b ∷ s) l h z = first_begun j s (omega arith) h.1 z.1
+first_begun _ _ l h z = absurd (omega arith)
 
 all_low : (s : List ℕ) → AllBelow 16 s → little_endian (map (λ b. bit_and b 240) s) ≡ 0
 all_low [] h = refl
-all_low (b ∷ s) h = omega (arith, h.0, high_half b (omega (arith, h.0)), all_low s h.1)
+all_low (b ∷ s) h = omega (arith, h.0, high_half b (omega arith), all_low s h.1)
 
 below_more : (m n : ℕ) → m ≤ n → (s : List ℕ) → AllBelow m s → AllBelow n s
 below_more m n l [] h = tt
-below_more m n l (b ∷ s) h = (omega (arith, h.0), below_more m n l s h.1)
+below_more m n l (b ∷ s) h = (omega arith, below_more m n l s h.1)
 
 -- the word that is tested, and what its test says of the bytes
 module _ (j : ℕ) (s : List ℕ) {w : ℕ} (m : ℕ) (lj : j ≤ 8) (ls : length s ≡ 8) (h : AllBelow 256 s)
@@ -240,7 +234,7 @@ module _ (j : ℕ) (s : List ℕ) {w : ℕ} (m : ℕ) (lj : j ≤ 8) (ls : lengt
   unfolding without_zeros
   tested =
       let xs = without_zeros s in
-      let same : bit_xor (little_endian s) 0x3030303030303030 ≡ little_endian xs =
+      let same =
       ap (λ n. bit_xor (little_endian s) (little_endian (replicate n 48))) (sym ls)
       ∙ by_bytes bit_xor refl (xor_block 8) 48 (omega arith) s h in
       word ∙ ap (λ v. bit_and (bit_xor v 0x3030303030303030) (2 ^ 64 - 2 ^ (8 * j))) is
@@ -262,7 +256,7 @@ module _ (j : ℕ) (s : List ℕ) {w : ℕ} (m : ℕ) (lj : j ≤ 8) (ls : lengt
       → ((t : List ℕ) → length t ≡ 8 → AllBelow 256 t → m ≡ little_endian t → AllBelow 16 t → IsTrue b)
       → AllDigits (drop j s) → IsTrue b
   digits_pass b each d =
-      search (arith, tested_length, clear_below, xor_below, tested, below_more, digits_small)
+      search (arith, tested_length, xor_below, tested, below_more, digits_small)
 
 -- ---- in a line
 
@@ -307,12 +301,12 @@ first_is line start stop order = search (arith, get_or-take, get_or-drop)
 
 begins_first : {c : ℕ} (s : List ℕ) → 0 < length s → get_or s 0 0 ≡ c → begins c s ≡ true
 unfolding begins
-begins_first [] l e = absurd (omega (arith, l))
+begins_first [] l e = absurd (omega arith)
 begins_first (b ∷ t) l e = eq-eqb b _ e
 
 pub minus_first : (line : List ℕ) (start stop : ℕ) → start < stop → stop ≤ length line → get_or line start 0 ≡ 45
     → true ≡ begins 45 (slice_range line start stop)
-minus_first line start stop order within z = search (arith, length_slice, begins_first, first_is)
+minus_first line start stop order within z = search (arith, begins_first, first_is)
 
 begins_not : (c : ℕ) (s : List ℕ) → (get_or s 0 0 ≡ c → ⊥) → begins c s ≡ false
 unfolding begins
@@ -326,9 +320,8 @@ body_plain line start stop order n = search (arith, no_minus, begins_not, first_
 pub body_behind : (line : List ℕ) (start stop : ℕ) → start < stop → true ≡ begins 45 (slice_range line start stop)
     → body (slice_range line start stop) ≡ slice_range line (start + 1) stop
 body_behind line start stop order minus =
-    let s = slice_range line start stop in
     let m : stop - start ≡ 1 + (stop - (start + 1)) = omega arith in
-    minus_there s (sym minus) ∙ ap (λ k. drop 1 (take k (drop start line))) m
+    minus_there (slice_range line start stop) (sym minus) ∙ ap (λ k. drop 1 (take k (drop start line))) m
     ∙ drop-take 1 (stop - (start + 1)) (drop start line) ∙ ap (take (stop - (start + 1))) (drop-drop 1 start line)
 
 pub short_behind : (line : List ℕ) (start stop : ℕ) {n : ℕ} → start < stop
@@ -361,7 +354,7 @@ digits_unsigned (b ∷ t) all = digit_begins_alone 45 (b ∷ t) all (omega arith
 -- they are an int
 pub number_int : (s : List ℕ) → SpellsNumber s → AllDigits s → IsInt s
 number_int s number all =
-    search (arith, int_from_test, true_from_ne_false, not_int, no_minus, digits_unsigned, front_alone)
+    search arith
 
 -- ---- and what stands behind the minus of a number is one
 
@@ -374,14 +367,13 @@ body_number s number =
     let test = (spells_test s number.0 number.1).0 in
     let front = digits_front (body s) in
     let int = int_from_test front (front_all (body s)) (and_parts _ _ test).0 in
-    let unsigned : begins 45 (body s) ≡ false = ap (begins 45) (front_rest (body s))
+    let unsigned = ap (begins 45) (front_rest (body s))
     ∙ digit_begins 45 front (digits_rest (body s)) (int_is_digits front int) (omega arith) in
     (written_of (body s), test_spells (body s) (ap tests (no_minus (body s) unsigned) ∙ test))
 
 pub begun_behind : (line : List ℕ) (start stop : ℕ) → start < stop → stop ≤ length line → get_or line start 0 ≡ 45
     → IsNumberIfBegun (slice_range line start stop) → IsNumberIfBegun (slice_range line (start + 1) stop)
 begun_behind line start stop order within minus number = λ low high.
-    let s = slice_range line start stop in
     let first = first_is line start stop order ∙ minus in
     rw (body_behind line start stop order (minus_first line start stop order within minus)) at
-    (body_number s (number (omega (arith, first)) (omega (arith, first))))
+    (body_number (slice_range line start stop) (number (omega arith) (omega arith)))

@@ -9,13 +9,7 @@ value_below n [] h = omega arith
 value_below n (b ∷ s) h =
     let m = 10 * n + (b - 48) in
     let more = mul-le-mul_right (10 ^ length s) (room n b h.0.0 h.0.1) in
-    omega (
-      arith,
-      value_below m s h.1,
-      more,
-      turned (n + 1) (10 ^ length s),
-      ap (λ q. (n + 1) * q) (pow-suc 10 (length s)),
-    )
+    omega (arith, value_below m s h.1, more, ap (λ q. (n + 1) * q) (pow-suc 10 (length s)))
   where
     room : (n b : ℕ) → 48 ≤ b → b ≤ 57 → 10 * n + (b - 48) + 1 ≤ 10 * (n + 1)
     room n b low high = omega arith
@@ -25,15 +19,13 @@ value_below n (b ∷ s) h =
 
 pub few_short : (s : List ℕ) → IsFewDigits s → IsShort s (digits_value s)
 few_short s few =
-    let below = value_below 0 s (int_digits s few.0) in
     let power : 10 ^ length s ≤ 10 ^ 18 = pow-le-pow_right (omega arith) few.1 in
-    int_short s few.0 refl (omega (arith, below, power))
+    int_short s few.0 refl (omega (arith, value_below 0 s (int_digits s few.0), power))
 
 -- whatever class such a spelling has, it has a whole number
 pub few_whole : (s : List ℕ) → IsFewSigned s → (w : ℤ) × ((c : Class s) → whole_answer c ≡ Ok (Some w))
-few_whole s few =
-    let n = digits_value (body s) in (
-      signed (begins 45 s) n,
-      λ c. signed_answer {negative = begins 45 s} c refl
-          (few_short (body s) (body_of_signed s few)),
-    )
+few_whole s few = (
+  signed (begins 45 s) (digits_value (body s)),
+  λ c. signed_answer {negative = begins 45 s} c refl
+      (few_short (body s) (body_of_signed s few)),
+)

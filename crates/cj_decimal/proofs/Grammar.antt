@@ -1,10 +1,10 @@
 -- The test of a spelling from its front, and the grammar.
-use Rattle.cj_decimal.proofs.Common.{◌≡◌, ℕ, ◌<◌, ◌≤◌, List, [], ◌∷◌, ◌++◌, append-nil, drop, Bool, true, false, and_from, and_parts, cases_Bool, cond, cond-false, cond-true, nat_eq, ◌||◌, refl, sym, ap, ◌∙◌, arith, inl, inr, ◌⊎◌, ℤ, nat_tests, is_ascii_digit, signed, IsDigit, AllDigits, IsDigits, IsInt, IsMinus, IsFrac, IsExpSign, ExpParts, IsExp, Spells, Written, digits_value, digits_front, digits_rest, begins, is_empty, begins_digit, body, is_int, is_frac, frac_digits, after_frac, exp_digits, is_whole_digits, is_exp, exp_value, is_number, written_of}
-use Rattle.std.proofs.lemmas.Bool.{cases_eq, cond_both, or_cases, or_from, or_left, or_right}
+use Rattle.cj_decimal.proofs.Common.{◌≡◌, ℕ, ◌<◌, List, [], ◌∷◌, ◌++◌, append-nil, drop, Bool, true, false, and_from, and_parts, cases_Bool, cond, cond-false, cond-true, nat_eq, ◌||◌, refl, sym, ap, ◌∙◌, arith, inl, inr, ◌⊎◌, ℤ, is_ascii_digit, signed, IsDigit, AllDigits, IsDigits, IsInt, IsMinus, IsFrac, IsExpSign, ExpParts, IsExp, Spells, Written, digits_value, digits_front, digits_rest, begins, is_empty, begins_digit, body, is_int, is_frac, frac_digits, after_frac, exp_digits, is_whole_digits, is_exp, exp_value, is_number, written_of}
+use Rattle.std.proofs.lemmas.Bool.{cases_eq, cond_both, or_from, or_left, or_right}
 use Rattle.cj_decimal.proofs.Ways.{front_digit, rest_digit, digit_bounds, front_of_stop}
 
 digit_test : (b : ℕ) → IsDigit b → is_ascii_digit b ≡ true
-digit_test b h = search (arith, nat_tests)
+digit_test b h = search arith
 
 -- ---- digits at the front
 pub front_all : (s : List ℕ) → AllDigits (digits_front s)
@@ -43,13 +43,13 @@ front_is_all s none = sym (front_rest s ∙ ap (λ r. digits_front s ++ r) none 
 pub int_digits : (s : List ℕ) → IsInt s → AllDigits s
 int_digits [] h = absurd h
 int_digits (b ∷ s) (inl zero) = search arith
-int_digits (b ∷ s) (inr more) = ((omega (arith, more.0), more.1), more.2)
+int_digits (b ∷ s) (inr more) = ((omega arith, more.1), more.2)
 
 pub int_test : (s : List ℕ) → IsInt s → is_int s ≡ true
 unfolding is_int is_empty
 int_test [] h = absurd h
 int_test (b ∷ s) (inl zero) = rw zero.1 (or_right _ _ refl)
-int_test (b ∷ s) (inr more) = let low : 49 ≤ b = more.0 in grind (arith, nat_tests)
+int_test (b ∷ s) (inr more) = grind arith
 
 empty_from_test : (s : List ℕ) → is_empty s ≡ true → s ≡ []
 unfolding is_empty
@@ -59,21 +59,21 @@ empty_from_test (b ∷ s) h = absurd (cc h)
 pub int_from_test : (s : List ℕ) → AllDigits s → is_int s ≡ true → IsInt s
 unfolding is_int
 int_from_test [] d h = absurd (cc h)
-int_from_test (b ∷ s) d h = search (arith, nat_tests, cases_eq, empty_from_test)
+int_from_test (b ∷ s) d h = search (arith, cases_eq, empty_from_test)
 
 -- ---- tests of the first byte
 pub begins_is : (c : ℕ) (s : List ℕ) → begins c s ≡ true → s ≡ c ∷ drop 1 s
 unfolding begins
 begins_is c [] h = absurd (cc h)
-begins_is c (b ∷ s) h = search (arith, nat_tests)
+begins_is c (b ∷ s) h = search arith
 
 pub begins_own : (c : ℕ) (s : List ℕ) → begins c (c ∷ s) ≡ true
 unfolding begins
-begins_own c s = grind (arith, nat_tests)
+begins_own c s = grind arith
 
 begins_other : {c b : ℕ} (s : List ℕ) → (b ≡ c → ⊥) → begins c (b ∷ s) ≡ false
 unfolding begins
-begins_other s h = grind (arith, nat_tests)
+begins_other s h = grind arith
 
 begins_none : (c : ℕ) → begins c [] ≡ false
 unfolding begins
@@ -81,11 +81,11 @@ begins_none c = refl
 
 pub digit_begins : (c : ℕ) (s t : List ℕ) → IsDigits s → c < 48 → begins c (s ++ t) ≡ false
 digit_begins c [] t d h = absurd d
-digit_begins c (b ∷ s) t d h = begins_other (s ++ t) (λ e. omega (arith, d.0, e))
+digit_begins c (b ∷ s) t d h = begins_other (s ++ t) (λ e. omega arith)
 
 pub digit_begins_alone : (c : ℕ) (s : List ℕ) → IsDigits s → c < 48 → begins c s ≡ false
 digit_begins_alone c [] d h = absurd d
-digit_begins_alone c (b ∷ s) d h = begins_other s (λ e. omega (arith, d.0, e))
+digit_begins_alone c (b ∷ s) d h = begins_other s (λ e. omega arith)
 
 pub all_of : (s : List ℕ) → IsDigits s → AllDigits s
 all_of [] d = absurd d
@@ -118,9 +118,9 @@ sign_split : (negative : Bool) (sign digits : List ℕ) → IsExpSign negative s
 unfolding exp_digits
 sign_split true sign digits s d =
     rw s (begins_own 45 digits, cond-true _ _ _ (or_left _ _ (begins_own 45 digits)))
-sign_split false sign digits (inl none) d = search (arith, digit_begins_alone, cond-false, or_from)
+sign_split false sign digits (inl none) d = search (arith, digit_begins_alone, or_from)
 sign_split false sign digits (inr plus) d =
-    search (arith, begins_other, cond-true, or_right, begins_own)
+    search (arith, begins_other, or_right, begins_own)
 
 abbrev IsMark : ℕ → Type 0
 IsMark b = (b ≡ 101) ⊎ (b ≡ 69)
@@ -130,15 +130,15 @@ mark_test b (inl e) = rw e
 mark_test b (inr e) = rw e
 
 mark_from_test : (b : ℕ) → (nat_eq b 101 || nat_eq b 69) ≡ true → IsMark b
-mark_from_test b h = search (arith, nat_tests, or_cases)
+mark_from_test b h = search arith
 
 mark_no_digit : (b : ℕ) → IsMark b → is_ascii_digit b ≡ false
 mark_no_digit b (inl e) = rw e
 mark_no_digit b (inr e) = rw e
 
 mark_no_point : (b : ℕ) (s : List ℕ) → IsMark b → begins 46 (b ∷ s) ≡ false
-mark_no_point b s (inl e) = begins_other s (λ f. omega (arith, e, f))
-mark_no_point b s (inr e) = begins_other s (λ f. omega (arith, e, f))
+mark_no_point b s (inl e) = begins_other s (λ f. omega arith)
+mark_no_point b s (inr e) = begins_other s (λ f. omega arith)
 
 -- a right exponent passes the test, with its value; it begins neither with a digit nor with a point
 exp_test : (e : ℤ) (t : List ℕ) → IsExp e t → (is_exp t ≡ true) × (exp_value t ≡ e) × (begins_digit t ≡ false)
@@ -168,7 +168,7 @@ parts_by_sign b t false false mark e f d = exp_parts b [] t false mark (inl refl
 pub exp_from_test : (t : List ℕ) → is_exp t ≡ true → IsExp (exp_value t) t
 unfolding is_exp exp_value exp_digits
 exp_from_test [] h = inl (refl, refl)
-exp_from_test (b ∷ t) h = search (arith, and_parts, parts_by_sign, mark_from_test, whole_from_test)
+exp_from_test (b ∷ t) h = search (arith, and_parts, parts_by_sign, whole_from_test)
 
 -- ---- the fraction
 pub frac_bare : (r : List ℕ) → begins 46 r ≡ false → (is_frac r ≡ true) × (frac_digits r ≡ []) × (after_frac r ≡ r)
@@ -247,12 +247,11 @@ pub spells_test : (s : List ℕ) (n : Written) → Spells s n → (is_number s �
 spells_test s n h =
     let exp = exp_test n.exponent h.exp h.exp_is in
     let frac = frac_test n.frac h.fraction h.exp h.frac_is exp.2 exp.3 in
-    let tail : List ℕ = h.fraction ++ h.exp in
+    let tail = h.fraction ++ h.exp in
     let sign = sign_of n.negative h.minus (n.int ++ tail) h.minus_is
     (digit_begins 45 n.int tail (int_is_digits n.int h.int_is) (omega arith)) in
-    let front = front_append n.int tail (int_digits n.int h.int_is) frac.3 in
     let rest = rest_append n.int tail (int_digits n.int h.int_is) frac.3 in
-    rw (h.joined, sign.0, sign.1, front, rest, frac.1, frac.2, exp.1)
+    rw (h.joined, sign.0, sign.1, front_append n.int tail (int_digits n.int h.int_is) frac.3, rest, frac.1, frac.2, exp.1)
     (and_from _ _ (int_test n.int h.int_is) (and_from _ _ frac.0 exp.0), refl)
 
 -- and what passes the test is a number of the grammar

@@ -9,8 +9,7 @@ one_written {s} {m} {n} a b = sym (spells_test s m a).1 ∙ (spells_test s n b).
 
 one_value : (s : List ℕ) (v w : Number) → IsValue s v → IsValue s w → v ≡ w
 one_value s v w a b =
-    let written = one_written a.spells b.spells in
-    let other : SameValue (number_of a.written) w = rw written b.same in
+    let other : SameValue (number_of a.written) w = rw (one_written a.spells b.spells) b.same in
     normal_same (same_trans (same_sym a.same) other) a.normal b.normal
 
 pub has_one_value : (s : List ℕ) → HasOneValue s

@@ -1,9 +1,8 @@
 -- The normal form of the number that was read.
-use Rattle.cj_decimal.proofs.Common.{◌≡◌, ℕ, zero, suc, ◌+◌, ◌*◌, ◌/◌, ◌%◌, ◌^◌, ◌<◌, ◌≤◌, Bool, true, false, ℤ, pos, neg_ℤ, ◌+ℤ◌, ◌-ℤ◌, ◌*ℤ◌, ◌≤ℤ◌, ◌<ℤ◌, refl, sym, ap, ◌∙◌, arith, ⊎_elim, ◌⊎◌, unsigned_abs, pow-add, ints, by_lt_z, to_z-of_z, fits_signed_from_abs, Number, scaled, signed, SameValue, IsNormal, IsInRange, IsOutOfRange, IsTooLong, StandsFor, IsTrimmed, Saturates}
+use Rattle.cj_decimal.proofs.Common.{◌≡◌, ℕ, zero, suc, ◌+◌, ◌*◌, ◌/◌, ◌%◌, ◌^◌, ◌<◌, ◌≤◌, Bool, true, false, ℤ, pos, neg_ℤ, ◌+ℤ◌, ◌-ℤ◌, ◌*ℤ◌, ◌≤ℤ◌, ◌<ℤ◌, refl, sym, ap, ◌∙◌, arith, ⊎_elim, ◌⊎◌, unsigned_abs, pow-add, ints, Number, scaled, signed, SameValue, IsNormal, IsInRange, IsOutOfRange, IsTooLong, StandsFor, IsTrimmed, Saturates}
 use Rattle.std.specs.Int.{w32, w128, cast_signed, cast_unsigned}
 use Rattle.cj_decimal.proofs.TenPowers.{ten_pow_suc, neg_times}
 use Rattle.cj_decimal.proofs.Trims.{trim_left, trimmed_le}
-use Rattle.cj_decimal.proofs.Values.{same_scaled}
 
 pub signed_size : (s : Bool) (n : ℕ) → unsigned_abs (signed s n) ≡ n
 signed_size false n = refl
@@ -22,7 +21,7 @@ zero_times k = omega (arith, ints)
 
 -- 0 at any power is the pair (0, 0)
 pub zero_same : (s : Bool) (n : ℕ) (q : ℤ) → n ≡ 0 → SameValue (scaled (signed s n) q) (scaled (pos 0) (pos 0))
-zero_same s n q e = search (arith, signed_zero, zero_times)
+zero_same s n q e = search arith
 
 pub zero_normal : IsNormal (scaled (pos 0) (pos 0))
 zero_normal = record { normal = λ e. refl }
@@ -30,10 +29,10 @@ zero_normal = record { normal = λ e. refl }
 -- the number c with k zeros at its end is the number c at a power k higher
 pub trimmed_same : (s : Bool) {n : ℕ} (c k : ℕ) (p q : ℤ) → n ≡ c * 10 ^ k → q ≡ p +ℤ pos k
     → SameValue (scaled (signed s n) p) (scaled (signed s c) q)
-trimmed_same s {n} c k p q e f = search (arith, same_scaled, signed_times)
+trimmed_same s {n} c k p q e f = search arith
 
 pub trimmed_normal : (s : Bool) (c : ℕ) (q : ℤ) → 0 < c % 10 → IsNormal (scaled (signed s c) q)
-trimmed_normal s c q h = search (arith, signed_size)
+trimmed_normal s c q h = search arith
 
 -- ---- every number has a normal form
 abbrev Trimmed : ℕ → Type 0
@@ -56,7 +55,7 @@ trim_by_last n zero e p more =
 
 trim_within : (fuel n : ℕ) → n ≤ fuel → 0 < n → Trimmed n
 trim_within zero n h p = absurd (omega arith)
-trim_within (suc fuel) n h p = trim_by_last n (n % 10) refl p (λ q e. trim_within fuel (n / 10) (omega (arith, e)) q)
+trim_within (suc fuel) n h p = trim_by_last n (n % 10) refl p (λ q e. trim_within fuel (n / 10) (omega arith) q)
 
 pub trim : (n : ℕ) → 0 < n → (c : ℕ) × (k : ℕ) × IsTrimmed n c k
 trim n p = trim_within n n (omega arith) p
@@ -88,8 +87,8 @@ out_form s c up q whole last out = record {
 pub too_long_out : (s : Bool) {n : ℕ} (q : ℤ) → IsTooLong n → IsOutOfRange (scaled (signed s n) q)
 too_long_out s {n} q long =
     let t = trim n (omega (arith, long.too_long n 0 (omega arith))) in
-    let big : 10 ^ 36 ≤ t.0 = long.too_long t.0 t.1 t.2.whole in
-    out_form s t.0 t.1 q t.2.whole t.2.last (λ r. omega (arith, r.digits, signed_size s t.0, big))
+    let big = long.too_long t.0 t.1 t.2.whole in
+    out_form s t.0 t.1 q t.2.whole t.2.last (λ r. omega (arith, signed_size s t.0, big))
 
 -- the digits that were read, without the zeros at their end
 pub stands_trimmed : {lead extra : ℕ} {lost : Bool} {n c k : ℕ} → StandsFor lead extra lost n → lost ≡ false
@@ -109,27 +108,27 @@ power_in {e} {r} after_point up s a b low high = search (arith, ints)
 
 pub power_low_out : {e r : ℤ} (after_point up : ℕ) → Saturates e r → after_point < 2 ^ 64 → up < 2 ^ 65
     → (r -ℤ pos after_point +ℤ pos up) <ℤ neg_ℤ (pos 1000000) → (e -ℤ pos after_point +ℤ pos up) <ℤ neg_ℤ (pos 1000000)
-power_low_out {e} {r} after_point up s a b h = search (arith, ints, by_lt_z)
+power_low_out {e} {r} after_point up s a b h = search arith
 
 pub power_high_out : {e r : ℤ} (after_point up : ℕ) → Saturates e r → after_point < 2 ^ 64 → up < 2 ^ 65
     → pos 1000000 <ℤ (r -ℤ pos after_point +ℤ pos up) → pos 1000000 <ℤ (e -ℤ pos after_point +ℤ pos up)
-power_high_out {e} {r} after_point up s a b h = search (arith, ints, by_lt_z)
+power_high_out {e} {r} after_point up s a b h = search arith
 
 -- where the power is out of range, the normal form is
 pub power_out : (s : Bool) {n : ℕ} (c up : ℕ) (q : ℤ) → n ≡ c * 10 ^ up → 0 < c % 10
     → ((q +ℤ pos up) <ℤ neg_ℤ (pos 1000000))
     ⊎ (pos 1000000 <ℤ (q +ℤ pos up)) → IsOutOfRange (scaled (signed s n) q)
 power_out s c up q whole last far = out_form s c up q whole last
-    (λ r. ⊎_elim (λ h. omega (arith, ints, r.power_low)) (λ h. omega (arith, ints, r.power_high)) far)
+    (λ r. ⊎_elim (λ h. omega (arith, ints)) (λ h. omega (arith, ints)) far)
 
 pub form_in_range : (s : Bool) (c : ℕ) (p : ℤ) → c < 10 ^ 36 → neg_ℤ (pos 1000000) ≤ℤ p → p ≤ℤ pos 1000000
     → IsInRange (scaled (signed s c) p)
-form_in_range s c p small low high = search (arith, signed_size)
+form_in_range s c p small low high = search arith
 
 -- the same at a coefficient and a power that equal these
 pub in_form : (s : Bool) {n c k : ℕ} {x p : ℤ} → IsTrimmed n c k → n < 10 ^ 36 → x ≡ signed s c
     → neg_ℤ (pos 1000000) ≤ℤ p → p ≤ℤ pos 1000000 → IsNormal (scaled x p) × IsInRange (scaled x p)
-in_form s {c} {p} t small e low high = search (arith, trimmed_normal, form_in_range, trimmed_le)
+in_form s {c} {p} t small e low high = search (arith, form_in_range, trimmed_le)
 
 pub same_form : (s : Bool) {n : ℕ} (c up : ℕ) (q : ℤ) {x p : ℤ} → n ≡ c * 10 ^ up → x ≡ signed s c → p ≡ q +ℤ pos up
     → SameValue (scaled (signed s n) q) (scaled x p)
@@ -138,7 +137,7 @@ same_form s c up q {p} whole e f = rw e (trimmed_same s c up q p whole f)
 -- a coefficient that went to bits and back
 pub sign_cast : (s : Bool) (c : ℕ) {x : ℤ} → x ≡ signed s c → c < 10 ^ 36
     → cast_signed w128 (cast_unsigned w128 x) ≡ signed s c
-sign_cast s c {x} e small = search (arith, to_z-of_z, fits_signed_from_abs, signed_size)
+sign_cast s c {x} e small = search arith
 
 -- the power as the code computes it
 pub power_cast : (r : ℤ) (after_point extra more : ℕ) → unsigned_abs r < 10 ^ 36 → after_point < 2 ^ 64 → extra < 2 ^ 64

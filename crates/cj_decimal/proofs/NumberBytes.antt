@@ -28,8 +28,8 @@ of_minus false s e = none e
 
 of_int : (s : List ℕ) → IsInt s → NumberBytes s
 of_int [] h = absurd h
-of_int (b ∷ s) (inl zero) = search (arith, none)
-of_int (b ∷ s) (inr h) = (inl (omega (arith, h.0), h.1), of_digits s h.2)
+of_int (b ∷ s) (inl zero) = search arith
+of_int (b ∷ s) (inr h) = (inl (omega arith, h.1), of_digits s h.2)
 
 of_frac : (digits s : List ℕ) → IsFrac digits s → NumberBytes s
 of_frac digits s (inl nothing) = none nothing.1
@@ -46,7 +46,7 @@ of_mark m s (inr e) h is = behind 69 s refl h (is ∙ ap (λ k. k ∷ s) e)
 
 of_exp : (e : ℤ) (s : List ℕ) → IsExp e s → NumberBytes s
 of_exp e s (inl nothing) = none nothing.1
-of_exp e s (inr p) = search (arith, of_mark, both, of_sign, of_digits, all_of)
+of_exp e s (inr p) = search (arith, both, of_sign, of_digits, all_of)
 
 pub number_bytes : (s : List ℕ) → SpellsNumber s → NumberBytes s
 number_bytes s number =

@@ -1,6 +1,6 @@
 -- The parts of a spelling at their places.
-use Rattle.cj_decimal.proofs.Common.{◌≡◌, ℕ, ◌+◌, ◌-◌, ◌*◌, ◌^◌, ◌<◌, ◌≤◌, List, [], ◌∷◌, ◌++◌, append-nil, drop_all, drop_more, length, drop, get_or, nil_from_length, Bool, true, false, and_from, and_parts, cases_Bool, cases_lt, cond-false, cond-true, nat_eq, ◌||◌, not, refl, sym, ap, ◌∙◌, arith, Option, None, Some, IsSome, ℤ, pos, ints, le-mul_of_pos_right, signed, StandsFor, value_after, digits_value, body, written_of, digits_front, digits_rest, begins, is_empty, begins_digit, is_int, is_frac, frac_digits, after_frac, exp_digits, is_whole_digits, is_exp, exp_value, SpellsNumber, Spells, IsReadOf, Passes, Stops, Saturates, SaturatesSize}
-use Rattle.std.proofs.lemmas.Bool.{and_left, and_right, false_from_ne_true, or_cases, true_from_ne_false}
+use Rattle.cj_decimal.proofs.Common.{◌≡◌, ℕ, ◌+◌, ◌-◌, ◌*◌, ◌^◌, ◌<◌, ◌≤◌, List, [], ◌∷◌, ◌++◌, append-nil, drop_all, drop_more, length, drop, get_or, nil_from_length, Bool, true, false, and_from, and_parts, cond-false, cond-true, nat_eq, ◌||◌, not, refl, sym, ap, ◌∙◌, arith, Option, None, Some, IsSome, ℤ, pos, le-mul_of_pos_right, signed, StandsFor, value_after, digits_value, body, written_of, digits_front, digits_rest, begins, is_empty, begins_digit, is_int, is_frac, frac_digits, after_frac, exp_digits, is_whole_digits, is_exp, exp_value, SpellsNumber, Spells, IsReadOf, Passes, Stops, Saturates, SaturatesSize}
+use Rattle.std.proofs.lemmas.Bool.{and_left, and_right}
 use Rattle.cj_decimal.proofs.TenPowers.{ten_pow_pos}
 use Rattle.cj_decimal.proofs.Pushes.{stands_short, short_stands}
 use Rattle.cj_decimal.proofs.Grammar.{frac_bare, front_is_all, spells_test, test_spells}
@@ -17,14 +17,14 @@ begins_past c s at h = ap (begins c) (drop_all at s h)
 -- a byte that stands there is within
 pub begins_within : (c : ℕ) (s : List ℕ) (at : ℕ) → begins c (drop at s) ≡ true → at < length s
 unfolding begins
-begins_within c s at h = search (arith, cases_lt, begins_past)
+begins_within c s at h = search (arith, begins_past)
 
 pub int_none : (t : List ℕ) → length (digits_front t) ≡ 0 → is_int (digits_front t) ≡ false
 unfolding is_int
 int_none t e = ap is_int (nil_from_length _ e)
 
 front_head : (b : ℕ) (t : List ℕ) → 0 < length (digits_front (b ∷ t)) → digits_front (b ∷ t) ≡ b ∷ digits_front t
-front_head b t h = search (arith, cases_Bool, front_digit, front_other)
+front_head b t h = search (arith, front_digit, front_other)
 
 not_empty : (f : List ℕ) → 0 < length f → is_empty f ≡ false
 unfolding is_empty
@@ -48,12 +48,12 @@ drop_one s at h = ap (drop 1) (drop_more s at 0 h)
 pub no_first_digit : (t : List ℕ) → length (digits_front t) ≡ 0 → begins_digit t ≡ false
 unfolding begins_digit
 no_first_digit [] h = refl
-no_first_digit (b ∷ t) h = search (arith, false_from_ne_true, front_digit)
+no_first_digit (b ∷ t) h = search (arith, front_digit)
 
 pub first_digit_there : (t : List ℕ) → 0 < length (digits_front t) → begins_digit t ≡ true
 unfolding begins_digit
 first_digit_there [] h = absurd (omega (arith, h, ap length front_end))
-first_digit_there (b ∷ t) h = search (arith, true_from_ne_false, front_other)
+first_digit_there (b ∷ t) h = search (arith, front_other)
 
 -- ---- the exponent
 pub no_whole_digits : (t : List ℕ) → length (digits_front t) ≡ 0 → is_whole_digits t ≡ false
@@ -85,8 +85,8 @@ saturates_size lead extra {lost} n full cut s = record {
 
 pub saturates_signed : (negative : Bool) {n r : ℕ} → SaturatesSize n r
     → Saturates (signed negative n) (signed negative r)
-saturates_signed false {n} s = search (arith, ints)
-saturates_signed true {n} s = search (arith, ints)
+saturates_signed false {n} s = search arith
+saturates_signed true {n} s = search arith
 
 pub exp_none : {r : List ℕ} → r ≡ [] → (is_exp r ≡ true) × Saturates (exp_value r) (pos 0)
 unfolding is_exp exp_value
@@ -115,7 +115,7 @@ no_sign t e = cond-false _ _ _ e
 -- a byte of two that stands there is within
 pub one_of_within : (a b : ℕ) (s : List ℕ) (at : ℕ) → (begins a (drop at s) || begins b (drop at s)) ≡ true
     → at < length s
-one_of_within a b s at h = search (arith, or_cases, begins_within)
+one_of_within a b s at h = search (arith, begins_within)
 
 -- an exponent's mark at a place, and its digits at another
 pub marked_at : (s : List ℕ) (from first : ℕ) → (begins 101 (drop from s) || begins 69 (drop from s)) ≡ true
@@ -125,7 +125,7 @@ pub marked_at : (s : List ℕ) (from first : ℕ) → (begins 101 (drop from s) 
 marked_at s from first mark digits =
     let marked = exp_marked (drop from s) mark in
     let next = drop_one s from (one_of_within 101 69 s from mark) in
-    let same : exp_digits (drop 1 (drop from s)) ≡ drop first s = ap exp_digits next ∙ sym digits in (
+    let same = ap exp_digits next ∙ sym digits in (
       marked.0 ∙ ap is_whole_digits same,
       marked.1 ∙ ap (λ t. signed (begins 45 t) (digits_value (exp_digits (drop 1 (drop from s))))) next
           ∙ ap (λ t. signed (begins 45 (drop (from + 1) s)) (digits_value t)) same,

@@ -31,13 +31,13 @@ too_long_new n d p h big = record { too_long = λ c k e. at c k e }
 
 no_extra : (lead extra : ℕ) → lead < 10 ^ 35 → (0 < extra → 10 ^ 35 ≤ lead) → extra ≡ 0
 no_extra lead zero h full = refl
-no_extra lead (suc x) h full = absurd (omega (arith, full (omega arith)))
+no_extra lead (suc x) h full = absurd (omega arith)
 
 pub push_short : {lead extra : ℕ} (lost : Bool) {n : ℕ} (d : ℕ) → lead < 10 ^ 35 → (0 < extra → 10 ^ 35 ≤ lead)
     → (IsTrue lost → 10 ^ 35 ≤ lead) → d < 10 → StandsFor lead extra lost n
     → StandsFor (lead * 10 + d) extra lost (10 * n + d)
 push_short true d h full cut small s = absurd (omega (arith, cut (search rules)))
-push_short {lead} {extra} false {n} d h full cut small s = search (arith, no_extra)
+push_short {lead} {extra} false {n} d h full cut small s = search arith
 
 pub push_zero : {lead extra : ℕ} {lost : Bool} {n : ℕ} → StandsFor lead extra lost n
     → StandsFor lead (extra + 1) lost (10 * n + 0)
@@ -62,7 +62,7 @@ push_lost {lead} {extra} false {n} d full p h s =
 pub stands_short : {lead extra : ℕ} (lost : Bool) {n : ℕ} → lead < 10 ^ 35 → (0 < extra → 10 ^ 35 ≤ lead)
     → (IsTrue lost → 10 ^ 35 ≤ lead) → StandsFor lead extra lost n → n ≡ lead
 stands_short true small full cut s = absurd (omega (arith, cut refl))
-stands_short {lead} {extra} false small full cut s = search (arith, no_extra, no_gap)
+stands_short {lead} {extra} false small full cut s = search arith
 
 pub short_stands : (lead : ℕ) → StandsFor lead 0 false lead
 short_stands lead = record { whole = λ _. no_gap lead; cut = λ e. absurd (cc e) }

@@ -23,7 +23,7 @@ units_below v u t normal same low unit =
 -- the number of units, where the power is k above theirs
 pub units_are : (v : Number) (u t : ℤ) (k : ℕ) → v.power ≡ t +ℤ pos k → SameValue v (scaled u t)
     → u ≡ v.coefficient *ℤ pos (10 ^ k)
-units_are v u t k f same = search (arith, ints, gap_is, scaled_same, same_sym)
+units_are v u t k f same = search arith
 
 pub units_same : (v : Number) (u t : ℤ) (k : ℕ) → v.power ≡ t +ℤ pos k → u ≡ v.coefficient *ℤ pos (10 ^ k)
     → SameValue v (scaled u t)
@@ -35,15 +35,15 @@ split k digits h = ap (λ n. 10 ^ n) (omega arith) ∙ ten_pow_add (digits - k) 
 -- a coefficient below a power of ten is below a higher one after the zeros
 pub scaled_small : (c k digits : ℕ) → k ≤ digits → c < 10 ^ (digits - k) → c * 10 ^ k < 10 ^ digits
 scaled_small c k digits h small =
-    let less : c * 10 ^ k < 10 ^ (digits - k) * 10 ^ k =
+    let less =
     mul-lt-mul_of_pos_right {m = c} {n = 10 ^ (digits - k)} {k = 10 ^ k} small (ten_pow_pos k) in
-    omega (arith, split k digits h, less)
+    omega (arith, split k digits h)
 
 pub scaled_large : (c k digits : ℕ) → k ≤ digits → 10 ^ (digits - k) ≤ c → 10 ^ digits ≤ c * 10 ^ k
 scaled_large c k digits h large =
-    let more : 10 ^ (digits - k) * 10 ^ k ≤ c * 10 ^ k =
+    let more =
     mul-le-mul_right {m = 10 ^ (digits - k)} {n = c} (10 ^ k) large in
-    omega (arith, split k digits h, more)
+    omega (arith, split k digits h)
 
 -- with as many zeros as the bound has, only 0 is below it
 pub zeros_large : (c k digits : ℕ) → 0 < c → digits ≤ k → 10 ^ digits ≤ c * 10 ^ k
@@ -51,7 +51,7 @@ zeros_large c k digits some h = search (arith, ten_pow_le)
 
 pub size_of_units : (v : Number) (u t : ℤ) (k : ℕ) → v.power ≡ t +ℤ pos k → SameValue v (scaled u t)
     → unsigned_abs u ≡ unsigned_abs v.coefficient * 10 ^ k
-size_of_units v u t k f same = search (arith, units_are, abs_times)
+size_of_units v u t k f same = search (arith, units_are)
 
 -- where the zeros alone are as many as the bound has, the number is too large
 pub far_units : {v : Number} (u : ℤ) (after_point digits k : ℕ) → IsNormal v
@@ -71,12 +71,12 @@ far_units {v} u after_point digits k normal f apart h same = by_size (unsigned_a
 -- where the coefficient with its zeros reaches the bound, likewise
 pub large_units : (v : Number) (u t : ℤ) (digits k : ℕ) → v.power ≡ t +ℤ pos k
     → 10 ^ digits ≤ unsigned_abs v.coefficient * 10 ^ k → SameValue v (scaled u t) → 10 ^ digits ≤ unsigned_abs u
-large_units v u t digits k f large same = omega (arith, size_of_units v u t k f same, large)
+large_units v u t digits k f large same = omega (arith, size_of_units v u t k f same)
 
 -- a product of that size is small, and fits
 pub product_small : (c : ℤ) (k digits : ℕ) → k ≤ digits → unsigned_abs c < 10 ^ (digits - k)
     → unsigned_abs (c *ℤ pos (10 ^ k)) < 10 ^ digits
-product_small c k digits h small = search (arith, abs_times, scaled_small)
+product_small c k digits h small = search (arith, scaled_small)
 
 pub product_fits : (c : ℤ) (k digits : ℕ) → k ≤ digits → digits ≤ 36 → unsigned_abs c < 10 ^ (digits - k)
     → unsigned_abs (c *ℤ pos (10 ^ k)) < 10 ^ 36
@@ -89,7 +89,7 @@ power_fits k h = ten_pow_le k 36 h
 factors_cast : (c : ℤ) (k : ℕ) {power : ℕ} → k ≤ 36 → unsigned_abs c < 10 ^ 36 → power ≡ 10 ^ k
     → cast_signed w128 (cast_unsigned w128 c) *ℤ cast_signed w128 power ≡ c *ℤ pos (10 ^ k)
 factors_cast c k {power} most fits e =
-    search (arith, ints, power_fits, to_z-of_z, fits_signed_from_abs)
+    search (arith, ints, power_fits, to_z-of_z)
 
 pub product_cast : (c : ℤ) (k digits : ℕ) {power : ℕ} → k ≤ digits → digits ≤ 36 → unsigned_abs c < 10 ^ 36
     → unsigned_abs c < 10 ^ (digits - k) → power ≡ 10 ^ k
@@ -112,7 +112,7 @@ pub value_in_units : (r : Option ℤ) {v w : Number} (t : ℤ) {x : ℤ} (digits
     → v.power ≡ t +ℤ pos k
     → IfSome r (λ u. SameValue w (scaled u t) × (unsigned_abs u < 10 ^ digits))
 value_in_units None t digits k h same e f = search rules
-value_in_units (Some u) {v} t digits k h same e f = search (arith, units_same)
+value_in_units (Some u) {v} t digits k h same e f = search arith
 
 pub none_in_units : (r : Option ℤ) {v w : Number} (t : ℤ) {x : ℤ} (digits k : ℕ)
     → IfNone r (10 ^ digits ≤ unsigned_abs x * 10 ^ k) → v ≡ w → x ≡ v.coefficient → v.power ≡ t +ℤ pos k

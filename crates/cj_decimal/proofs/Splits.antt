@@ -1,10 +1,10 @@
 -- Whole numbers of units, and what is left of them.
-use Rattle.cj_decimal.proofs.Common.{◌≡◌, ◌*◌, ◌^◌, ◌<◌, ◌≤◌, ℤ, pos, negsuc, ◌+ℤ◌, ◌-ℤ◌, ◌*ℤ◌, ◌≤ℤ◌, ◌<ℤ◌, ap, ◌∙◌, arith, unsigned_abs, FitsSigned, ints, to_z-of_z, fits_signed_from_abs, value_order}
+use Rattle.cj_decimal.proofs.Common.{◌≡◌, ◌*◌, ◌^◌, ◌<◌, ◌≤◌, ℤ, pos, negsuc, ◌+ℤ◌, ◌-ℤ◌, ◌*ℤ◌, ◌≤ℤ◌, ◌<ℤ◌, ap, ◌∙◌, arith, unsigned_abs, FitsSigned, ints, value_order}
 use Rattle.std.specs.Ordering.{int_cmp}
 use Rattle.std.specs.declared.cmp.Ordering.{Ordering}
 use Rattle.std.specs.Int.{int_div_euclid, int_rem_euclid, w64, w128, cast_signed, cast_unsigned}
 use Rattle.cj_decimal.specs.Affine.{units}
-use Rattle.cj_decimal.proofs.TenPowers.{times_one, times_scaled}
+use Rattle.cj_decimal.proofs.TenPowers.{times_scaled}
 use borrow.Author.Differences.{up, down, same_in, product_is, sum_is_lem}
 
 -- a number is its quotient by 10^18 times that, and its remainder
@@ -40,9 +40,8 @@ pub difference : (v whole part shift q : ℤ) → v *ℤ (whole *ℤ pos (10 ^ 1
     ≡ (v *ℤ whole) *ℤ pos (10 ^ 18) +ℤ (v *ℤ part +ℤ shift -ℤ q)
 difference v whole part shift q =
     let sum = times_sum v (whole *ℤ pos (10 ^ 18)) part in
-    let scaled = times_scaled v whole (10 ^ 18) in
     joined (v *ℤ (whole *ℤ pos (10 ^ 18) +ℤ part)) (v *ℤ (whole *ℤ pos (10 ^ 18))) ((v *ℤ whole) *ℤ pos (10 ^ 18))
-    (v *ℤ part) sum scaled
+    (v *ℤ part) sum (times_scaled v whole (10 ^ 18))
   where
     joined : (a b c d : ℤ) → a ≡ b +ℤ d → b ≡ c → a +ℤ shift -ℤ q ≡ c +ℤ (d +ℤ shift -ℤ q)
     joined a b c d e f = omega (arith, ints)
@@ -60,16 +59,16 @@ difference_by_parts v whole part shift q carry left e =
 
 -- at one power the order of numbers is that of their coefficients
 pub units_order : (x q : ℤ) → value_order (units x) (units q) ≡ int_cmp x q
-units_order x q = search (arith, times_one)
+units_order x q = search arith
 
 pub scale_joined : (scale : ℤ) {whole part : ℤ} → int_div_euclid scale (pos (10 ^ 18)) ≡ whole
     → int_rem_euclid scale (pos (10 ^ 18)) ≡ part → scale ≡ whole *ℤ pos (10 ^ 18) +ℤ part
-scale_joined scale {whole} e f = search (arith, euclid)
+scale_joined scale {whole} e f = search arith
 
 -- a scale below 10^18 in size has a whole part of at most that size
 pub whole_small : (scale : ℤ) {whole part : ℤ} → int_div_euclid scale (pos (10 ^ 18)) ≡ whole
     → int_rem_euclid scale (pos (10 ^ 18)) ≡ part → unsigned_abs scale < 10 ^ 36 → unsigned_abs whole ≤ 10 ^ 18
-whole_small scale {part} e f small = search (arith, ints, scale_joined, euclid_part)
+whole_small scale {part} e f small = search arith
 
 -- what the steps of the comparison amount to
 pub compare_law : (v : ℤ) {scale : ℤ} (whole part shift q : ℤ) {first rest : ℤ} (carry : ℤ) {left second sum last : ℤ}
@@ -81,7 +80,7 @@ compare_law v {scale} whole part shift q carry {left} {sum} {last} e b joined a 
     let at = b ∙ f ∙ ap (λ x. x +ℤ shift -ℤ q) a in
     let parts = difference_by_parts v whole part shift q carry left at in
     let at_scale = ap (λ x. v *ℤ x +ℤ shift -ℤ q) joined in
-    let all : (sum *ℤ pos (10 ^ 18) +ℤ last) ≡ (v *ℤ whole +ℤ carry) *ℤ pos (10 ^ 18) +ℤ left =
+    let all =
     ap (λ x. x *ℤ pos (10 ^ 18) +ℤ last) (g ∙ ap (λ x. x +ℤ carry) d)
     ∙ ap (λ x. (v *ℤ whole +ℤ carry) *ℤ pos (10 ^ 18) +ℤ x) h in
     order_from_difference (v *ℤ scale +ℤ shift) q (at_scale ∙ parts) (e ∙ ap (λ x. int_cmp x (pos 0)) all)
@@ -89,7 +88,7 @@ compare_law v {scale} whole part shift q carry {left} {sum} {last} e b joined a 
 -- ---- numbers that went to bits and back
 pub product_of_casts : (v p : ℤ) {r : ℤ} → unsigned_abs v ≤ 10 ^ 18 → unsigned_abs p ≤ 10 ^ 18
     → r ≡ cast_signed w64 (cast_unsigned w64 v) *ℤ cast_signed w64 (cast_unsigned w64 p) → r ≡ v *ℤ p
-product_of_casts v p a b e = search (arith, to_z-of_z, fits_signed_from_abs)
+product_of_casts v p a b e = search arith
 
 pub part_small : (scale : ℤ) {part : ℤ} → int_rem_euclid scale (pos (10 ^ 18)) ≡ part → unsigned_abs part ≤ 10 ^ 18
 part_small scale {part} f =
@@ -100,7 +99,7 @@ pub split_cast : (z : ℤ) {w : ℤ} → FitsSigned w128 z
     → w ≡ int_div_euclid (cast_signed w128 (cast_unsigned w128 z)) (pos (10 ^ 18))
     → (w *ℤ pos (10 ^ 18) +ℤ int_rem_euclid z (pos (10 ^ 18)) ≡ z) × (pos 0 ≤ℤ int_rem_euclid z (pos (10 ^ 18)))
     × (int_rem_euclid z (pos (10 ^ 18)) <ℤ pos (10 ^ 18))
-split_cast z {w} fits e = search (arith, to_z-of_z, euclid_part, euclid)
+split_cast z {w} fits e = search arith
 
 pub rest_cast : (p s : ℤ) {u q : ℤ} → unsigned_abs p ≤ 10 ^ 36 → unsigned_abs s < 10 ^ 36 → unsigned_abs u < 10 ^ 36
     → u ≡ q

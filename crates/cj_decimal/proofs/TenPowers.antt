@@ -1,5 +1,5 @@
 -- Powers of ten, and products with them.
-use Rattle.cj_decimal.proofs.Common.{◌≡◌, ℕ, zero, suc, ◌+◌, ◌*◌, ◌^◌, ◌<◌, ◌≤◌, ℤ, pos, neg_ℤ, ◌*ℤ◌, refl, sym, ap, arith, one-le-pow, pow-le-pow_right, le_of_mul-le-mul_right, pow-add, ints}
+use Rattle.cj_decimal.proofs.Common.{◌≡◌, ℕ, zero, suc, ◌+◌, ◌*◌, ◌^◌, ◌<◌, ◌≤◌, ℤ, pos, neg_ℤ, ◌*ℤ◌, refl, sym, ap, arith, one-le-pow, pow-le-pow_right, pow-add, ints}
 use borrow.Author.Differences.{up, down, same_in, same_out, product_is}
 
 pub ten_pow_pos : (k : ℕ) → 0 < 10 ^ k
@@ -20,11 +20,11 @@ pub ten_pow_below : (i j : ℕ) → 10 ^ i < 10 ^ j → i < j
 ten_pow_below i j h = grind (arith, ten_pow_le j i)
 
 pub mul_right_cancel : (a b k : ℕ) → 0 < k → a * k ≡ b * k → a ≡ b
-mul_right_cancel a b k p e = search (arith, le_of_mul-le-mul_right)
+mul_right_cancel a b k p e = search arith
 
 -- a whole number times a positive one can be divided by it again
 pub times_cancel : (x y : ℤ) (k : ℕ) → 0 < k → x *ℤ pos k ≡ y *ℤ pos k → x ≡ y
-times_cancel x y k p e = search (arith, same_in, mul_right_cancel, same_out, product_is)
+times_cancel x y k p e = search (arith, same_in, mul_right_cancel, same_out)
 
 pub times_scaled : (v a : ℤ) (u : ℕ) → v *ℤ (a *ℤ pos u) ≡ (v *ℤ a) *ℤ pos u
 times_scaled v a u =

@@ -1,5 +1,5 @@
 -- Equality of numbers, and its laws.
-use Rattle.cj_decimal.proofs.Common.{◌≡◌, ℕ, zero, suc, ◌+◌, ◌*◌, ◌%◌, ◌^◌, ◌<◌, ℤ, pos, negsuc, ◌+ℤ◌, ◌*ℤ◌, ◌≤ℤ◌, true, refl, sym, ap, ◌∙◌, arith, inl, inr, ⊎_elim, unsigned_abs, ◌⊎◌, ints, clamps, unsigned_abs-mul, by_lt_z, to_z-of_z, fits_signed_from_abs, mul-mod_right, Number, scaled, smaller_power, brought, SameValue, IsNormal, IsInRange}
+use Rattle.cj_decimal.proofs.Common.{◌≡◌, ℕ, zero, suc, ◌+◌, ◌*◌, ◌%◌, ◌^◌, ◌<◌, ℤ, pos, negsuc, ◌+ℤ◌, ◌*ℤ◌, ◌≤ℤ◌, true, refl, sym, ap, ◌∙◌, arith, inl, inr, ⊎_elim, unsigned_abs, ◌⊎◌, ints, clamps, unsigned_abs-mul, by_lt_z, to_z-of_z, Number, scaled, smaller_power, brought, SameValue, IsNormal, IsInRange}
 use Rattle.std.proofs.lemmas.Bool.{eq-eqb, eqb-true}
 use Rattle.std.specs.Prelude.{nat_eq, FitsSigned, ◌↔◌}
 use Rattle.std.specs.Int.{int_gap, int_min, Width, w32, w128, cast_signed, cast_unsigned}
@@ -13,7 +13,7 @@ gap_is (negsuc a) (pos b) h = omega (arith, ints)
 gap_is (negsuc a) (negsuc b) h = omega (arith, ints)
 
 pub gap_add : (t u p : ℤ) → t ≤ℤ u → u ≤ℤ p → int_gap t p ≡ int_gap u p + int_gap t u
-gap_add t u p h k = search (arith, ints, gap_is)
+gap_add t u p h k = search arith
 
 pub smaller_left : (m n : Number) → smaller_power m n ≤ℤ m.power
 smaller_left m n = omega (arith, ints, clamps)
@@ -40,8 +40,7 @@ same_at {m} {n} t same h k =
 pub at_same : (m n : Number) (t : ℤ) → t ≤ℤ m.power → t ≤ℤ n.power → brought m t ≡ brought n t → SameValue m n
 at_same m n t h k e =
     let low : t ≤ℤ smaller_power m n = omega (arith, ints, clamps) in
-    let scaled : (brought m (smaller_power m n) *ℤ pos (10 ^ int_gap t (smaller_power m n)))
-    ≡ (brought n (smaller_power m n) *ℤ pos (10 ^ int_gap t (smaller_power m n))) =
+    let scaled =
     sym (brought_lower m t (smaller_power m n) low (smaller_left m n)) ∙ e
     ∙ brought_lower n t (smaller_power m n) low (smaller_right m n) in
     record { coefficients = times_cancel _ _ (10 ^ int_gap t (smaller_power m n)) (ten_pow_pos _) scaled }
@@ -54,7 +53,7 @@ same_refl m = record { coefficients = refl }
 
 pub same_trans : {l m n : Number} → SameValue l m → SameValue m n → SameValue l n
 same_trans {l} {m} {n} h k =
-    let t : ℤ = int_min (smaller_power l m) n.power in
+    let t = int_min (smaller_power l m) n.power in
     let tl : t ≤ℤ l.power = omega (arith, ints, clamps) in
     let tm : t ≤ℤ m.power = omega (arith, ints, clamps) in
     let tn : t ≤ℤ n.power = omega (arith, ints, clamps) in
@@ -63,11 +62,11 @@ same_trans {l} {m} {n} h k =
 -- a coefficient with k zeros at its end, and a power that is k greater without them
 pub same_scaled : (c d : ℤ) (p : ℤ) {q : ℤ} (k : ℕ) → c ≡ d *ℤ pos (10 ^ k) → q ≡ p +ℤ pos k
     → SameValue (scaled c p) (scaled d q)
-same_scaled c d p {q} k e f = search (arith, ints, gap_is, at_same, times_one)
+same_scaled c d p {q} k e f = search arith
 
 -- and the other way round
 pub scaled_same : (c d : ℤ) (p q : ℤ) → SameValue (scaled c p) (scaled d q) → p ≤ℤ q → c ≡ d *ℤ pos (10 ^ int_gap p q)
-scaled_same c d p q same low = search (arith, ints, gap_is, times_one, same_at)
+scaled_same c d p q same low = search arith
 
 pub number_eq : (m n : Number) → m.coefficient ≡ n.coefficient → m.power ≡ n.power → m ≡ n
 number_eq m n e f = search arith
@@ -80,7 +79,7 @@ swap_ten n p = omega arith
 
 -- a multiple of a power of ten above 1 is a multiple of 10
 pub ends_in_zero : (n k : ℕ) → n * 10 ^ (k + 1) % 10 ≡ 0
-ends_in_zero n k = search (arith, ten_pow_suc, swap_ten, mul-mod_right)
+ends_in_zero n k = search (arith, ten_pow_suc, swap_ten)
 
 pub le_total : (a b : ℤ) → (a ≤ℤ b) ⊎ (b ≤ℤ a)
 le_total a b = by_lt_z a b (λ h. inl (omega (arith, ints))) (λ h. inr h)
@@ -89,13 +88,13 @@ normal_gap : {v w : Number} → IsNormal v → IsNormal w → v.power ≤ℤ w.p
     → v.coefficient ≡ w.coefficient *ℤ pos (10 ^ g) → v ≡ w
 normal_gap {v} {w} a b low zero f e = number_eq v w (e ∙ times_one w.coefficient) (omega (arith, ints, f))
 normal_gap {v} {w} a b low (suc g) f e =
-    let size : unsigned_abs v.coefficient ≡ unsigned_abs w.coefficient * 10 ^ (g + 1) = ap unsigned_abs e
+    let size = ap unsigned_abs e
     ∙ abs_times w.coefficient (10 ^ suc g) ∙ ap (λ k. unsigned_abs w.coefficient * 10 ^ k) (omega arith) in
-    let zero_v : v ≡ scaled (pos 0) (pos 0) =
+    let zero_v =
     a.normal (ap (λ n. n % 10) size ∙ ends_in_zero (unsigned_abs w.coefficient) g) in
-    let none : unsigned_abs w.coefficient * 10 ^ (g + 1) ≡ 0 * 10 ^ (g + 1) = sym size
+    let none = sym size
     ∙ ap (λ n. unsigned_abs n.coefficient) zero_v ∙ omega arith in
-    let zero_w : unsigned_abs w.coefficient ≡ 0 =
+    let zero_w =
     mul_right_cancel (unsigned_abs w.coefficient) 0 (10 ^ (g + 1)) (ten_pow_pos (g + 1)) none in
     zero_v ∙ sym (b.normal (ap (λ n. n % 10) zero_w))
 
@@ -111,13 +110,13 @@ normal_same {v} {w} same a b =
 -- ---- equality as the code tests it
 bits_apart : (w : Width) (p q : ℤ) → FitsSigned w p → FitsSigned w q
     → nat_eq (cast_unsigned w p) (cast_unsigned w q) ≡ true → p ≡ q
-bits_apart w p q a b e = search (arith, to_z-of_z, eqb-true)
+bits_apart w p q a b e = search arith
 
 bits_same : (w : Width) (p q : ℤ) → p ≡ q → nat_eq (cast_unsigned w p) (cast_unsigned w q) ≡ true
 bits_same w p q e = eq-eqb _ _ (ap (cast_unsigned w) e)
 
 coefficient_fits : {v : Number} → IsInRange v → FitsSigned w128 v.coefficient
-coefficient_fits {v} r = search (arith, fits_signed_from_abs)
+coefficient_fits {v} r = search arith
 
 -- a coefficient in range that went to bits and back
 pub coefficient_same : {v : Number} → IsInRange v → cast_signed w128 (cast_unsigned w128 v.coefficient) ≡ v.coefficient
@@ -128,14 +127,14 @@ pub coefficient_cast : {v : Number} → IsInRange v
 coefficient_cast r = rw (coefficient_same r) r.digits
 
 power_fits : {v : Number} → IsInRange v → FitsSigned w32 v.power
-power_fits r = omega (arith, ints, r.power_low, r.power_high)
+power_fits r = omega (arith, ints, r.power_low)
 
 -- with one coefficient: equal exactly where the powers are
 pub same_by_power : {v w : Number} → IsNormal v × IsInRange v → IsNormal w × IsInRange w
     → cast_unsigned w128 v.coefficient ≡ cast_unsigned w128 w.coefficient
     → (nat_eq (cast_unsigned w32 v.power) (cast_unsigned w32 w.power) ≡ true) ↔ SameValue v w
 same_by_power {v} {w} a b e =
-    let c : v.coefficient ≡ w.coefficient = sym (to_z-of_z w128 v.coefficient (coefficient_fits a.1))
+    let c = sym (to_z-of_z w128 v.coefficient (coefficient_fits a.1))
     ∙ ap (cast_signed w128) e ∙ to_z-of_z w128 w.coefficient (coefficient_fits b.1) in (
       λ h. rw (number_eq v w c (bits_apart w32 v.power w.power (power_fits a.1) (power_fits b.1) h)) (same_refl w),
       λ same. bits_same w32 v.power w.power (ap (λ (n : Number). n.power) (normal_same same a.0 b.0)),

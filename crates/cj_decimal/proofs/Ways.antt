@@ -1,5 +1,5 @@
 -- The way through the digits of a spelling.
-use Rattle.cj_decimal.proofs.Common.{◌≡◌, ℕ, ◌+◌, ◌-◌, ◌*◌, ◌<◌, ◌≤◌, List, [], ◌∷◌, length, drop, drop_all, drop_more, get_or, Bool, true, false, cond-true, cond-false, refl, sym, ap, ◌∙◌, arith, cases_lt, nat_tests, is_ascii_digit, begins_digit, digits_front, digits_rest, value_after, Passes, Carries, Stops}
+use Rattle.cj_decimal.proofs.Common.{◌≡◌, ℕ, ◌+◌, ◌-◌, ◌*◌, ◌<◌, ◌≤◌, List, [], ◌∷◌, length, drop, drop_all, drop_more, get_or, true, false, cond-true, cond-false, refl, sym, ap, ◌∙◌, arith, cases_lt, is_ascii_digit, begins_digit, digits_front, digits_rest, value_after, Passes, Carries, Stops}
 
 pub front_digit : (b : ℕ) (s : List ℕ) → is_ascii_digit b ≡ true → digits_front (b ∷ s) ≡ b ∷ digits_front s
 unfolding digits_front
@@ -26,7 +26,7 @@ unfolding digits_rest
 rest_end = refl
 
 pub digit_bounds : (b : ℕ) → is_ascii_digit b ≡ true → (48 ≤ b) × (b ≤ 57)
-digit_bounds b h = (grind (arith, nat_tests), grind (arith, nat_tests))
+digit_bounds b h = (grind arith, grind arith)
 
 front_step : (s : List ℕ) (at : ℕ) → at < length s → is_ascii_digit (get_or s at 0) ≡ true
     → digits_front (drop at s) ≡ get_or s at 0 ∷ digits_front (drop (at + 1) s)
@@ -62,9 +62,10 @@ pub record IsDigitThere (s : List ℕ) (at : ℕ) : Type 0 where
   pub low : 48 ≤ get_or s at 0
   pub high : get_or s at 0 ≤ 57
 
-pub is_digit_at : (s : List ℕ) (at : ℕ) {test : Bool} → test ≡ begins_digit (drop at s) → test ≡ true
-    → IsDigitThere s at
-is_digit_at s at e t = search (arith, cases_lt, digit_at, digit_bounds, no_digit_past)
+-- the first part of the conclusion shows `grind` the call to match
+pub is_digit_at : (s : List ℕ) (at : ℕ) → begins_digit (drop at s) ≡ true
+    → (begins_digit (drop at s) ≡ true) × IsDigitThere s at
+is_digit_at s at t = search (arith, cases_lt, digit_at, digit_bounds, no_digit_past)
 
 -- where no digit follows, the digits stop
 pub front_of_stop : (t : List ℕ) → begins_digit t ≡ false → (digits_front t ≡ []) × (digits_rest t ≡ t)

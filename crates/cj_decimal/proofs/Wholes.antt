@@ -1,5 +1,5 @@
 -- What reading a whole number answers.
-use Rattle.cj_decimal.proofs.Common.{◌≡◌, ℕ, ◌*◌, ◌^◌, ◌<◌, ◌≤◌, ◌++◌, List, [], ◌∷◌, length, drop_more, get_or, Bool, true, false, false≢true, Option, Some, None, Result, Ok, Err, ℤ, pos, negsuc, inl, inr, cases_Bool, refl, sym, ap, ◌∙◌, arith, rules, IfOk, IfSome, IsSome, unsigned_abs, is_ascii_digit, le-mul_of_pos_right, ints, Number, signed, IsNormal, IsInRange, IsWhole, SpellsNumber, IsValue, IsNumberOutOfRange, IsInt, IsFewDigits, IsFewSigned, digits_value, digits_front, digits_rest, is_int, begins, body, Class, no_number, out_of_range, not_whole, whole, whole_answer, Passes, IsShort, NotANumber, NumberRange}
+use Rattle.cj_decimal.proofs.Common.{◌≡◌, ℕ, ◌*◌, ◌^◌, ◌<◌, ◌≤◌, ◌++◌, List, [], ◌∷◌, length, drop_more, get_or, Bool, true, false, false≢true, Option, Some, None, Result, Ok, Err, ℤ, pos, negsuc, inl, inr, refl, sym, ap, ◌∙◌, arith, rules, IfOk, IfSome, IsSome, unsigned_abs, is_ascii_digit, le-mul_of_pos_right, ints, Number, signed, IsNormal, IsInRange, IsWhole, SpellsNumber, IsValue, IsNumberOutOfRange, IsInt, IsFewDigits, IsFewSigned, digits_value, digits_front, digits_rest, is_int, begins, body, Class, no_number, out_of_range, not_whole, whole, whole_answer, Passes, IsShort, NotANumber, NumberRange}
 use Rattle.cj_decimal.specs.declared.decimal.DecimalFault.{DecimalFault}
 use Rattle.cj_decimal.proofs.TenPowers.{ten_pow_pos}
 use Rattle.cj_decimal.proofs.Values.{same_sym}
@@ -47,7 +47,7 @@ int_alone_reads s int =
     let all = int_digits s int in (ap is_int (front_alone s all) ∙ int_test s int, rest_alone s all)
 
 pub int_short : (s : List ℕ) {n : ℕ} → IsInt s → n ≡ digits_value s → n < 10 ^ 18 → IsShort s n
-int_short s int value small = search (arith, int_alone_reads, front_alone, int_digits)
+int_short s int value small = search (arith, int_alone_reads, front_alone)
 
 pub int_alone_read : (s : List ℕ) → is_int (digits_front s) ≡ true → digits_rest s ≡ [] → IsInt s
 int_alone_read s int rest = rw (front_is_all s rest) at (int_from_test (digits_front s) (front_all s) int)
@@ -86,7 +86,7 @@ whole_in_range {v} {w} normal is = by_power v.power refl
 -- an int part that ends the spelling, after its sign, is that whole number
 size : (negative : Bool) (n : ℕ) → unsigned_abs (signed negative n) ≡ n
 size true n = omega (arith, ints)
-size false n = omega (arith, ints)
+size false n = omega arith
 
 pub signed_answer : {s : List ℕ} {negative : Bool} {n : ℕ} (c : Class s) → negative ≡ begins 45 s → IsShort (body s) n
     → whole_answer c ≡ Ok (Some (signed negative n))
@@ -95,7 +95,7 @@ signed_answer {s} {negative} {n} c sign short =
     let read = integer_read s sign short.int short.rest short.value in
     let form = normal_form negative n (pos 0) in
     let digits : digits_value (read.written.int ++ read.written.frac) ≡ n = omega (arith, read.digits.whole refl) in
-    let exponent : read.written.exponent ≡ pos 0 = read.exponent_is.same (omega (arith, ints)) in
+    let exponent = read.exponent_is.same (omega arith) in
     let value = value_of_read read (rw (digits, exponent) form.1) form.2 in
     let is : IsWhole form.0 w =
     record { same = same_sym form.1; small = rw (size negative n) short.small } in
@@ -103,7 +103,7 @@ signed_answer {s} {negative} {n} c sign short =
 
 pub answer_digits : (s : List ℕ) (n : ℕ) (c : Class s) → IsShort s n → whole_answer c ≡ Ok (Some (pos n))
 answer_digits s n c short =
-    let plain : begins 45 s ≡ false = ap (begins 45) (front_rest s)
+    let plain = ap (begins 45) (front_rest s)
     ∙ digit_begins 45 (digits_front s) (digits_rest s) (int_is_digits _ (int_from_test _ (front_all s) short.int))
     (omega arith) in
     signed_answer c (sym plain) (rw (no_minus s plain) short)
@@ -116,7 +116,7 @@ answer_of_few s (Some n) short = λ c. answer_digits s n c short
 
 -- few digits after the sign, if there is one
 pub signed_from_body : (s : List ℕ) → IsFewDigits (body s) → IsFewSigned s
-signed_from_body s few = search (arith, cases_Bool, begins_is, minus_there, no_minus)
+signed_from_body s few = search (arith, begins_is, minus_there, no_minus)
 
 pub body_of_signed : (s : List ℕ) → IsFewSigned s → IsFewDigits (body s)
 body_of_signed s (inl few) =

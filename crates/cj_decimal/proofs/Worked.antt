@@ -3,7 +3,7 @@ use Rattle.cj_decimal.proofs.Common.{◌≡◌, ◌%◌, pos, neg_ℤ, true, fal
 use Rattle.std.specs.Prelude.{nat_eq}
 use Rattle.cj_decimal.specs.Rows.{ReadRows, NoNumberRows, UnitRows, WorkedRows}
 use Rattle.cj_decimal.proofs.Grammar.{spells_test, test_spells}
-use Rattle.cj_decimal.proofs.Normal.{zero_same, zero_normal}
+use Rattle.cj_decimal.proofs.Normal.{zero_same}
 use Rattle.cj_decimal.proofs.Classes.{in_range_test, test_in_range}
 
 -- a spelling of a number whose coefficient does not end in 0
@@ -20,7 +20,7 @@ row {s} v test same last = record {
 
 zero_row : {s : List ℕ} → is_number s ≡ true → SameValue (number_of (written_of s)) (scaled (pos 0) (pos 0))
     → IsValue s (scaled (pos 0) (pos 0))
-zero_row {s} test same = search (arith, test_spells, zero_normal)
+zero_row {s} test same = search (arith, test_spells)
 
 near : {s : List ℕ} (v : Number) → IsValue s v → is_in_range v ≡ true → IsNumberInRange s
 near v value range = (v, value, test_in_range v range)

@@ -35,6 +35,7 @@ impl Digits {
     };
 
     /// Returns these digits and one more, which still fits.
+    #[tactic(auto, using(crate::proofs::Pushes::push_short))]
     fn push(self, digit: u8) -> Digits
         requires digit { digit < 10 }
         requires room { self.lead < 10 ^ 35 }
@@ -138,6 +139,7 @@ pub fn read_long(spelling: &[u8], from: usize, start: Digits) -> Run
 
 /// Reads the digits that continue a short number. Usually there are none.
 #[inline(always)]
+#[tactic(auto, using(crate::proofs::Pushes::short_stands, crate::proofs::Ways::carried_here, crate::proofs::Ways::carries_refl))]
 pub fn read_on(spelling: &[u8], from: usize, short: u64) -> Run
     requires within { from ≤ length spelling.now }
     requires short { short < 10 ^ 18 }
@@ -159,6 +161,7 @@ pub fn read_on(spelling: &[u8], from: usize, short: u64) -> Run
 
 /// Reads all digits from a place on, after the digits in `start`.
 #[inline(always)]
+#[tactic(auto, using(crate::proofs::Ways::stops_after, crate::proofs::Pushes::stands_short))]
 pub fn read_digits(spelling: &[u8], from: usize, start: Digits) -> Run
     requires within { from ≤ length spelling.now }
     requires bounded { start.extra ≤ from }
@@ -176,6 +179,7 @@ pub fn read_digits(spelling: &[u8], from: usize, start: Digits) -> Run
 }
 
 /// Returns whether a digit is at a place.
+#[tactic(auto, using(crate::proofs::Common::nat_tests, crate::proofs::Ways::no_digit_past, crate::proofs::Ways::digit_at))]
 fn has_digit(spelling: &[u8], at: usize) -> bool
     ensures { result ≡ begins_digit (drop at spelling.now) }
 {

@@ -20,6 +20,7 @@ struct Fraction {
 }
 
 /// Returns whether this byte is at a place.
+#[tactic(auto, using(crate::proofs::Common::nat_tests, crate::proofs::Parts::begins_past, crate::proofs::Parts::begins_at))]
 pub fn has_byte(spelling: &[u8], at: usize, byte: u8) -> bool
     ensures { result ≡ begins byte (drop at spelling.now) }
 {
@@ -34,6 +35,7 @@ fn has_one_of(spelling: &[u8], at: usize, first: u8, second: u8) -> bool
 }
 
 /// Returns whether digits are an int part: `0` alone, or digits that do not begin with `0`.
+#[tactic(auto, using(crate::proofs::Parts::int_longer, crate::proofs::Parts::int_alone, crate::proofs::Parts::int_none))]
 pub fn is_int_part(spelling: &[u8], from: usize, stop: usize) -> bool
     requires { Stops spelling.now from stop }
     ensures { result ≡ is_int (digits_front (drop from spelling.now)) }
@@ -46,6 +48,7 @@ pub fn is_int_part(spelling: &[u8], from: usize, stop: usize) -> bool
 }
 
 /// Reads the int part. Its first digits have been read.
+#[tactic(auto, using(crate::proofs::Ways::stops_after))]
 fn read_int(spelling: &[u8], from: usize, at: usize, short: u64) -> Option<Run>
     requires passes { Passes spelling.now from at }
     requires carries { Carries spelling.now from 0 at short }
@@ -67,6 +70,7 @@ fn read_int(spelling: &[u8], from: usize, at: usize, short: u64) -> Option<Run>
 }
 
 /// Reads a fraction if there is one: `.` and at least one digit.
+#[tactic(auto, using(crate::proofs::Grammar::frac_pointed, crate::proofs::Parts::drop_one, crate::proofs::Parts::begins_within, crate::proofs::Parts::no_first_digit))]
 fn read_frac(spelling: &[u8], from: usize, start: Digits) -> Option<Fraction>
     requires within { from ≤ length spelling.now }
     requires bounded { start.extra ≤ from }
@@ -99,6 +103,7 @@ fn read_frac(spelling: &[u8], from: usize, start: Digits) -> Option<Fraction>
 }
 
 /// Returns where the digits of an exponent begin: after its sign, if it has one.
+#[tactic(auto, using(crate::proofs::Parts::no_sign, crate::proofs::Parts::sign_there, crate::proofs::Parts::drop_one, crate::proofs::Parts::one_of_within))]
 fn after_sign(spelling: &[u8], at: usize) -> usize
     requires { at ≤ length spelling.now }
     ensures digits { drop result spelling.now ≡ exp_digits (drop at spelling.now) }
@@ -113,6 +118,7 @@ fn after_sign(spelling: &[u8], at: usize) -> usize
 
 /// Reads the digits of an exponent, up to the end. Returns their number, or one of 36 digits if
 /// there are more.
+#[tactic(auto, using(crate::proofs::Parts::no_whole_digits))]
 fn read_size(spelling: &[u8], from: usize) -> Option<u128>
     requires { from ≤ length spelling.now }
     ensures reads { MatchOption result (is_whole_digits (drop from spelling.now) ≡ false)
@@ -158,6 +164,7 @@ fn read_exponent(spelling: &[u8], from: usize) -> Option<i128>
 }
 
 /// Returns where a spelling continues after its minus, if it has one.
+#[tactic(auto, using(crate::proofs::Grammar::no_minus, crate::proofs::Grammar::minus_there, crate::proofs::Parts::first_within))]
 pub fn after_minus(spelling: &[u8], negative: bool) -> usize
     requires { negative ≡ begins 45 spelling.now }
     ensures body { drop result spelling.now ≡ body spelling.now }
@@ -179,6 +186,7 @@ pub struct Parts {
 }
 
 /// Returns the parts of a spelling that ends with its first digits, which are few: the usual case.
+#[tactic(auto, using(crate::proofs::Parts::nothing_follows, crate::proofs::Parts::integer_read, crate::proofs::Parts::not_int))]
 fn integer_parts(spelling: &[u8], negative: bool, from: usize, short: u64) -> Option<Parts>
     requires sign { negative ≡ begins 45 spelling.now }
     requires body { drop from spelling.now ≡ body spelling.now }

@@ -60,6 +60,7 @@ fn last_bytes(count: usize) -> u64
 /// Digits are joined into pairs, and every second pair counts. Two products each weigh and add two
 /// pairs.
 #[inline(always)]
+#[tactic(auto, using(crate::proofs::Eights::value_eight))]
 fn value_of(word: u64) -> u64
     requires { word < 2 ^ 60 }
     ensures small { result < 2 ^ 32 }
@@ -74,6 +75,7 @@ fn value_of(word: u64) -> u64
 
 /// Returns whether each byte of a word is below 16.
 #[inline(always)]
+#[tactic(auto, using(crate::proofs::Eights::low_each, crate::proofs::Eights::passes_low))]
 fn are_low(word: u64) -> bool
     ensures { (s : List ℕ) → length s ≡ 8 → AllBelow 256 s → word ≡ little_endian s
         → IsTrue result ↔ AllBelow 16 s }
@@ -140,6 +142,7 @@ const NINE_DIGITS: u64 = 100_000_000;
 /// eight digits have the order of their numbers, so no value need be computed to compare two.
 ///
 /// The word of a count of more digits is the greatest one, above all of them.
+#[tactic(auto, using(crate::proofs::Below::all_below))]
 pub fn digits_word(count: u64) -> u64
     ensures word { IsCountWord result count }
     ensures below { TellsBelow result count }

@@ -18,20 +18,20 @@ loop-at-preserved c =
 
 pub loop-lost-smaller : goal.loop-lost-smaller
 loop-lost-smaller c =
-    let there = is_digit_at c.args.spelling.now c.loop-lost.at c.has_digit.ensures c.loop-lost-test.true in
+    let there = is_digit_at c.args.spelling.now c.loop-lost.at (sym c.has_digit.ensures ∙ c.loop-lost-test.true) in
     omega arith
 
 pub loop-lost-preserved : goal.loop-lost-preserved
 loop-lost-preserved c =
-    let there = is_digit_at c.args.spelling.now c.loop-lost.at c.has_digit.ensures c.loop-lost-test.true in
+    let there = is_digit_at c.args.spelling.now c.loop-lost.at (sym c.has_digit.ensures ∙ c.loop-lost-test.true) in
     record {
-      passes = passes_step _ _ _ c.loop-lost.invariant.passes there.within there.digit;
+      passes = passes_step _ _ _ c.loop-lost.invariant.passes there.1.within there.1.digit;
       stands = λ n s.
           let so_far = c.loop-lost.invariant.stands n s in (
             _,
-            carries_step _ _ _ _ _ so_far.1 there.within there.digit,
-            push_lost _ _ c.requires.full (λ e. omega (arith, c.loop-lost.invariant.other e there.within, there.low))
-                (omega (arith, there.high)) so_far.2,
+            carries_step _ _ _ _ _ so_far.1 there.1.within there.1.digit,
+            push_lost _ _ c.requires.full (λ e. omega (arith, c.loop-lost.invariant.other e there.1.within, there.1.low))
+                (omega (arith, there.1.high)) so_far.2,
           );
       other = λ e. absurd (cc e);
       bounded = omega arith;

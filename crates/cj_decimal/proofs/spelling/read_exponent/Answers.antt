@@ -25,7 +25,7 @@ returns-then-has_byte-clause-reads c =
     let told = c.in-Some.ensures in (
       marked.0 ∙ told.reads.0,
       saturates_read _
-          marked.1 (sym c.has_byte.ensures ∙ c.if-has_byte.true) (omega (arith, ints, told.bound)) told.reads.1,
+          marked.1 (sym c.has_byte.ensures ∙ c.if-has_byte.true) (omega (arith, ints)) told.reads.1,
     )
 
 pub returns-else-has_byte-clause-reads : goal.returns-else-has_byte-clause-reads
@@ -36,5 +36,5 @@ returns-else-has_byte-clause-reads c =
     let told = c.in-Some.ensures in (
       marked.0 ∙ told.reads.0,
       saturates_read _
-          marked.1 (sym c.has_byte.ensures ∙ c.if-has_byte.false) (omega (arith, ints, told.bound)) told.reads.1,
+          marked.1 (sym c.has_byte.ensures ∙ c.if-has_byte.false) (omega (arith, ints)) told.reads.1,
     )

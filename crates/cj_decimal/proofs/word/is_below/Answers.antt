@@ -1,32 +1,28 @@
-use Rattle.cj_decimal.proofs.Common.{◌<◌, ℕ, nat_lt, refl, arith, rules, nat_tests, digits_value}
+use Rattle.cj_decimal.proofs.Common.{◌<◌, ℕ, nat_lt, refl, arith, digits_value}
 use Rattle.std.specs.Prelude.{slice_range, IsTrue}
 use Rattle.cj_decimal.proofs.Below.{told_below, word_below, word_short}
 use Rattle.cj_decimal.proofs.word.is_below.Goals as goal
 
 less : (a b : ℕ) → IsTrue (nat_lt a b) → a < b
-less a b h = grind (arith, nat_tests)
+less a b h = grind arith
 
 more : (a b : ℕ) → a < b → IsTrue (nat_lt a b)
-more a b h = grind (arith, nat_tests)
+more a b h = grind arith
 
-pub returns-in-None-clause-all : goal.returns-in-None-clause-all
-returns-in-None-clause-all c = λ int near room n count below. c.in-None.ensures.few.1 (int, near, room)
+pub returns-in-Some-clause-short : goal.returns-in-Some-clause-short
+returns-in-Some-clause-short c =
+    λ holds n tells.
+    let s = slice_range c.args.line.now c.args.start c.args.stop in
+    let digits = c.in-Some.digits in
+    let word = c.in-Some.ensures.word in (
+      digits_value s,
+      told_below digits (digits_value s) c.args.word n word (less digits c.args.word holds) tells,
+      word_short s digits {n = digits_value s} (c.in-Some.ensures.few.0 refl).0 word refl,
+    )
 
-pub returns-in-Some : goal.returns-in-Some
-returns-in-Some c = record {
-  near = search rules;
-  short =
-      λ holds n tells.
-      let s = slice_range c.args.line.now c.args.start c.args.stop in
-      let digits = c.in-Some.digits in
-      let word = c.in-Some.ensures.word in (
-        digits_value s,
-        told_below digits (digits_value s) c.args.word n word (less digits c.args.word holds) tells,
-        word_short s digits {n = digits_value s} (c.in-Some.ensures.few.0 refl).0 word refl,
-      );
-  all =
-      λ int near room n count below.
-      let s = slice_range c.args.line.now c.args.start c.args.stop in
-      more c.in-Some.digits c.args.word
-      (word_below c.in-Some.digits (digits_value s) c.in-Some.ensures.word count below);
-}
+pub returns-in-Some-clause-all : goal.returns-in-Some-clause-all
+returns-in-Some-clause-all c =
+    λ int near room n count below.
+    let s = slice_range c.args.line.now c.args.start c.args.stop in
+    more c.in-Some.digits c.args.word
+    (word_below c.in-Some.digits (digits_value s) c.in-Some.ensures.word count below)

@@ -11,7 +11,6 @@ read : (c : After-swap_bytes) → IsInt (slice_range c.args.line.now c.args.star
 read c =
     let line = c.args.line.now in let start = c.args.start in let stop = c.args.stop in
     let count = stop - start in
-    let order = c.requires.order in
     let x = bit_xor c.word_before.result 0x3030303030303030 in
     let s = slice_range line (stop - 8) stop in
     let few = c.if-count-gt-BYTES.false in let room = c.if-stop-lt-BYTES.false in
@@ -34,8 +33,6 @@ pub returns-then-are_low : goal.returns-then-are_low
 returns-then-are_low c = record {
   word = (read c).1;
   few =
-      let few = c.if-count-gt-BYTES.false in
-      let order = c.requires.order in
       (λ some. ((read c).0, omega arith, c.if-stop-lt-BYTES.false), λ int. refl);
 }
 
@@ -45,7 +42,6 @@ returns-else-are_low-clause-few c = (
   λ int.
       let line = c.args.line.now in let start = c.args.start in let stop = c.args.stop in
       let count = stop - start in
-      let order = c.requires.order in
       let x = bit_xor c.word_before.result 0x3030303030303030 in
       let few = c.if-count-gt-BYTES.false in let room = c.if-stop-lt-BYTES.false in
       let back : start ≡ stop - count = omega arith in

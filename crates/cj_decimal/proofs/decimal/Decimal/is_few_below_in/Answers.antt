@@ -14,7 +14,7 @@ returns c = record {
       let short = (c.is_below.ensures.short holds 4294967296 (all_below 4294967296 c.args.word (omega arith))).2 in
       let l = length_slice c.args.line.now c.args.start c.args.stop c.requires.within in
       let near = c.is_below.ensures.near holds in
-      (int_alone_read s short.int short.rest, omega (arith, l, near));
+      (int_alone_read s short.int short.rest, omega arith);
   below =
       λ holds n tells.
       let r = c.is_below.ensures.short holds n tells in
@@ -25,5 +25,5 @@ returns c = record {
       let s = slice_range c.args.line.now c.args.start c.args.stop in
       let same = sym (answer (class s)) ∙ answer_digits s (digits_value s) (class s) (few_short s few) in
       let value : m ≡ digits_value s = cc in
-      c.is_below.ensures.all few.0 near room n count (omega (arith, less, value));
+      c.is_below.ensures.all few.0 near room n count (omega arith);
 }
