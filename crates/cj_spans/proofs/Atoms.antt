@@ -1,22 +1,20 @@
 -- Scalars and names in a line: what has been read of one, and the machine over it.
-use Rattle.cj_spans.proofs.Common.{◌≡◌, ℕ, zero, suc, ◌+◌, ◌-◌, ◌<◌, ◌≤◌, List, [], ◌∷◌, ◌++◌, length, true, Option, Some, None, refl, sym, ap, arith, ◌∙◌, ◌⊎◌, inl, inr, cases_lt, option_and_then, Kind, Token, Lex, InString, Mode, After, Move, byte, token_at, State, state, between, in_atom, read, end_atom, go_on, step, settle, lex_step, lex_kind, Continues, still, further, Halts, Reaches, here, on, ComesTo, SticksFlat, phase_after, is_plain}
+use Rattle.cj_spans.proofs.Common.{◌≡◌, ℕ, zero, suc, ◌+◌, ◌-◌, ◌<◌, ◌≤◌, List, [], ◌∷◌, ◌++◌, length, true, Option, Some, None, refl, sym, ap, arith, ◌∙◌, ◌⊎◌, inl, inr, cases_lt, option_and_then, Kind, Token, Lex, InString, Mode, After, Move, byte, token_at, State, state, between, in_atom, read, end_atom, step, settle, lex_step, lex_kind, Continues, still, further, Halts, Reaches, here, on, ComesTo, SticksFlat, phase_after, is_plain, common_steps}
 use Rattle.cj_spans.proofs.Spellings.{none_some, plain_goes}
 
 -- ---- the code's loop
 
 pub read_first : (b : List ℕ) (i : ℕ) (x : Lex) → Continues b (suc i) x (i + 1) x
-read_first b i x = let e : suc i ≡ i + 1 = omega arith in rw (← e) still
+read_first b i x = grind (arith, still)
 
 pub read_more : {b : List ℕ} {i : ℕ} (k : ℕ) {x : Lex} (y z : Lex) {o : Option Lex} → Continues b i x k y → o ≡ Some z
     → o ≡ lex_step y (byte b k) → Continues b i x (k + 1) z
-read_more k y z r is h =
-    let e : suc k ≡ k + 1 = omega arith in
-    rw e at (further k y z r (sym h ∙ is))
+read_more k y z r is h = grind (arith, common_steps, further)
 
 -- a byte that leaves the reading as it is
 pub read_same : {b : List ℕ} {i k : ℕ} {x y : Lex} → Continues b i x k y → lex_step y (byte b k) ≡ Some y
     → Continues b i x (k + 1) y
-read_same {k} {y} r h = let e : suc k ≡ k + 1 = omega arith in rw e at (further k y y r h)
+read_same {k} {y} r h = grind (arith, common_steps, further)
 
 pub read_plain : {b : List ℕ} {i k : ℕ} {x : Lex} → Continues b i x k InString → is_plain (byte b k) ≡ true
     → Continues b i x (k + 1) InString
@@ -25,7 +23,7 @@ read_plain {b} {k} r h = read_same r (plain_goes (byte b k) h)
 -- n bytes that leave the reading as it is
 pub read_run : (n : ℕ) {b : List ℕ} {i k : ℕ} {x y : Lex}
     → ((j : ℕ) → k ≤ j → j < k + n → lex_step y (byte b j) ≡ Some y) → Continues b i x k y → Continues b i x (k + n) y
-read_run zero {k} each r = let e : k ≡ k + 0 = omega arith in rw e at r
+read_run zero {k} each r = grind arith
 read_run (suc n) {k} each r =
     let e : k + 1 + n ≡ k + suc n = omega arith in
     rw e at (read_run n (λ j a c. each j (omega arith) (omega arith))
@@ -42,34 +40,30 @@ read_to {k} n l each r =
 -- bytes of a string that stand for themselves
 pub plain_run : (n : ℕ) {b : List ℕ} {i k : ℕ} {x : Lex} → ((j : ℕ) → k ≤ j → j < k + n → is_plain (byte b j) ≡ true)
     → Continues b i x k InString → Continues b i x (k + n) InString
-plain_run n {b} each r = read_run n (λ j a c. plain_goes (byte b j) (each j a c)) r
+plain_run n {b} each r = grind (arith, read_run, plain_goes)
 
 pub plain_to : {b : List ℕ} {i k : ℕ} (n : ℕ) {x : Lex} → k ≤ n → ((j : ℕ) → k ≤ j → j < n → is_plain (byte b j) ≡ true)
     → Continues b i x k InString → Continues b i x n InString
-plain_to {b} n l each r = read_to n l (λ j a c. plain_goes (byte b j) (each j a c)) r
+plain_to {b} n l each r = grind (arith, read_to, plain_goes)
 
 -- ---- the machine
 
 pub atom_goes : (c : ℕ) (ks : List ℕ) (ts : List Token) (m : Mode) (a k p : ℕ) (x z : Lex) → lex_step x c ≡ Some z
     → step c (state (in_atom m a x) ks ts k p) ≡ Some (state (in_atom m a z) ks ts (suc k) p)
-atom_goes c ks ts m a k p x z h =
-    let s = state (in_atom m a x) ks ts k p in
-    ap (λ o. go_on (λ y. in_atom m a y) o s (option_and_then (read m c) (end_atom m a (lex_kind x) s))) h
+atom_goes c ks ts m a k p x z h = grind (arith, in_atom)
 
 pub continues_reaches : {b : List ℕ} {i : ℕ} {x : Lex} {k : ℕ} {y : Lex} → Continues b i x k y
     → {s : State} (m : Mode) (a : ℕ) (ks : List ℕ) (ts : List Token) (p : ℕ)
     → Reaches b s (state (in_atom m a x) ks ts i p) → Reaches b s (state (in_atom m a y) ks ts k p)
 continues_reaches still m a ks ts p r = r
 continues_reaches {b} (further k y z c h) m a ks ts p r =
-    on _ _ (continues_reaches c m a ks ts p r) (atom_goes _ ks ts m a k p y z h)
+    grind (arith, on, atom_goes, continues_reaches c m a ks ts p r)
 
 halted : (b ks : List ℕ) (ts : List Token) (m : Mode) (a k p : ℕ) (x : Lex) {r : Option Kind}
     → lex_step x (byte b k) ≡ None → lex_kind x ≡ r
     → step (byte b k) (state (in_atom m a x) ks ts k p) ≡ option_and_then (read m (byte b k))
     (end_atom m a r (state (in_atom m a x) ks ts k p))
-halted b ks ts m a k p x none kind =
-    let s = state (in_atom m a x) ks ts k p in
-    cc
+halted b ks ts m a k p x none kind = grind (arith, in_atom)
 
 -- a scalar that may end where it halts has ended there
 pub ends_ok : {b : List ℕ} (i : ℕ) {k : ℕ} (p : ℕ) {x y : Lex} (kd : Kind) (m : Mode) (ks : List ℕ) (ts : List Token)

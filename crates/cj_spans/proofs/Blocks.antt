@@ -1,5 +1,5 @@
 -- The marks of a block of bytes, which tell the bytes that are no digits.
-use Rattle.cj_spans.proofs.Common.{◌≡◌, ℕ, ◌+◌, ◌-◌, ◌^◌, ◌/◌, ◌<◌, ◌≤◌, List, length, true, inl, inr, sym, ap, subst, arith, ◌∙◌, w64, cases_lt, div-div-eq-div-mul, div-lt_iff_lt-mul, byte, nat_tests, is_digit, IsNumberUpTo, AreMarked, AreMarkedTo}
+use Rattle.cj_spans.proofs.Common.{◌≡◌, ℕ, ◌+◌, ◌-◌, ◌^◌, ◌/◌, ◌<◌, ◌≤◌, List, length, true, inl, inr, sym, ap, subst, arith, ◌∙◌, w64, cases_lt, div-div-eq-div-mul, div-lt_iff_lt-mul, byte, is_digit, IsNumberUpTo, AreMarked, AreMarkedTo}
 use Rattle.std.specs.Int.{bit_at, trailing_zeros}
 use Rattle.std.proofs.lemmas.Nat.{pow-add, pow_pos}
 use Rattle.std.proofs.lemmas.Nat.Bits.{bit_at-trailing_zeros, bit_at_above}
@@ -57,14 +57,9 @@ first_mark {i} {m} a l h =
     one_is_none x e f = omega arith
 
 digit_range : (c : ℕ) → is_digit c ≡ true → (48 ≤ c) × (c ≤ 57)
-digit_range c h = (grind (arith, nat_tests), grind (arith, nat_tests))
+digit_range c h = grind arith
 
 -- the digits before the lowest mark are a number, where a 0 stands alone
 pub block_number : {b : List ℕ} {i m t : ℕ} → EndsDigits b i m t → (t ≡ 0 → ⊥) → (byte b i ≡ 48 → t ≡ 1)
     → IsNumberUpTo b i (i + t)
-block_number {b} {i} {t} e n z =
-    let some : 0 < t = omega (arith, n) in
-    let within = e.within in
-    (number_is {b = b} i {k = i + t} (digit_range (byte b i) (e.digits i (omega arith) (omega arith)))
-    (λ q. let one = z q in omega arith) (λ j x r. read_to (i + t) (omega arith)
-    (λ k low high. whole_stays (byte b k) (e.digits k (omega arith) high)) r) (omega arith) within).1
+block_number {b} {i} {t} e n z = grind (arith, number_is, digit_range, read_to, whole_stays, e.within, e.digits)

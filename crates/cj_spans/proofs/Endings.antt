@@ -1,5 +1,5 @@
 -- A prefix is what a text begins with: some bytes more make it one.
-use Rattle.cj_spans.proofs.Common.{◌≡◌, inl, inr, ℕ, zero, suc, ◌+◌, ◌<◌, ◌≤◌, List, [], ◌∷◌, ◌++◌, length, take, drop, get_or, Option, Some, None, refl, sym, ap, subst, arith, ◌∙◌, slice_get, slice_set, length-append, eq-or-lt_of_le, option_map, option_and_then, common_steps, take-append-drop, Kind, Array, Object, Token, Lex, Mode, Ready, FirstItem, After, FirstName, NextName, AfterName, Tree, nest, byte, Json, JsonPrefix, IsJsonPrefix, SyntaxAt, stuck, short, token_at, flatten, flatten_items, flatten_members, open_kind, State, state, in_atom, step, settle, end_atom, lex_step, Reaches, here, on, start, SinksAt, BeginsValue}
+use Rattle.cj_spans.proofs.Common.{◌≡◌, inl, inr, ℕ, zero, suc, ◌+◌, ◌<◌, ◌≤◌, List, [], ◌∷◌, ◌++◌, length, take, drop, get_or, Option, Some, None, refl, sym, ap, subst, arith, ◌∙◌, slice_get, slice_set, length-append, eq-or-lt_of_le, option_map, option_and_then, common_steps, take-append-drop, Kind, Array, Object, Token, Lex, Mode, Ready, FirstItem, After, FirstName, NextName, AfterName, Tree, nest, byte, Json, JsonPrefix, IsJsonPrefix, SyntaxAt, stuck, short, token_at, flatten_items, open_kind, State, state, in_atom, step, settle, end_atom, lex_step, Reaches, here, on, start, SinksAt, BeginsValue}
 use Rattle.std.specs.Prelude.{codes}
 use Rattle.std.proofs.lemmas.List.{get_or-append-add}
 use Rattle.std.proofs.Math.ListN.{get_or-append}
@@ -9,7 +9,7 @@ use Rattle.cj_spans.proofs.Lists.{slice_get-append, slice_get-seam, get_before, 
 use Rattle.cj_spans.proofs.Runs.{IsEnd, colon, bracket, brace, Arrives, arrive_on, arrived, settled, settled_step, idle, BeginsName}
 use Rattle.cj_spans.proofs.Follows.{run_json}
 use Rattle.cj_spans.proofs.Atoms.{atom_goes}
-use Rattle.cj_spans.proofs.Sound.{opened_object, with_name, Context, root, in_array, in_member, Inv, ready, first_item, after_tree, first_name, next_name, after_name, in_scalar, in_name, inv_reaches}
+use Rattle.cj_spans.proofs.Sound.{with_name, Context, root, in_array, in_member, Inv, ready, first_item, after_tree, first_name, next_name, after_name, in_scalar, in_name, inv_reaches}
 use Rattle.cj_spans.proofs.Facts.{next_place, same_state, lawful_reaches, state_before}
 use Rattle.cj_spans.proofs.Fronts.{front_runs, inv_front}
 use Rattle.cj_spans.proofs.Verdicts.{spells, nest_of, sinks_deep, fronts_below, syntax_within}
@@ -75,12 +75,7 @@ closers (k ∷ ks) ts = closer (kind_at ts k) ∷ closers ks ts
 
 -- more tokens leave the containers as they are
 container_more : (ts us : List Token) (k : ℕ) → IsContainer (kind_at ts k) → IsContainer (kind_at (ts ++ us) k)
-container_more ts us k h = by_get (slice_get ts k) refl h
-  where
-    by_get : (o : Option Token) → slice_get ts k ≡ o → IsContainer (option_map open_kind o)
-        → IsContainer (kind_at (ts ++ us) k)
-    by_get None e h = absurd h
-    by_get (Some t) e h = rw (slice_get-append ts us k t e) h
+container_more ts us k h = grind (arith, slice_get-append)
 
 containers_more : (ks : List ℕ) (ts us : List Token) → AllContainers ks ts → AllContainers ks (ts ++ us)
 containers_more [] ts us h = tt
@@ -102,7 +97,7 @@ containers_below (k ∷ ks) ts h = (container_below ts k h.0, containers_below k
 -- inside a container whose token comes after ts
 just_inside : (ks : List ℕ) (ts : List Token) (t : Token) → IsContainer (Some (open_kind t)) → AllContainers ks ts
     → AllContainers (length ts ∷ ks) (ts ++ t ∷ [])
-just_inside ks ts t h all = (container_last ts t h, containers_below ks ts all, containers_more ks ts (t ∷ []) all)
+just_inside ks ts t h all = grind (arith, container_last, containers_below, containers_more)
 
 -- the same with more tokens behind it
 inside : (ks : List ℕ) (ts : List Token) (t : Token) (us : List Token) → IsContainer (Some (open_kind t))
@@ -114,9 +109,7 @@ context_containers (root e w) = tt
 context_containers (in_array e j k ks ts us c o l w) =
     inside ks ts (token_at e 0 0) (flatten_items (suc (length ts)) us) tt (context_containers c)
 context_containers (in_member e j k l ks ts us n c o m d w) =
-    let fs = flatten_members (suc (length ts)) us in
-    containers_more (length ts ∷ ks) ((ts ++ token_at e 0 1 ∷ []) ++ fs) _
-    (inside ks ts (token_at e 0 1) fs tt (context_containers c))
+    search (arith, containers_more, inside, context_containers c)
 
 -- a token that is written anew leaves those before it as they are
 kind_set : (ts : List Token) (k j : ℕ) (u : Token) → j < k → kind_at (slice_set ts k u) j ≡ kind_at ts j
@@ -125,8 +118,7 @@ kind_set ts k j u l = cc (get_before ts k j u l)
 containers_set : (ks : List ℕ) (ts : List Token) (k : ℕ) (u : Token) → AreBelow k ks → AllContainers ks ts
     → AllContainers ks (slice_set ts k u)
 containers_set [] ts k u l h = tt
-containers_set (j ∷ ks) ts k u l h =
-    (subst IsContainer (sym (kind_set ts k j u l.0)) h.0, h.1, containers_set ks ts k u l.1 h.2)
+containers_set (j ∷ ks) ts k u l h = grind (arith, kind_set, containers_set ks ts k u l.1 h.2, l.0, h.0, h.1, l.1, h.2)
 
 closers_set : (ks : List ℕ) (ts : List Token) (k : ℕ) (u : Token) → AreBelow k ks
     → closers ks (slice_set ts k u) ≡ closers ks ts
@@ -225,9 +217,7 @@ runs_over {c} (x ∷ w) {s} t r b h =
 -- over what a scalar or a name goes on with
 over_atom : (r : List ℕ) (m : Mode) (a k p : ℕ) (ks : List ℕ) (ts : List Token) (x y : Lex) → lex_run r x ≡ Some y
     → over r (state (in_atom m a x) ks ts k p) ≡ Some (state (in_atom m a y) ks ts (k + length r) p)
-over_atom [] m a k p ks ts x y h =
-    let q : k ≡ k + 0 = omega arith in
-    let e = some_same x y h in λ i. Some (state (in_atom m a (e i)) ks ts (q i) p)
+over_atom [] m a k p ks ts x y h = grind (arith, some_same, in_atom)
 over_atom (d ∷ r) m a k p ks ts x y h =
     let w = stepped (lex_run r) (lex_step x d) y h in
     let q : suc k + length r ≡ k + suc (length r) = omega arith in
@@ -300,24 +290,14 @@ module _ (k p : ℕ) (ks : List ℕ) (ts : List Token) (all : AllContainers ks t
 
 finish : {b : List ℕ} {s : State} → Inv b s → Finish s
 finish (ready k p ks ts c) = finish_value k p ks ts (context_containers c) Ready tt
-finish (first_item e k p ks ts c o w) = let t = token_at e 0 0 in
-    finish_value k p (length ts ∷ ks) (ts ++ t ∷ []) (just_inside ks ts t tt (context_containers c)) FirstItem tt
-finish (after_tree e j k p ks ts t c v w) =
-    finish_tree k p ks (ts ++ flatten (length ts) t)
-    (containers_more ks ts (flatten (length ts) t) (context_containers c))
-finish (first_name e k p ks ts c o w) = let t = token_at e 0 1 in
-    finish_name k p (length ts ∷ ks) (ts ++ t ∷ []) (just_inside ks ts t tt (context_containers c)) FirstName tt
-finish (next_name e j k p ks ts us c o l w) =
-    finish_name k p (length ts ∷ ks) (opened_object ts e us)
-    (inside ks ts (token_at e 0 1) (flatten_members (suc (length ts)) us) tt (context_containers c)) NextName tt
+finish (first_item e k p ks ts c o w) = grind (arith, finish_value, just_inside, context_containers)
+finish (after_tree e j k p ks ts t c v w) = grind (arith, finish_tree, containers_more, context_containers)
+finish (first_name e k p ks ts c o w) = grind (arith, finish_name, just_inside, context_containers)
+finish (next_name e j k p ks ts us c o l w) = grind (arith, finish_name, inside, context_containers)
 finish (after_name e j l m k p ks ts us c o ld w0 wd w) =
-    finish_colon k p (length ts ∷ ks) (with_name (opened_object ts e us) l m)
-    (containers_more (length ts ∷ ks) (opened_object ts e us) _
-    (inside ks ts (token_at e 0 1) (flatten_members (suc (length ts)) us) tt (context_containers c)))
+    search (arith, finish_colon, containers_more, inside, context_containers)
 finish (in_scalar e k p ks ts x c w) = finish_scalar k p ks ts (context_containers c) e x
-finish (in_name e j l k p ks ts us x c o ld w0 q w) =
-    finish_in_name k p (length ts ∷ ks) (opened_object ts e us)
-    (inside ks ts (token_at e 0 1) (flatten_members (suc (length ts)) us) tt (context_containers c)) l x
+finish (in_name e j l k p ks ts us x c o ld w0 q w) = grind (arith, finish_in_name, inside, context_containers)
 
 -- ---- fronts and texts
 

@@ -1,5 +1,5 @@
 -- What each step keeps: the place goes one on, the count of tokens stays within the bytes read and the open containers.
-use Rattle.cj_spans.proofs.Common.{◌≡◌, ℕ, suc, ◌+◌, ◌*◌, ◌<◌, ◌≤◌, List, [], ◌∷◌, ◌++◌, length, max, Bool, true, false, cond, nat_eq, Option, Some, None, refl, sym, ap, subst, arith, ◌∙◌, inl, inr, slice_get, slice_set, length-append, eq-or-lt_of_le, option_and_then, option_map, Kind, Array, Object, Token, Lex, Mode, Ready, FirstItem, After, FirstName, NextName, AfterName, is_white_space, byte, token_at, open_kind, Phase, State, state, between, in_atom, step, read, read_in, begin_value, begin_name, after_value, after_token, after_in, close_empty, close_token, end_atom, go_on, settle, lex_start, lex_step, lex_kind, Reaches, here, on, start}
+use Rattle.cj_spans.proofs.Common.{◌≡◌, ℕ, suc, ◌+◌, ◌*◌, ◌<◌, ◌≤◌, List, [], ◌∷◌, ◌++◌, length, max, Bool, true, false, cond, Option, Some, None, refl, sym, ap, subst, arith, ◌∙◌, inl, inr, slice_get, slice_set, eq-or-lt_of_le, option_and_then, option_map, Kind, Array, Object, Token, Lex, Mode, Ready, FirstItem, After, FirstName, NextName, AfterName, byte, token_at, open_kind, Phase, State, state, between, in_atom, step, read, read_in, begin_value, begin_name, after_value, after_token, after_in, close_empty, close_token, end_atom, go_on, settle, lex_step, lex_kind, Reaches, here, on, start, common_steps}
 use Rattle.std.proofs.Math.ListN.{length-set}
 use Rattle.cj_spans.proofs.Spellings.{none_some, some_same}
 use Rattle.cj_spans.proofs.Runs.{idle}
@@ -56,26 +56,10 @@ module _ (i p : ℕ) (ts : List Token) where
   abbrev Fits : ℕ → List ℕ → Type 0
   Fits n ks = (length ks ≤ i) × (length ks ≤ p) × (2 * length ts ≤ n + length ks)
 
-  -- to a mode at the next place
-  goes_to : (m : Mode) (ks : List ℕ) → Fits (reach_in m (suc i)) ks → Goes i p (length ks) (idle m ks ts (suc i) p)
-  goes_to m ks h = omega arith
-
   -- into a scalar or a name
   goes_atom : (m : Mode) (x : Lex) (ks : List ℕ) → EndsAtom m → Fits i ks
       → Goes i p (length ks) (state (in_atom m i x) ks ts (suc i) p)
-  goes_atom m x ks e h =
-      record {
-        place = refl;
-        deepest = omega arith;
-        climbs = omega arith;
-        lawful = record { open_count = omega arith; deep = h.1; token_count = h.2; began = (omega arith, e) };
-      }
-
-  -- into a container
-  goes_open : (m : Mode) (l : ℕ) (ks : List ℕ) → Fits i ks
-      → 2 * suc (length ts) ≤ reach_in m (suc i) + suc (length ks)
-      → Goes i p (length ks) (idle m (length ts ∷ ks) (ts ++ token_at i 0 l ∷ []) (suc i) (max p (suc (length ks))))
-  goes_open m l ks h g = omega (arith, length-append ts (token_at i 0 l ∷ []))
+  goes_atom m x ks e h = grind (arith, h.1, h.2)
 
   goes_lex : (ks : List ℕ) (o : Option Lex) → Fits i ks
       → GoesIf i p (length ks) (option_map (λ x. state (in_atom After i x) ks ts (suc i) p) o)
@@ -84,12 +68,10 @@ module _ (i p : ℕ) (ts : List Token) where
 
   goes_begin : (c : ℕ) (m : Mode) (ks : List ℕ) → Fits i ks
       → GoesIf i p (length ks) (begin_value c (idle m ks ts i p))
-  goes_begin c m ks h =
-      goes_cond i p _ (nat_eq c 91) _ _ (goes_open FirstItem 0 ks h (omega arith))
-      (goes_cond i p _ (nat_eq c 123) _ _ (goes_open FirstName 1 ks h (omega arith)) (goes_lex ks (lex_start c) h))
+  goes_begin c m ks h = grind (arith, common_steps, goes_cond, goes_lex)
 
   goes_name : (c : ℕ) (m : Mode) (ks : List ℕ) → Fits i ks → GoesIf i p (length ks) (begin_name c (idle m ks ts i p))
-  goes_name c m ks h = goes_cond i p _ (nat_eq c 34) _ None (goes_atom AfterName _ ks tt h) tt
+  goes_name c m ks h = grind (arith, goes_cond, goes_atom)
 
   -- out of a container
   goes_closed : (m : Mode) (k : ℕ) (ks : List ℕ) (t : Token) → Fits (suc i) (k ∷ ks)
@@ -98,12 +80,8 @@ module _ (i p : ℕ) (ts : List Token) where
 
   goes_in : (kd : Kind) (c k : ℕ) (t : Token) (m : Mode) (ks : List ℕ) → Fits (suc i) (k ∷ ks)
       → GoesIf i p (suc (length ks)) (after_in kd c k t (idle m (k ∷ ks) ts i p))
-  goes_in Array c k t m ks h =
-      goes_cond i p _ (nat_eq c 44) _ _ (goes_to Ready (k ∷ ks) h)
-      (goes_cond i p _ (nat_eq c 93) _ None (goes_closed m k ks _ h) tt)
-  goes_in Object c k t m ks h =
-      goes_cond i p _ (nat_eq c 44) _ _ (goes_to NextName (k ∷ ks) h)
-      (goes_cond i p _ (nat_eq c 125) _ None (goes_closed m k ks _ h) tt)
+  goes_in Array c k t m ks h = grind (arith, goes_cond, goes_closed)
+  goes_in Object c k t m ks h = grind (arith, goes_cond, goes_closed)
   goes_in _ c k t m ks h = tt
 
   goes_token : (c k : ℕ) (z : Option Token) (m : Mode) (ks : List ℕ) → Fits (suc i) (k ∷ ks)
@@ -123,29 +101,26 @@ module _ (i p : ℕ) (ts : List Token) where
 
   goes_close : (m : Mode) (ks : List ℕ) → Fits i ks → GoesIf i p (length ks) (close_empty (idle m ks ts i p))
   goes_close m [] h = tt
-  goes_close m (k ∷ ks) h = goes_close_token k (slice_get ts k) m ks (omega arith)
+  goes_close m (k ∷ ks) h = grind (arith, goes_close_token)
 
   goes_read_in : (m : Mode) (c : ℕ) (ks : List ℕ) → Fits (reach_in m i) ks
       → GoesIf i p (length ks) (read_in m c (idle m ks ts i p))
   goes_read_in Ready c ks h = goes_begin c Ready ks h
-  goes_read_in FirstItem c ks h =
-      goes_cond i p _ (nat_eq c 93) _ _ (goes_close FirstItem ks h) (goes_begin c FirstItem ks h)
+  goes_read_in FirstItem c ks h = grind (arith, goes_cond, goes_close, goes_begin)
   goes_read_in After c ks h = goes_after c After ks h
-  goes_read_in FirstName c ks h =
-      goes_cond i p _ (nat_eq c 125) _ _ (goes_close FirstName ks h) (goes_name c FirstName ks h)
+  goes_read_in FirstName c ks h = grind (arith, goes_cond, goes_close, goes_name)
   goes_read_in NextName c ks h = goes_name c NextName ks h
-  goes_read_in AfterName c ks h = goes_cond i p _ (nat_eq c 58) _ None (goes_to Ready ks h) tt
+  goes_read_in AfterName c ks h = grind (arith, goes_cond)
 
   goes_read : (m : Mode) (c : ℕ) (ks : List ℕ) → Fits (reach_in m i) ks
       → GoesIf i p (length ks) (read m c (idle m ks ts i p))
-  goes_read m c ks h =
-      goes_cond i p _ (is_white_space c) _ _ (goes_to m ks (omega (arith, reach_more m i))) (goes_read_in m c ks h)
+  goes_read m c ks h = grind (arith, goes_cond, reach_more, goes_read_in)
 
 -- one token more, where a scalar or a name ends
 ends_count : (m : Mode) (a i d : ℕ) (ks : List ℕ) (ts : List Token) → EndsAtom m → a < i → 2 * length ts ≤ a + length ks
     → 2 * length (ts ++ token_at a i d ∷ []) ≤ reach_in m i + length ks
-ends_count After a i d ks ts e l n = omega (arith, length-append ts (token_at a i d ∷ []))
-ends_count AfterName a i d ks ts e l n = omega (arith, length-append ts (token_at a i d ∷ []))
+ends_count After a i d ks ts e l n = grind (arith, common_steps)
+ends_count AfterName a i d ks ts e l n = grind (arith, common_steps)
 ends_count _ a i d ks ts e l n = absurd e
 
 -- a byte in a scalar or a name, or behind it
@@ -154,22 +129,13 @@ module _ (m : Mode) (a : ℕ) (x : Lex) (c : ℕ) (ks : List ℕ) (ts : List Tok
   goes_ended : (r : Option Kind)
       → GoesIf i p (length ks) (option_and_then (read m c) (end_atom m a r (state (in_atom m a x) ks ts i p)))
   goes_ended None = tt
-  goes_ended (Some k) =
-      goes_read i p (ts ++ token_at a i (suc (length ts)) ∷ []) m c ks
-      (h.open_count, h.deep, ends_count m a i (suc (length ts)) ks ts h.began.1 h.began.0 h.token_count)
+  goes_ended (Some k) = grind (arith, goes_read, ends_count)
 
   goes_on : (z : Option Lex)
       → GoesIf i p (length ks) (go_on (λ y. in_atom m a y) z (state (in_atom m a x) ks ts i p)
       (option_and_then (read m c) (end_atom m a (lex_kind x) (state (in_atom m a x) ks ts i p))))
   goes_on None = goes_ended (lex_kind x)
-  goes_on (Some y) =
-      record {
-        place = refl;
-        deepest = omega arith;
-        climbs = omega arith;
-        lawful = record
-            { open_count = omega arith; deep = h.deep; token_count = h.token_count; began = (omega arith, h.began.1) };
-      }
+  goes_on (Some y) = grind arith
 
 goes_phase : (f : Phase) (c : ℕ) (ks : List ℕ) (ts : List Token) (i p : ℕ) → IsLawful (state f ks ts i p)
     → GoesIf i p (length ks) (step c (state f ks ts i p))
@@ -190,18 +156,12 @@ settle_lawful : (m : Mode) (a : ℕ) (x : Lex) (r : Option Kind) (ks : List ℕ)
     → IsLawful t
 settle_lawful m a x None ks ts i p t l h = none_some t h
 settle_lawful m a x (Some k) ks ts i p t l h =
-    subst IsLawful (some_same _ t h)
-    (record {
-      open_count = l.open_count;
-      deep = l.deep;
-      token_count = ends_count m a i (suc (length ts)) ks ts l.began.1 l.began.0 l.token_count;
-      began = tt;
-    })
+    grind (arith, some_same, ends_count, l.open_count, l.deep, l.began.1, l.began.0, l.token_count)
 
 lawful_phase : (f : Phase) (ks : List ℕ) (ts : List Token) (i p : ℕ) (t : State) → IsLawful (state f ks ts i p)
     → settle (state f ks ts i p) ≡ Some t → IsLawful t
 lawful_phase (between m) ks ts i p t l h = subst IsLawful (some_same _ t h) l
-lawful_phase (in_atom m a x) ks ts i p t l h = settle_lawful m a x (lex_kind x) ks ts i p t l h
+lawful_phase (in_atom m a x) ks ts i p t l h = grind (arith, settle_lawful)
 
 pub lawful_settles : {s : State} (t : State) → IsLawful s → settle s ≡ Some t → IsLawful t
 lawful_settles {s} t l h = lawful_phase s.phase s.stack s.tokens s.place s.deepest t l h

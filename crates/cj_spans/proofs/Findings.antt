@@ -1,5 +1,5 @@
 -- The least of findings.
-use Rattle.cj_spans.proofs.Common.{◌≡◌, ℕ, zero, suc, ◌<◌, ◌≤◌, ◌⊎◌, inl, inr, ◌||◌, ◌&&◌, nat_lt, nat_eq, Bool, true, false, cond, List, [], ◌∷◌, ◌++◌, length, get_or, Option, Some, None, refl, sym, ap, subst, arith, ◌∙◌, append_assoc, cases_order, All, Contains, flat_map, append-nil, nat_tests}
+use Rattle.cj_spans.proofs.Common.{◌≡◌, ℕ, zero, suc, ◌<◌, ◌≤◌, ◌⊎◌, inl, inr, ◌||◌, ◌&&◌, nat_lt, nat_eq, Bool, true, false, cond, List, [], ◌∷◌, ◌++◌, length, get_or, Option, Some, None, refl, arith, ◌∙◌, append_assoc, All, Contains, flat_map, append-nil, common_steps}
 use Rattle.std.proofs.lemmas.List.Elements.{All-contains, Contains-get_or, Contains-append_left, Contains-append_right, Contains-append_cases}
 use Rattle.cj_spans.specs.declared.reason.Reason.{Reason}
 use Rattle.cj_spans.specs.declared.reason.Reason.TheVariants.{NoHeader, LineTooLong, NotUtf8, Syntax, TooDeep, MissingMember, DuplicateName, WrongKind, NumberRange, WrongType, WrongVersion, NotEmpty, NotThree, NotWhole, UnknownObjectType, IdNotFound, ChildNotFound, LinkNotMutual, NoParent, UnknownGeometryType, VertexIndex, SemanticsCount, SemanticsIndex, TemplateIndex, BadInstance, TransformNotFixed, NotReached}
@@ -36,7 +36,7 @@ reason_of-code_of NoHeader = refl
 reason_of-code_of _ = refl
 
 same_reason : (r s : Reason) → code_of r ≡ code_of s → r ≡ s
-same_reason r s h = cc (reason_of-code_of r, reason_of-code_of s)
+same_reason r s h = grind (arith, reason_of-code_of)
 
 -- ---- the order
 
@@ -46,13 +46,6 @@ same_code f g (inl a) (inl b) = absurd (omega arith)
 same_code f g (inl a) (inr b) = absurd (omega arith)
 same_code f g (inr a) (inl b) = absurd (omega arith)
 same_code f g (inr a) (inr b) = (a.0, omega arith)
-
-no_later_same : (f g : Finding) → IsNoLater f g → IsNoLater g f → f ≡ g
-no_later_same f g a b =
-    let s = same_code f g a b in
-    let p = s.0 in
-    let r = same_reason f.reason g.reason s.1 in
-    λ i. record { place = p i; reason = r i }
 
 no_later_self : (f : Finding) → IsNoLater f f
 no_later_self f = inr (refl, omega arith)
@@ -65,20 +58,10 @@ no_later_more f g h (inr a) (inr b) = inr (a.0 ∙ b.0, omega arith)
 
 -- the test, on numbers
 lower_first : (a b c d : ℕ) → nat_lt a b || (nat_eq a b && nat_lt c d) ≡ true → (a < b) ⊎ ((a ≡ b) × (c ≤ d))
-lower_first a b c d h =
-    elim (cases_order a b) [
-      | inr (inl l) ↦ inl l
-      | inl e ↦ let l : c < d = grind (arith, nat_tests) in inr (e, omega arith)
-      | inr (inr g) ↦ let n : ⊥ = grind (arith, nat_tests) in absurd n
-    ]
+lower_first a b c d h = grind arith
 
 not_lower : (a b c d : ℕ) → nat_lt a b || (nat_eq a b && nat_lt c d) ≡ false → (b < a) ⊎ ((b ≡ a) × (d ≤ c))
-not_lower a b c d h =
-    elim (cases_order a b) [
-      | inr (inl l) ↦ let n : ⊥ = grind (arith, nat_tests) in absurd n
-      | inl e ↦ let l : d ≤ c = grind (arith, nat_tests) in inr (sym e, l)
-      | inr (inr g) ↦ inl g
-    ]
+not_lower a b c d h = grind arith
 
 before_no_later : (f g : Finding) → is_before f g ≡ true → IsNoLater f g
 before_no_later f g h = lower_first f.place g.place (code_of f.reason) (code_of g.reason) h
@@ -87,9 +70,6 @@ not_before : (f g : Finding) → is_before f g ≡ false → IsNoLater g f
 not_before f g h = not_lower f.place g.place (code_of f.reason) (code_of g.reason) h
 
 -- ---- lists
-
-all_later : (f g : Finding) (fs : List Finding) → IsNoLater f g → All (IsNoLater g) fs → All (IsNoLater f) fs
-all_later f g fs h a = λ k d l. no_later_more f g (get_or fs k d) h (a k d l)
 
 and_at : (f g : Finding) (fs : List Finding) → IsNoLater f g → All (IsNoLater f) fs → (k : ℕ) (d : Finding)
     → k < length (g ∷ fs) → IsNoLater f (get_or (g ∷ fs) k d)
@@ -110,20 +90,16 @@ contains_there f g fs c = (suc c.0, omega arith, c.2)
 lesser_least : (fs : List Finding) (g f : Finding) (v : Bool) → is_before f g ≡ v → IsLeast fs (Some g)
     → IsLeast (f ∷ fs) (cond v (Some f) (Some g))
 lesser_least fs g f true h a =
-    (contains_here f fs, all_and f f fs (no_later_self f) (all_later f g fs (before_no_later f g h) a.1))
+    search (arith, contains_here, all_and, no_later_self, no_later_more, before_no_later, a.1)
 lesser_least fs g f false h a = (contains_there g f fs a.0, all_and g f fs (not_before f g h) a.1)
 
 pub added_least : (fs : List Finding) (o : Option Finding) (f : Finding) → IsLeast fs o → IsLeast (f ∷ fs) (lesser o f)
-added_least fs None f a = (
-  contains_here f fs,
-  all_and f f fs (no_later_self f)
-      (subst (All (IsNoLater f)) (sym a) (λ k d l. absurd (omega arith))),
-)
+added_least fs None f a = grind (arith, contains_here, all_and, no_later_self)
 added_least fs (Some g) f a = lesser_least fs g f (is_before f g) refl a
 
 pub added_kept : (fs : List Finding) (o p : Option Finding) (f : Finding) → p ≡ lesser o f → IsLeast fs o
     → IsLeast (f ∷ fs) p
-added_kept fs o p f e a = subst (IsLeast (f ∷ fs)) (sym e) (added_least fs o f a)
+added_kept fs o p f e a = grind (arith, added_least)
 
 -- ---- in whatever order
 
@@ -143,8 +119,7 @@ one_least fs None (Some g) a b =
     let c = rw a at b.0 in absurd (omega arith)
 one_least fs (Some f) None a b =
     let c = rw b at a.0 in absurd (omega arith)
-one_least fs (Some f) (Some g) a b =
-    ap Some (no_later_same f g (All-contains (IsNoLater f) fs g a.1 b.0) (All-contains (IsNoLater g) fs f b.1 a.0))
+one_least fs (Some f) (Some g) a b = grind (arith, same_code, same_reason, All-contains, a.1, b.0, b.1, a.0)
 
 pub least_only : (fs gs : List Finding) (o p : Option Finding) → HaveSame fs gs → IsLeast fs o → IsLeast gs p → p ≡ o
 least_only fs gs o p h a b = one_least gs p o b (same_least fs gs o h a)
@@ -174,10 +149,10 @@ least_after gs o (f ∷ fs) a =
 
 least_of_found : (o : Option Finding) → IsLeast (list_found o) o
 least_of_found None = refl
-least_of_found (Some f) = (contains_here f [], all_and f f [] (no_later_self f) (λ k d l. absurd (omega arith)))
+least_of_found (Some f) = grind (arith, contains_here, all_and, no_later_self)
 
 pub fold_least : (o : Option Finding) (fs : List Finding) → IsLeast (list_found o ++ fs) (least o fs)
-fold_least o fs = least_after (list_found o) o fs (least_of_found o)
+fold_least o fs = grind (arith, least_after, least_of_found)
 
 -- one list after another
 pub least-append : (o : Option Finding) (fs gs : List Finding) → least o (fs ++ gs) ≡ least (least o fs) gs
@@ -196,7 +171,7 @@ least-two o p q fs gs h k = cc (least-append o fs gs)
 
 pub least-three : (o p q r : Option Finding) (fs gs hs : List Finding) → p ≡ least o fs → q ≡ least p gs
     → r ≡ least q hs → r ≡ least o (fs ++ gs ++ hs)
-least-three o p q r fs gs hs h k l = least-two o q r (fs ++ gs) hs (least-two o p q fs gs h k) l
+least-three o p q r fs gs hs h k l = grind (arith, least-two)
 
 contains_swap : (ks fs gs : List Finding) (f : Finding) → Contains (ks ++ (fs ++ gs)) f → Contains (ks ++ (gs ++ fs)) f
 contains_swap ks fs gs f c =
@@ -212,7 +187,4 @@ contains_swap ks fs gs f c =
 
 -- two lists in either order
 pub least-swap : (o : Option Finding) (fs gs : List Finding) → least o (fs ++ gs) ≡ least o (gs ++ fs)
-least-swap o fs gs =
-    least_only (list_found o ++ (gs ++ fs)) (list_found o ++ (fs ++ gs)) (least o (gs ++ fs)) (least o (fs ++ gs))
-    (λ f. (contains_swap (list_found o) gs fs f, contains_swap (list_found o) fs gs f)) (fold_least o (gs ++ fs))
-    (fold_least o (fs ++ gs))
+least-swap o fs gs = grind (arith, common_steps, least_only, least, contains_swap, fold_least) steps 2000000

@@ -1,5 +1,5 @@
 -- Over a value the machine adds the value's tokens, and is where it was.
-use Rattle.cj_spans.proofs.Common.{◌≡◌, ℕ, suc, List, [], ◌∷◌, ◌++◌, length, max, Some, sym, ap, subst, slice_get, slice_set, append-nil, Token, Mode, Ready, FirstItem, After, FirstName, NextName, AfterName, Atom, Tree, array, object, Items, Members, add_item, add_member, Value, atom, empty_array, full_array, empty_object, full_object, Padded, padded, LedItems, no_led, led, LedMembers, no_led_members, led_member, Named, named, Json, flatten, flatten_items, flatten_members, token_at, State, step, Reaches, here, on, start, BeginsValue}
+use Rattle.cj_spans.proofs.Common.{◌≡◌, ℕ, suc, List, [], ◌∷◌, ◌++◌, length, max, Some, sym, ap, subst, slice_get, slice_set, append-nil, Token, Mode, Ready, FirstItem, After, FirstName, NextName, AfterName, Atom, Tree, array, object, Items, Members, add_item, add_member, Value, atom, empty_array, full_array, empty_object, full_object, Padded, padded, LedItems, no_led, led, LedMembers, no_led_members, led_member, Named, named, Json, flatten, flatten_items, flatten_members, token_at, State, step, Reaches, here, on, start, BeginsValue, arith}
 use Rattle.cj_spans.proofs.Places.{run_atom, run_name}
 use Rattle.cj_spans.proofs.Lists.{length-snoc, items_more, members_more, array_done, object_done, array_empty, object_empty, slice_get-append, slice_get-seam, rise, rise_items, rise_members, rise_items-add, rise_members-add}
 use Rattle.cj_spans.proofs.Runs.{IsEnd, comma, colon, bracket, brace, Arrives, arrive_on, arrived, skip, skip_after, BeginsName, idle}
@@ -136,8 +136,7 @@ mutual
       → (s : State) (m : Mode) (ks : List ℕ) (ts : List Token) (p : ℕ) → BeginsValue m → Reaches b s (idle m ks ts i p)
       → Arrives b s (idle After ks (ts ++ flatten (length ts) t) j (rise (length ks) p t))
   run_padded (padded i j k l t before v after) s m ks ts p h r =
-      skip_after after After ks (ts ++ flatten (length ts) t) (rise (length ks) p t)
-      (run_value v s m ks ts p h (skip before m ks ts p r))
+      grind (arith, skip_after, rise, skip, run_value v s m ks ts p h (skip before m ks ts p r))
 
   pub run_led : {b : List ℕ} {i j : ℕ} {us : Items} → LedItems b i j us
       → (s : State) (m : Mode) (k : ℕ) (ks : List ℕ) (ts : List Token) (p a x : ℕ) → length ts ≡ x

@@ -1,5 +1,5 @@
 -- The spans of a tree show that tree.
-use Rattle.cj_spans.proofs.Common.{◌≡◌, ℕ, suc, ◌<◌, ◌≤◌, List, [], ◌∷◌, ◌++◌, get_or, refl, sym, ap, subst, arith, ◌∙◌, inl, inr, append_assoc, append-nil, nat_tests, Kind, Null, Truth, Number, Text, Array, Object, Atom, Tree, scalar, array, object, Items, no_items, item, Members, no_members, member, add_item, add_member, start_of, IsScalar, IsInt, byte, atom_at, IsAtom, Value, atom, empty_array, full_array, empty_object, full_object, Padded, padded, LedItems, no_led, led, LedMembers, no_led_members, led_member, Named, named, Json, Span, span_at, preorder, items_preorder, members_preorder, kind_by, held, past, items_from, members_from, node, forest}
+use Rattle.cj_spans.proofs.Common.{◌≡◌, ℕ, suc, ◌<◌, ◌≤◌, List, [], ◌∷◌, ◌++◌, get_or, refl, sym, ap, subst, arith, ◌∙◌, append_assoc, append-nil, nat_tests, Kind, Null, Truth, Number, Text, Array, Object, Atom, Tree, scalar, array, object, Items, no_items, item, Members, no_members, member, add_item, add_member, start_of, IsScalar, IsInt, byte, atom_at, IsAtom, Value, atom, empty_array, full_array, empty_object, full_object, Padded, padded, LedItems, no_led, led, LedMembers, no_led_members, led_member, Named, named, Json, Span, span_at, preorder, items_preorder, members_preorder, kind_by, held, past, items_from, members_from, node, forest}
 use Rattle.std.specs.List.{AllByRecursion as Each}
 use Rattle.cj_spans.proofs.Lists.{each_more, each_append, items_preorder-add, members_preorder-add}
 use Rattle.cj_spans.proofs.Places.{first_byte}
@@ -11,19 +11,12 @@ digit_kind c a b = grind (arith, nat_tests)
 
 int_kind : (int r : List ℕ) → IsInt int → kind_by (get_or (int ++ r) 0 0) ≡ Number
 int_kind [] r h = absurd h
-int_kind (c ∷ int) r h = elim h [ inl z ↦ ap kind_by z.0 | inr d ↦ digit_kind c (omega arith) d.1 ]
+int_kind (c ∷ int) r h = grind (arith, digit_kind)
 
 kind_first : (k : Kind) (s : List ℕ) → IsScalar k s → kind_by (get_or s 0 0) ≡ k
 kind_first Null s h = cc
-kind_first Truth s h =
-    elim h [ inl e ↦ ap (λ z. kind_by (get_or z 0 0)) e | inr e ↦ ap (λ z. kind_by (get_or z 0 0)) e ]
-kind_first Number s h =
-    let r = h.frac ++ h.exp in
-    ap (λ z. kind_by (get_or z 0 0)) h.joined ∙
-    elim h.minus_is [
-      | inl e ↦ ap (λ z. kind_by (get_or (z ++ (h.int ++ r)) 0 0)) e ∙ int_kind h.int r h.int_is
-      | inr e ↦ ap (λ z. kind_by (get_or (z ++ (h.int ++ r)) 0 0)) e
-    ]
+kind_first Truth s h = grind arith
+kind_first Number s h = grind (arith, int_kind, h.joined, h.minus_is, h.int_is)
 kind_first Text s h = cc h.joined
 kind_first _ s h = absurd h
 
@@ -101,11 +94,9 @@ mutual
   pub within : {b : List ℕ} {i j : ℕ} {t : Tree} → Value b i j t → Within i j t
   within (atom k i j w) = record { start = refl; order = w.order }
   within (empty_array i j o w c) = record { start = refl; order = omega arith }
-  within (full_array i j k us u o l p c) = let a = led_order l in let q = padded_order p in
-      record { start = refl; order = omega arith }
+  within (full_array i j k us u o l p c) = grind (arith, padded_order p, led_order l)
   within (empty_object i j o w c) = record { start = refl; order = omega arith }
-  within (full_object i j k l us n u o ld nm p c) = let a = led_members_order ld in let q = padded_order p in
-      let r = named_order nm in record { start = refl; order = omega arith }
+  within (full_object i j k l us n u o ld nm p c) = grind (arith, padded_order p, led_members_order ld, named_order nm)
 
   pub padded_order : {b : List ℕ} {i j : ℕ} {t : Tree} → Padded b i j t → (i ≤ start_of t) × (start_of t < j)
   padded_order (padded i j k l t w v x) = let a = within v in (omega arith, omega arith)
@@ -183,19 +174,11 @@ shows_named (named i j k l w x y c) = shows_atom x
 shows_container : {b : List ℕ} (i : ℕ) {j : ℕ} (k : Kind) (ss : List Span) (xs : List Tree) {t : Tree} → i < j
     → kind_by (byte b i) ≡ k → Shows b j ss xs → node b k i j xs ≡ t → start_of t ≡ i
     → Shows b j (span_at i j ∷ ss) (t ∷ [])
-shows_container {b} i {j} k ss xs o kd a e s = record {
-  all = (omega arith, tt);
-  shows = λ rest h. shown b i j _ xs (forest b rest) kd (a.shows rest h) a.all h
-      ∙ ap (λ z. z ∷ forest b rest) e;
-}
+shows_container {b} i {j} k ss xs o kd a e s = grind (arith, shown, a.shows, a.all)
 
 pub shows_more : {b : List ℕ} {i : ℕ} (j : ℕ) {ss : List Span} {xs : List Tree} → i ≤ j → Shows b i ss xs
     → Shows b j ss xs
-shows_more {b} {i} j {xs} o a =
-    record {
-      all = each_more (In i) (In j) (λ t l. omega arith) xs a.all;
-      shows = λ rest h. a.shows rest (beyond_less i j _ o h);
-    }
+shows_more {b} {i} j {xs} o a = grind (arith, each_more, beyond_less, a.all, a.shows)
 
 pub shows_add : {b : List ℕ} {i j k : ℕ} {us : Items} {u : Tree} → LedItems b i j us → Padded b j k u
     → Shows b j (items_preorder us) (list_of_items us) → Shows b k (preorder u) (u ∷ [])
@@ -259,4 +242,4 @@ unfolding forest
 json_shown b t p = cc (append-nil _, (shows_padded p).shows [] tt)
 
 pub tree_by_preorder : (b : List ℕ) (t u : Tree) → Json b t → Json b u → preorder t ≡ preorder u → t ≡ u
-tree_by_preorder b t u p q e = let h = sym (json_shown b t p) ∙ ap (forest b) e ∙ json_shown b u q in cc
+tree_by_preorder b t u p q e = grind (arith, json_shown)

@@ -1,5 +1,5 @@
 -- The machine is at a state after the first i bytes exactly where they are a prefix.
-use Rattle.cj_spans.proofs.Common.{◌≡◌, ℕ, suc, ◌+◌, List, [], ◌∷◌, ◌++◌, length, max, refl, ap, arith, inl, inr, cases_lt, Token, Mode, Ready, FirstItem, FirstName, AfterName, Members, no_items, no_members, byte, White, padded, no_led, LedMembers, no_led_members, JsonPrefix, white, begun, whole, in_object, in_array as front_array, MemberPrefix, before_name, in_name as front_name, after_name as front_after_name, in_value, token_at, State, Reaches, on, BeginsValue}
+use Rattle.cj_spans.proofs.Common.{◌≡◌, ℕ, suc, ◌+◌, List, [], ◌∷◌, length, max, refl, arith, Token, Mode, Ready, FirstItem, FirstName, AfterName, Members, no_items, no_members, byte, White, padded, no_led, LedMembers, no_led_members, JsonPrefix, white, begun, whole, in_object, in_array as front_array, MemberPrefix, before_name, in_name as front_name, after_name as front_after_name, in_value, token_at, State, Reaches, on, BeginsValue}
 use Rattle.cj_spans.proofs.Lists.{length-snoc, slice_get-seam}
 use Rattle.cj_spans.proofs.Runs.{Arrives, settled, skip, BeginsName, idle}
 use Rattle.cj_spans.proofs.Runs.{skip_after}
@@ -18,8 +18,7 @@ pub record Live (b : List ℕ) (s : State) (j n : ℕ) : Type 0 where
   pub open_count : length at.stack ≡ n
 
 live : (b : List ℕ) (s : State) {t : State} → Arrives b s t → Live b s t.place (length t.stack)
-live b s {t} a = let e = settled a.at t a.settles in
-    record { at = a.at; reached = a.reached; place = e.place; open_count = ap length e.stack }
+live b s {t} a = grind (arith, settled, a.at, a.settles, a.reached)
 
 lives : {b : List ℕ} {s t : State} → Reaches b s t → Live b s t.place (length t.stack)
 lives {t} r = record { at = t; reached = r; place = refl; open_count = refl }
@@ -85,8 +84,7 @@ mutual
 -- ---- from states to fronts
 
 white_join : {b : List ℕ} {i j k : ℕ} → White b i j → White b j k → White b i k
-white_join {j} v w =
-    record { order = omega arith; each = λ n l u. elim (cases_lt n j) [ inl s ↦ v.each n l s | inr g ↦ w.each n g u ] }
+white_join {j} v w = grind (arith, v.each, w.each)
 
 front_white : {b : List ℕ} {i j k n : ℕ} → White b i j → JsonPrefix b j k n → JsonPrefix b i k n
 front_white {i = i} v (white j k w) = white i k (white_join v w)

@@ -33,10 +33,7 @@ module _ (b : List ℕ) (d : ℕ) where
 
     pub some_open : (k : ℕ) (ks : List ℕ) (ts us : List Token) (i j p q : ℕ)
         → Some (state (between After) (k ∷ ks) ts i p) ≡ Some (state (between After) [] us j q) → ⊥
-    some_open k ks ts us i j p q g = clash (ap (λ u. u.stack) (some_same _ _ g))
-      where
-        clash : k ∷ ks ≡ [] → ⊥
-        clash e = cc
+    some_open k ks ts us i j p q g = grind (arith, some_same)
 
     unfoldable pub text_of : (ts : List Token) (i p : ℕ) → settle s ≡ Some (state (between After) [] ts i p)
         → s.place ≡ length b → Judgement b d

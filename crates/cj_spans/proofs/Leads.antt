@@ -1,18 +1,13 @@
 -- Calls that leave the stack: where the pass stands behind them, in whatever container is innermost.
-use Rattle.cj_spans.proofs.Common.{◌≡◌, ℕ, ◌+◌, ◌<◌, List, [], ◌∷◌, ◌++◌, length, max, suc, ◌≤◌, refl, subst, sym, ap, ◌∙◌, inl, inr, true, false, arith, Some, Ok, Err, slice_get, slice_set, BoundedList, Becomes, IsWithin, TooDeep, Kind, Array, Token, Mode, Ready, FirstItem, After, Open, Next, byte, token_at, state, between, start, with_opened, read, ReadsByte, Grown, BeginsValue, InArray, IsInnermost, IsNumberUpTo, EndsItem, FitsToken, Standing, Stands, StandsIn, LeadsIn, GoesOn, KeepsTokens, ReadsNumbers, slice_get_within}
+use Rattle.cj_spans.proofs.Common.{◌≡◌, ℕ, ◌+◌, ◌<◌, List, [], ◌∷◌, ◌++◌, length, max, suc, ◌≤◌, refl, subst, sym, ap, ◌∙◌, inl, inr, true, false, arith, Some, Ok, Err, slice_get, slice_set, BoundedList, Becomes, IsWithin, TooDeep, Kind, Array, Token, Mode, Ready, FirstItem, After, Open, Next, byte, token_at, between, start, with_opened, read, ReadsByte, Grown, BeginsValue, InArray, IsInnermost, IsNumberUpTo, EndsItem, FitsToken, Standing, Stands, StandsIn, LeadsIn, GoesOn, KeepsTokens, ReadsNumbers, slice_get_within}
 use Rattle.cj_spans.proofs.Lists.{slice_get-append, get_before}
-use Rattle.std.specs.Prelude.{IsTrue}
 use Rattle.cj_spans.specs.declared.arrays.Numbers.{Numbers}
 use Rattle.cj_spans.proofs.Nested.{stands_on, stands_small, stands_room, stands_within, standing_number, standing_comma, standing_opened, standing_closed, standing_refused, opened_in, opens_array}
 use Rattle.cj_spans.proofs.Spellings.{some_same}
-use Rattle.cj_spans.proofs.Runs.{idle}
 use Rattle.cj_spans.proofs.Standing.{grown_more, grown_same, kept_same}
 use Rattle.cj_spans.proofs.Signs.{innermost_more}
 
 module _ {d : Kind} {b : List ℕ} {ts : BoundedList Token} where
-  pub leads_here : (m : Mode) (i : ℕ) → LeadsIn d b ts m i ts m i
-  leads_here m i = λ t0 s0 ks o s. (o, s)
-
   pub leads_on : {us vs : BoundedList Token} {m n o : Mode} {i j k : ℕ} → LeadsIn d b ts m i us n j
       → LeadsIn d b us n j vs o k → LeadsIn d b ts m i vs o k
   leads_on f g = λ t0 s0 ks a s. let h = f t0 s0 ks a s in g t0 s0 ks h.0 h.1
@@ -35,7 +30,7 @@ module _ {d : Kind} {b : List ℕ} {ts : BoundedList Token} where
   -- the same where the stack is known
   pub stands_inside : {ks : BoundedList ℕ} {m : Mode} {i : ℕ} → Stands b ts ks m i
       → IsInnermost d ks.elements ts.elements → StandsIn d b ts m i
-  stands_inside s a = record { stack = _; stands = s; innermost = a }
+  stands_inside s a = grind arith
 
   pub leads_from : {us : BoundedList Token} (ks : BoundedList ℕ) {m n o : Mode} {i j : ℕ}
       → IsInnermost d ks.elements ts.elements → LeadsIn d b ts m i us n j → n ≡ o → (t0 : BoundedList Token)
@@ -53,15 +48,12 @@ module _ {d : Kind} {b : List ℕ} {ts : BoundedList Token} where
 -- ---- numbers of an array
 
 pub kept_more : (ts : List Token) {us : List Token} (vs : List Token) → us ≡ ts ++ vs → KeepsTokens ts us
-kept_more ts vs e = λ j t h. rw e (slice_get-append ts vs j t h)
+kept_more ts vs e = grind (arith, slice_get-append)
 
 module _ {b : List ℕ} (ts us : BoundedList Token) (m : Mode) {i k : ℕ} (v : BeginsValue m) (n : IsNumberUpTo b i k)
     (e : Becomes ts (ts.elements ++ token_at i k (length ts.elements + 1) ∷ []) us) where
   pub leads_number : EndsItem (byte b k) → LeadsIn Array b ts m i us After k
-  leads_number w = λ t0 s0 ks a s. (
-    innermost_more _ a e.elements,
-    standing_number us s v n w e,
-  )
+  leads_number w = grind (arith, innermost_more, standing_number)
 
   -- and its comma
   pub leads_item : byte b k ≡ 44 → LeadsIn Array b ts m i us Ready (k + 1)
@@ -81,14 +73,7 @@ before_more n = record { next = n; ended = false }
 -- one call after another
 pub reads_on : {b : List ℕ} {ts us vs : BoundedList Token} {f n : Next} {r : Numbers}
     → ReadsNumbers b ts f us (before_more n) → ReadsNumbers b us n vs r → ReadsNumbers b ts f vs r
-reads_on {ts} {us} {vs} x y =
-    record {
-      leads = leads_on x.leads y.leads;
-      kept = kept_all ts.elements us.elements vs.elements x.kept y.kept;
-      ended = y.ended;
-      begins = y.begins;
-      order = omega arith;
-    }
+reads_on {ts} {us} {vs} x y = grind (arith, leads_on, kept_all, x.leads, y.leads, x.kept, y.kept, y.ended, y.begins)
 
 -- a number and its comma
 pub reads_item : {b : List ℕ} (ts us : BoundedList Token) (f : Next) {k : ℕ} → BeginsValue f.mode
@@ -137,19 +122,7 @@ module _ {ts us : BoundedList Token} {ks : BoundedList ℕ} (i : ℕ)
   -- the bracket opens it
   array_opens : ReadsByte (λ s. Some (with_opened Array FirstItem s)) i (Ok (Open FirstItem)) ts us ks
       (with_top ks (length ts.elements))
-  array_opens =
-      let p = x.below_peak in record {
-        answer = λ n p. ap (λ z. Some (state (between FirstItem) (length ts.elements ∷ ks.elements) z (suc i)
-            (max p (suc (length ks.elements))))) (sym e.elements);
-        tokens = grown_more ts us _ w e;
-        stack = record {
-          limit = refl;
-          peak = refl;
-          room = λ r. r;
-          within = record { below_peak = omega arith; below_limit = omega arith };
-        };
-        err = tt;
-      }
+  array_opens = grind (arith, between, grown_more)
 
   pub flat_opened : (b : List ℕ) (m : Mode) → BeginsValue m → i < length b → byte b i ≡ 91
       → (t0 : BoundedList Token) (s0 : BoundedList ℕ) → Standing b t0 s0 ts ks m i
@@ -162,15 +135,6 @@ module _ {ts us : BoundedList Token} {ks : BoundedList ℕ} (i : ℕ)
 pub top_there : (ks : List ℕ) (k : ℕ) (ts : List Token) (a : InArray (k ∷ ks) ts) → slice_get ts k ≡ Some a.token
 top_there ks k ts a = rw (some_same k a.top a.innermost) a.there
 
--- the machine closes the innermost array, whose token is then whole
-array_closes : (ks : List ℕ) (k : ℕ) (ts : List Token) {us : List Token} (i : ℕ) → InArray (k ∷ ks) ts
-    → ((t : Token) → slice_get ts k ≡ Some t → us ≡ slice_set ts k (token_at t.start (suc i) (length ts)))
-    → (p : ℕ) → read After 93 (idle After (k ∷ ks) ts i p) ≡ Some (idle After ks us (suc i) p)
-array_closes ks k ts i a h p =
-    let u = idle After (k ∷ ks) ts i p in
-    let there = top_there ks k ts a in
-    cc (a.kind, h a.token there)
-
 -- behind the bracket of an array that was never put on the stack, which notes an item more
 pub flat_closed : (b : List ℕ) {ts us : BoundedList Token} (ks : BoundedList ℕ) {ks1 : BoundedList ℕ} (k i : ℕ)
     → i < length b
@@ -180,32 +144,27 @@ pub flat_closed : (b : List ℕ) {ts us : BoundedList Token} (ks : BoundedList �
     → us.elements ≡ slice_set ts.elements k (token_at t.start (suc i) (length ts.elements))) → Grown ts us
     → (t0 : BoundedList Token) (s0 : BoundedList ℕ) → Standing b t0 s0 ts (with_top ks k) After i
     → Standing b t0 s0 us ks1 After (i + 1)
-flat_closed b {ts} ks {ks1} k i l e a x y f h g t0 s0 s =
-    let limit = ap (λ z. z.limit) f in
-    let peak = ap (λ z. z.peak) f in
-    let elements = ap (λ z. z.elements) f in
-    let n : length ks1.elements ≡ length ks.elements = ap length elements in
-    standing_closed s l e g (record {
-      limit = limit;
-      peak = omega arith;
-      room = λ r. subst IsTrue (sym (ap (λ z. z.reserved) f)) r;
-      within = y;
-    }) (λ q. rw elements (array_closes ks.elements k ts.elements i a h q))
+flat_closed b {ts} ks {ks1} k i l e a x y f h g t0 s0 s = grind (arith, standing_closed, top_there)
 
 -- the same stack, however it came to be
 pub standing_stack : {b : List ℕ} {ts : BoundedList Token} (ks ks1 : BoundedList ℕ) (k : ℕ) {m : Mode} {i : ℕ}
     → Becomes ks (k ∷ ks.elements) ks1 → {t0 : BoundedList Token} {s0 : BoundedList ℕ}
     → Standing b t0 s0 ts (with_top ks k) m i → Standing b t0 s0 ts ks1 m i
-standing_stack ks ks1 k e s = record {
-  deepest = s.deepest;
-  settles = rw e.elements s.settles;
-  place = s.place;
-  kept = s.kept;
-  stack_limit = e.limit ∙ s.stack_limit;
-  stack_peak = e.peak ∙ s.stack_peak;
-  stack_room = λ r. e.room (s.stack_room r);
-  stack_within = e.within;
-}
+standing_stack ks ks1 k e s =
+    grind (
+      arith,
+      s.deepest,
+      s.settles,
+      s.place,
+      s.kept,
+      e.limit,
+      s.stack_limit,
+      e.peak,
+      s.stack_peak,
+      e.room,
+      s.stack_room,
+      e.within,
+    )
 
 -- an array stays the innermost, when tokens come behind it and the first of these is set
 pub outer_stays : (ks : List ℕ) (ts us : List Token) {vs : List Token} (k : ℕ) (t : Token) → InArray ks ts
@@ -230,10 +189,10 @@ module _ {b : List ℕ} {ts us : BoundedList Token} {ks : BoundedList ℕ} {m : 
 
   opens_flat : (t0 : BoundedList Token) (s0 : BoundedList ℕ) → Standing b t0 s0 ts ks m i
       → Standing b t0 s0 us top FirstItem (i + 1)
-  opens_flat = let w = stands_within s in flat_opened i e w.0 w.1 f b m v l h
+  opens_flat = grind (arith, stands_within, flat_opened)
 
   inside : InArray (length ts.elements ∷ ks.elements) us.elements
-  inside = let w = stands_within s in flat_in i e w.0 w.1 f
+  inside = grind (arith, stands_within, flat_in)
 
   pub flat_stands : StandsIn Array b us FirstItem (i + 1)
   flat_stands = record {
@@ -260,8 +219,7 @@ module _ {b : List ℕ} {ts us : BoundedList Token} {ks : BoundedList ℕ} {m : 
         (p : ks1 ≡ record ks { peak = max ks.peak (length ks.elements + 1) }) where
       closed_at : (t : Token) → slice_get vs.elements (length ts.elements) ≡ Some t
           → vs1.elements ≡ slice_set vs.elements (length ts.elements) (token_at t.start (suc j) (length vs.elements))
-      closed_at = subst (λ k. (t : Token) → slice_get vs.elements k ≡ Some t
-          → vs1.elements ≡ slice_set vs.elements k (token_at t.start (suc j) (length vs.elements))) value closed
+      closed_at = grind arith
 
       pub flat_left : n ≡ After → j < length b → byte b j ≡ 93 → IsWithin ks1 → Grown vs vs1 → (t0 : BoundedList Token)
           (s0 : BoundedList ℕ) → Standing b t0 s0 ts ks m i → Standing b t0 s0 vs1 ks1 After (j + 1)
@@ -279,20 +237,7 @@ module _ {b : List ℕ} {ts us : BoundedList Token} {ks : BoundedList ℕ} {m : 
 pub index_within : (ks : List ℕ) (k : ℕ) (ts : List Token) → InArray (k ∷ ks) ts → k < length ts
 index_within ks k ts a = slice_get_within ts k a.token (top_there ks k ts a)
 
--- the bracket of an array is refused, where the stack is full
-array_refused : (ts : BoundedList Token) (ks : BoundedList ℕ) (i : ℕ) → IsWithin ts → IsWithin ks
-    → length ks.elements ≡ ks.limit
-    → ReadsByte (λ s. Some (with_opened Array FirstItem s)) i (Err (TooDeep i)) ts ts ks ks
-array_refused ts ks i w x e = record {
-  answer = λ m p. (refl, ap suc e);
-  tokens = grown_same ts w;
-  stack = kept_same ks x;
-  err = (refl, refl);
-}
-
 pub too_deep : {b : List ℕ} {ts : BoundedList Token} {ks : BoundedList ℕ} {m : Mode} {i : ℕ} → Stands b ts ks m i
     → BeginsValue m → i < length b → byte b i ≡ 91 → length ks.elements ≡ ks.limit → {t0 : BoundedList Token}
     → {s0 : BoundedList ℕ} → Standing b t0 s0 ts ks m i → GoesOn b t0 s0 (Err (TooDeep i)) ts ks
-too_deep {ts} {ks} {i} s v l h e z =
-    let w = stands_within s in
-    standing_refused opens_array (array_refused ts ks i w.0 w.1 e) v l h z
+too_deep {ts} {ks} {i} s v l h e z = search (arith, stands_within, standing_refused, opens_array, grown_same, kept_same)

@@ -19,23 +19,17 @@ ascii_from x h = grind (arith, nat_tests)
 abbrev pub letter_marks : ℕ → List ℕ → ℕ → ℕ
 letter_marks m b i = mask_l (map (top 7) (zip2 (λ a c. cond (ltb a c) 255 0) (replicate m 127) (chunk i m b))) % 2 ^ 64
 
-letter_marks_are : (m : ℕ) (b : List ℕ) (i : ℕ) → m ≤ 64 → i + m ≤ length b
-    → letter_marks m b i ≡ mask_l (map beyond (chunk i m b))
-letter_marks_are m b i few room = marks_over 127 (chunk i m b) (length-chunk i m b room) few
-
 pub all_ascii : (m : ℕ) (b : List ℕ) (i : ℕ) → m ≤ 64 → i + m ≤ length b → letter_marks m b i ≡ 0 → (k : ℕ)
     → i ≤ k → k < i + m → byte b k < 128
-all_ascii m b i few room e k l h =
-    ascii_from (byte b k) (none_marked beyond b i m few room (letter_marks_are m b i few room) e k l h)
+all_ascii m b i few room e k l h = grind (arith, ascii_from, none_marked, marks_over, length-chunk)
 
 pub letter_within : (m : ℕ) (b : List ℕ) (i : ℕ) → m ≤ 64 → i + m ≤ length b → (letter_marks m b i ≡ 0 → ⊥)
     → count_trailing_zeros 64 (letter_marks m b i) ≤ m
-letter_within m b i few room n = marks_within beyond b i m few room (letter_marks_are m b i few room) n
+letter_within m b i few room n = grind (arith, marks_within, marks_over, length-chunk)
 
 pub ascii_before : (m : ℕ) (b : List ℕ) (i : ℕ) → m ≤ 64 → i + m ≤ length b → (letter_marks m b i ≡ 0 → ⊥)
     → (k : ℕ) → i ≤ k → k < i + count_trailing_zeros 64 (letter_marks m b i) → byte b k < 128
-ascii_before m b i few room n k l h =
-    ascii_from (byte b k) (not_marked beyond b i m few room (letter_marks_are m b i few room) n k l h)
+ascii_before m b i few room n k l h = grind (arith, ascii_from, not_marked, marks_over, length-chunk)
 
 -- ---- UTF-8
 

@@ -1,5 +1,5 @@
 -- The links of the tokens of a tree, and the trees that come after them.
-use Rattle.cj_spans.proofs.Common.{◌≡◌, ℕ, zero, suc, ◌+◌, ◌%◌, ◌^◌, ◌<◌, ◌≤◌, List, [], ◌∷◌, ◌++◌, length, drop, slice_get, false, inl, inr, Some, refl, sym, ap, subst, arith, ◌∙◌, append_assoc, length-append, cases_lt, nat_tests, append-nil, length-drop, slice_get_within, Token, Atom, Tree, Items, Members, add_item, add_member, size, items_size, members_size, Value, atom, empty_array, full_array, empty_object, full_object, Padded, padded, LedItems, no_led, led, LedMembers, no_led_members, led_member, Named, named, Json, flatten, flatten_items, flatten_members, token_at, before, AreLinked, is_marked_at, AreUnmarked}
+use Rattle.cj_spans.proofs.Common.{◌≡◌, ℕ, zero, suc, ◌+◌, ◌^◌, ◌<◌, ◌≤◌, List, [], ◌∷◌, ◌++◌, length, drop, slice_get, false, Some, refl, sym, ap, subst, arith, ◌∙◌, append_assoc, length-append, nat_tests, append-nil, length-drop, slice_get_within, Token, Atom, Tree, Items, Members, add_item, add_member, size, items_size, members_size, Value, atom, empty_array, full_array, empty_object, full_object, Padded, padded, LedItems, no_led, led, LedMembers, no_led_members, led_member, Named, named, Json, flatten, flatten_items, flatten_members, token_at, before, AreLinked, is_marked_at, AreUnmarked}
 use Rattle.std.specs.Prelude.{nat_le}
 use Rattle.std.specs.List.{AllByRecursion as Each}
 use Rattle.cj_spans.proofs.Lists.{each_more, each_append, flatten_items-add, flatten_members-add, named_tokens, length-flatten, length-flatten_items, length-flatten_members}
@@ -27,13 +27,7 @@ before_none j (t ∷ ts) h = before_zero j t ts h
 
 pub before_length : (j : ℕ) (ts : List Token) → before j ts ≤ length ts
 before_length j [] = omega arith
-before_length j (t ∷ ts) =
-    let l = before_length j ts in
-    elim (cases_lt t.start j) [
-      | inl h ↦ let e = before_one j t ts h in
-          omega arith
-      | inr h ↦ let e = before_zero j t ts h in omega arith
-    ]
+before_length j (t ∷ ts) = grind (arith, before_one, before_zero, before_length j ts, t.start)
 
 before_all : (j : ℕ) (ts us : List Token) → Each (Before j) ts → NotBefore j us → before j (ts ++ us) ≡ length ts
 before_all j [] us h n = before_none j us n
@@ -62,20 +56,10 @@ record Linked (i j k : ℕ) (ts : List Token) : Type 0 where
       → AllLinked k (ts ++ rest)
 
 linked_none : (i k : ℕ) → Linked i i k []
-linked_none i k =
-    record {
-      all = tt;
-      first = tt;
-      linked = λ rest n e f g. let q : n ≡ k = omega arith in
-          rw q at g;
-    }
+linked_none i k = grind arith
 
 linked_more : {i j : ℕ} (k l : ℕ) {n : ℕ} {ts : List Token} → k ≤ i → j ≤ l → Linked i j n ts → Linked k l n ts
-linked_more {i} {j} k l {ts} f g h = record {
-  all = each_more _ _ (λ t o. omega arith) ts h.all;
-  first = not_before_less k i ts f h.first;
-  linked = λ rest m e o p. h.linked rest m e (not_before_less j l rest g o) p;
-}
+linked_more {i} {j} k l {ts} f g h = grind (arith, each_more, not_before_less, h.all, h.first, h.linked)
 
 linked_both : {i j k n m : ℕ} {ts us : List Token} → i ≤ j → j ≤ k → m ≡ n + length ts → Linked i j n ts
     → Linked j k m us → Linked i k n (ts ++ us)
@@ -91,21 +75,16 @@ linked_both {i} {j} {k} {n} {m} {ts} {us} f g e h q = record {
 -- a token over others
 linked_over : (i : ℕ) {j : ℕ} (n m : ℕ) {ts : List Token} → i < j → m ≡ suc n + length ts → Linked (suc i) j (suc n) ts
     → Linked i j n (token_at i j m ∷ ts)
-linked_over i {j} n m {ts} o e h = record {
-  all = (o, h.all);
-  first = omega arith;
-  linked = λ rest l d f g. let b = before_all j ts rest h.all f in (omega arith, h.linked rest l (omega arith) f g);
-}
+linked_over i {j} n m {ts} o e h = grind (arith, before_all, h.all, h.linked)
 
 linked_atom : (i j n : ℕ) → i < j → Linked i j n (token_at i j (suc n) ∷ [])
-linked_atom i j n o = linked_over i n _ o (omega arith) (linked_more _ j o (omega arith) (linked_none j _))
+linked_atom i j n o = grind (arith, linked_over, linked_more, linked_none)
 
 -- ---- the grammar
 
 linked_named : {b : List ℕ} {i j : ℕ} {n : Atom} → Named b i j n → (k : ℕ)
     → Linked i j k (token_at n.start n.stop (suc k) ∷ [])
-linked_named (named i j k l w x y c) m =
-    let e = w.order in linked_more i _ e (omega arith) (linked_atom j k m x.order)
+linked_named (named i j k l w x y c) m = grind (arith, linked_more, linked_atom, w.order, x.order)
 
 linked_add : {i j k n : ℕ} (us : Items) (u : Tree) → i ≤ j → j ≤ k → Linked i j n (flatten_items n us)
     → Linked j k (n + items_size us) (flatten (n + items_size us) u) → Linked i k n (flatten_items n (add_item us u))
@@ -126,19 +105,13 @@ linked_add_member {i} {j} {l} {n} us a u f g h p q r =
 mutual
   linked_value : {b : List ℕ} {i j : ℕ} {t : Tree} → Value b i j t → (n : ℕ) → Linked i j n (flatten n t)
   linked_value (atom k i j w) n = linked_atom i j n w.order
-  linked_value (empty_array i j o w c) n =
-      linked_over i n (suc n + 0) (omega arith) (omega arith)
-      (linked_more (suc i) (suc j) (omega arith) (omega arith)
-      (linked_none (suc i) (suc n)))
+  linked_value (empty_array i j o w c) n = grind (arith, linked_over, linked_more, linked_none)
   linked_value (full_array i j k us u o l p c) n =
       let a = led_order l in let q = padded_ends p in let v = add_item us u in let e = length-flatten_items (suc n) v in
       linked_over i n (suc n + items_size v) (omega arith) (omega arith)
       (linked_more (suc i) (suc k) (omega arith) (omega arith)
       (linked_add us u a q (linked_led l (suc n)) (linked_padded p (suc n + items_size us))))
-  linked_value (empty_object i j o w c) n =
-      linked_over i n (suc n + 0) (omega arith) (omega arith)
-      (linked_more (suc i) (suc j) (omega arith) (omega arith)
-      (linked_none (suc i) (suc n)))
+  linked_value (empty_object i j o w c) n = grind (arith, linked_over, linked_more, linked_none)
   linked_value (full_object i j k l us a u o ld nm p c) n =
       let f = led_members_order ld in let q = padded_ends p in let r = named_ends nm in let v = add_member us a u in
       let e = length-flatten_members (suc n) v in let m = suc n + members_size us in
@@ -169,8 +142,7 @@ mutual
 link_at : (n k : ℕ) (ts : List Token) (t : Token) → AllLinked n ts → slice_get ts k ≡ Some t
     → t.link ≡ suc (n + k) + before t.stop (drop (suc k) ts)
 link_at n k [] t h g = cc
-link_at n zero (u ∷ ts) t h g = let e : u ≡ t = cc in let q : u.link ≡ suc (n + 0) + before u.stop ts =
-    omega arith in rw e at q
+link_at n zero (u ∷ ts) t h g = grind arith
 link_at n (suc k) (u ∷ ts) t h g = omega (arith, link_at _ k ts t h.1 g)
 
 -- the tokens of a line's tree link so, where they are few enough
@@ -190,10 +162,7 @@ json_links b t p few k u h =
 
 -- the tokens of a line's tree are linked, where they are few enough
 pub json_linked : (b : List ℕ) (t : Tree) → Json b t → size t < 2 ^ 31 → AreLinked (flatten 0 t)
-json_linked b t p few = λ k u h. let l = json_links b t p few k u h in small_mod u.link l.0 ∙ l.1
-  where
-    small_mod : (n : ℕ) → n < 2 ^ 31 → n % 2 ^ 31 ≡ n
-    small_mod n h = omega arith
+json_linked b t p few = grind (arith, json_links)
 
 mark_none : (n : ℕ) → n < 2 ^ 31 → nat_le (2 ^ 31) n ≡ false
 mark_none n h = grind (arith, nat_tests)

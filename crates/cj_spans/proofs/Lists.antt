@@ -1,5 +1,5 @@
 -- Lists of tokens, and the nest of a tree as the most containers that are open.
-use Rattle.cj_spans.proofs.Common.{◌≡◌, ℕ, zero, suc, ◌+◌, ◌<◌, ◌≤◌, List, [], ◌∷◌, ◌++◌, length, max, Some, refl, ap, arith, append_assoc, slice_get, slice_set, length-append, append-nil, set-append_seam, Token, Atom, Tree, scalar, array, object, Items, no_items, item, Members, no_members, member, add_item, add_member, size, items_size, members_size, nest, items_nest, members_nest, span_at, preorder, items_preorder, members_preorder, flatten, flatten_items, flatten_members, token_at, spans_of}
+use Rattle.cj_spans.proofs.Common.{◌≡◌, ℕ, zero, suc, ◌+◌, ◌<◌, ◌≤◌, List, [], ◌∷◌, ◌++◌, length, max, Some, refl, ap, arith, append_assoc, slice_get, slice_set, length-append, append-nil, set-append_seam, Token, Atom, Tree, scalar, array, object, Items, no_items, item, Members, no_members, member, add_item, add_member, size, items_size, members_size, nest, items_nest, members_nest, span_at, preorder, items_preorder, members_preorder, flatten, flatten_items, flatten_members, token_at, spans_of, common_steps}
 use Rattle.std.specs.List.{AllByRecursion as Each}
 
 -- ---- what holds of each element
@@ -123,24 +123,14 @@ length-snoc ts o = omega (arith, length-append ts (o ∷ []))
 -- one item more
 pub items_more : (xs : List Token) {k : ℕ} (us : Items) (u : Tree) → length xs ≡ k → let vs =
     xs ++ flatten_items k us in vs ++ flatten (length vs) u ≡ xs ++ flatten_items k (add_item us u)
-items_more xs {k} us u h =
-    let fs = flatten_items k us in
-    let n : length (xs ++ fs) ≡ k + items_size us = let e = length-append xs fs in let f = length-flatten_items k us
-    in
-    omega arith in
-    cc (append_assoc xs fs _, flatten_items-add k us u)
+items_more xs {k} us u h = grind (arith, common_steps, length-flatten_items, flatten_items-add)
 
 -- one member more
 pub members_more : (xs : List Token) {k : ℕ} (us : Members) (n : Atom) (u : Tree) → length xs ≡ k
     → let vs = xs ++ flatten_members k us in let ws = vs ++ token_at n.start n.stop (suc (length vs)) ∷ [] in
     ws ++ flatten (length ws) u ≡ xs ++ flatten_members k (add_member us n u)
 members_more xs {k} us n u h =
-    let fs = flatten_members k us in
-    let vs = xs ++ fs in
-    let v = token_at n.start n.stop (suc (length vs)) in
-    let e : length vs ≡ k + members_size us = let e = length-append xs fs in let f = length-flatten_members k us in
-    omega arith in
-    cc (length-snoc vs v, append_assoc vs _ _, append_assoc xs fs _, flatten_members-add k us n u)
+    grind (arith, common_steps, length-flatten_members, length-snoc, flatten_members-add, n.start, n.stop)
 
 -- the token of a container is written where its place is
 set_closed : (ts : List Token) (o f : Token) (xs : List Token) → slice_set ((ts ++ o ∷ []) ++ xs) (length ts) f ≡ ts
@@ -151,22 +141,12 @@ set_closed ts o f xs = cc (append_assoc ts _ xs, set-append_seam ts o xs f)
 pub array_done : (ts : List Token) (o : Token) (i j : ℕ) (us : Items) → let vs =
     (ts ++ o ∷ []) ++ flatten_items (suc (length ts)) us in
     slice_set vs (length ts) (token_at i j (length vs)) ≡ ts ++ flatten (length ts) (array i j us)
-array_done ts o i j us =
-    let fs = flatten_items (suc (length ts)) us in
-    let e : length ((ts ++ o ∷ []) ++ fs) ≡ suc (length ts) + items_size us = let e = length-append (ts ++ o ∷ []) fs
-    in
-    let f = length-flatten_items (suc (length ts)) us in let g = length-snoc ts o in omega arith in
-    cc (set_closed ts o (token_at i j (suc (length ts) + items_size us)) fs)
+array_done ts o i j us = grind (arith, common_steps, length-flatten_items, length-snoc, set_closed)
 
 pub object_done : (ts : List Token) (o : Token) (i j : ℕ) (us : Members) → let vs =
     (ts ++ o ∷ []) ++ flatten_members (suc (length ts)) us in
     slice_set vs (length ts) (token_at i j (length vs)) ≡ ts ++ flatten (length ts) (object i j us)
-object_done ts o i j us =
-    let fs = flatten_members (suc (length ts)) us in
-    let e : length ((ts ++ o ∷ []) ++ fs) ≡ suc (length ts) + members_size us = let e =
-    length-append (ts ++ o ∷ []) fs in let f = length-flatten_members (suc (length ts)) us in
-    let g = length-snoc ts o in omega arith in
-    cc (set_closed ts o (token_at i j (suc (length ts) + members_size us)) fs)
+object_done ts o i j us = grind (arith, common_steps, length-flatten_members, length-snoc, set_closed)
 
 -- the same of one that is empty
 pub array_empty : (ts : List Token) (o : Token) (i j : ℕ)

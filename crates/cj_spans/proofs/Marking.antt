@@ -1,6 +1,6 @@
 -- Marks: what they leave, and that a node is found by its tree.
-use Rattle.cj_spans.proofs.Common.{◌≡◌, ◌≢◌, ℕ, zero, suc, ◌+◌, ◌-◌, ◌%◌, ◌^◌, ◌<◌, List, [], ◌∷◌, length, drop, slice_get, true, inl, inr, Some, refl, sym, ap, arith, ◌∙◌, cases_lt, nat_tests, BoundedList, IsWithin, Token, Tree, start_of, spans_of, token_at, forest, AreOf, AreRising, AreLinked, before, link_of, Json, tree_at, tree_in, source_of, tokens_in, line_of, document, document_line, document_source}
-use Rattle.std.specs.Prelude.{nat_le, slice_set, min}
+use Rattle.cj_spans.proofs.Common.{◌≡◌, ◌≢◌, ℕ, zero, suc, ◌+◌, ◌%◌, ◌^◌, ◌<◌, List, [], ◌∷◌, length, drop, slice_get, true, Some, refl, sym, ap, arith, ◌∙◌, nat_tests, BoundedList, IsWithin, Token, Tree, start_of, spans_of, token_at, AreOf, AreRising, AreLinked, before, link_of, Json, tree_at, tree_in, source_of, tokens_in, line_of, document, document_line, document_source}
+use Rattle.std.specs.Prelude.{nat_le, slice_set}
 use Rattle.cj_spans.specs.Marks.{has_mark, is_marked_at, bare, KeepsTokens}
 use Rattle.cj_spans.specs.declared.node.Doc.{Doc}
 use Rattle.cj_spans.specs.declared.node.Node.{Node}
@@ -33,9 +33,7 @@ marked_elsewhere _ _ _ t h = refl
 pub bare_kept : (ts : List Token) (n : ℕ) (t : Token) → slice_get ts n ≡ Some t
     → bare (slice_set ts n (with_mark t)) ≡ bare ts
 bare_kept [] n t h = refl
-bare_kept (u ∷ ts) zero t h =
-    let e : u ≡ t = cc in
-    cc (mod_more t.link)
+bare_kept (u ∷ ts) zero t h = grind (arith, mod_more)
 bare_kept (u ∷ ts) (suc n) t h = cc (bare_kept ts n t h)
 
 -- ---- what tokens show without their marks
@@ -90,27 +88,13 @@ length_kept ts us e = cc (length_bare us, length_bare ts)
 
 -- they show the same line
 pub of_kept : (line : List ℕ) (ts us : List Token) → bare us ≡ bare ts → AreOf line ts → AreOf line us
-of_kept line ts us e a = record {
-  tree = a.tree;
-  json = a.json;
-  shown = ap (forest line) (spans_kept ts us e) ∙ a.shown;
-  count = length_kept ts us e ∙ a.count;
-  linked = linked_bare ts us e a.linked;
-}
+of_kept line ts us e a = grind (arith, spans_kept, length_kept, linked_bare, a.tree, a.json, a.shown, a.count, a.linked)
 
 -- ---- a node is found by its tree
 
 one_start : (ts : List Token) (i k : ℕ) (t u : Token) → AreRising ts → slice_get ts i ≡ Some t → slice_get ts k ≡ Some u
     → t.start ≡ u.start → i ≡ k
-one_start ts i k t u rising h g e =
-    elim (cases_lt i k) [
-      | inl l ↦ let r = rising i k t u l h g in absurd (omega arith)
-      | inr m ↦ elim (cases_lt k i) [
-        | inl l ↦ let r = rising k i u t l g h in
-            absurd (omega arith)
-        | inr n ↦ omega arith
-      ]
-    ]
+one_start ts i k t u rising h g e = grind arith
 
 pub one_number : (b : List ℕ) (ts : List Token) (i k : ℕ) → AreRising ts → i < length ts → k < length ts
     → tree_at b (spans_of ts) i ≡ tree_at b (spans_of ts) k → i ≡ k
@@ -133,22 +117,13 @@ mark_of (u ∷ ts) (suc k) t h = mark_of ts k t h
 pub keeps : (old : BoundedList Token) {new : BoundedList Token} (n : ℕ) (t : Token) → slice_get old.elements n ≡ Some t
     → new.elements ≡ slice_set old.elements n (with_mark t) → new ≡ record old { elements = new.elements }
     → IsWithin new → KeepsTokens old new
-keeps old {new} n t h e l w =
-    let same = ap bare e ∙ bare_kept old.elements n t h in
-    record {
-      tokens = same;
-      spans = spans_kept old.elements new.elements same;
-      of = λ line. of_kept line old.elements new.elements same;
-      list = l;
-      within = w;
-    }
+keeps old {new} n t h e l w = grind (arith, bare_kept, spans_kept, of_kept)
 
 -- a node that is found by its number shows the tree of that token
 pub found_at-number : (n : Node) (k : ℕ) → k < length (tokens_in (source_of n))
     → tree_in (source_of n) k ≡ tree_at (line_of n) (spans_of (tokens_in (source_of n))) k
 unfolding tree_in source_of tokens_in line_of
-found_at-number n k l = let e : min k (length n.source.tokens.now - 1) ≡ k = omega arith in
-    cc
+found_at-number n k l = grind (arith, n.source.tokens.now)
 
 pub line-of-document : (n : Node) (d : Doc) → source_of n ≡ document_source d → line_of n ≡ document_line d
 unfolding source_of line_of document_source document_line

@@ -36,18 +36,10 @@ name_leads _ h = absurd h
 module _ (b : List ℕ) (ts : BoundedList Token) where
   pub leads_string : (us : BoundedList Token) (m n : Mode) {i k : ℕ} → StringLeads m n → IsQuoted b i k
       → Becomes ts (ts.elements ++ token_at i k (length ts.elements + 1) ∷ []) us → LeadsIn Object b ts m i us n k
-  leads_string us m n {k} v q e = λ t0 s0 ks a s. (
-    innermost_more _ a e.elements,
-    standing_with s {tokens1 = us} n k (grown_more ts us _ s.kept.within e) q.within
-        (λ p. string_read start m n ks.elements ts.elements p q v e.elements),
-  )
+  leads_string us m n {k} v q e = grind (arith, innermost_more, standing_with, grown_more, string_read, q.within)
 
   pub leads_colon : (k : ℕ) → (k < length b) × (byte b k ≡ 58) → LeadsIn Object b ts AfterName k ts Ready (k + 1)
-  leads_colon k h = λ t0 s0 ks a s. (
-    a,
-    standing_with s Ready (k + 1) (grown_same ts s.kept.within) (omega arith)
-        (λ p. colon_read b start ks.elements ts.elements k p h.0 h.1),
-  )
+  leads_colon k h = grind (arith, standing_with, grown_same, colon_read, h.0, h.1)
 
   pub leads_comma : (k : ℕ) → (k < length b) × (byte b k ≡ 44) → LeadsIn Object b ts After k ts NextName (k + 1)
   leads_comma k h = λ t0 s0 ks a s. (

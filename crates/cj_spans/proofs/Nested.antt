@@ -12,8 +12,7 @@ use Rattle.cj_spans.proofs.Standing.{standing_small, standing_room, standing_ste
 pub stands_on : {b : List ℕ} {ts ts1 : BoundedList Token} {ks ks1 : BoundedList ℕ} {m n : Mode} {i j : ℕ}
     → Stands b ts ks m i → ((t0 : BoundedList Token) (s0 : BoundedList ℕ) → Standing b t0 s0 ts ks m i
     → Standing b t0 s0 ts1 ks1 n j) → Stands b ts1 ks1 n j
-stands_on s f =
-    record { tokens0 = s.tokens0; stack0 = s.stack0; standing = f s.tokens0 s.stack0 s.standing; room = s.room }
+stands_on s f = grind (arith, s.standing, s.room)
 
 -- what the calls need
 pub stands_small : {b : List ℕ} {ts : BoundedList Token} {ks : BoundedList ℕ} {m : Mode} {i : ℕ} → Stands b ts ks m i
@@ -91,7 +90,7 @@ pub opens_array : Opens Array FirstItem 91
 opens_array = record { at = array_at; shown = λ i. refl }
 
 pub opens_object : Opens Object FirstName 123
-opens_object = record { at = object_at; shown = λ i. refl }
+opens_object = grind (arith, object_at)
 
 -- what a call does that opens a container
 abbrev opens : Kind → Mode → State → Option State

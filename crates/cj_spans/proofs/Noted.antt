@@ -21,11 +21,7 @@ first_of : (s : List ℕ) (t : Tree) → has_text s t ≡ true → first_code_of
 first_of s t h = cc (same_texts (text_of t) (Some s) h)
 
 other_first : (s : List ℕ) (t : Tree) → first_code_of t ≢ head s → has_text s t ≡ false
-other_first s t n = by_test (has_text s t) refl
-  where
-    by_test : (b : Bool) → has_text s t ≡ b → b ≡ false
-    by_test true e = absurd (n (first_of s t e))
-    by_test false e = refl
+other_first s t n = grind arith
 
 -- such a member is passed over
 pub passed : (s : List ℕ) (m : Tree × Tree) (rest : List (Tree × Tree)) → first_code_of m.0 ≢ head s
@@ -35,39 +31,23 @@ passed s m rest n = cc (other_first s m.0 n)
 -- ---- one member more
 
 none-other : (s : List ℕ) (c : ℕ) (t : Tree) → head s ≡ Some c → first_code_of t ≡ None → first_code_of t ≢ head s
-none-other s c t e n h = let x : ◌≡◌ {A = Option ℕ} None (Some c) = sym n ∙ h ∙ e in absurd (none x)
-  where
-    none : ◌≡◌ {A = Option ℕ} None (Some c) → ⊥
-    none h = cc
+none-other s c t e n h = grind arith
 
 some-other : (s : List ℕ) (c d : ℕ) (t : Tree) → head s ≡ Some c → first_code_of t ≡ Some d → d % 32 ≢ c % 32
     → first_code_of t ≢ head s
-some-other s c d t e f n h = let x : ◌≡◌ {A = Option ℕ} (Some d) (Some c) = sym f ∙ h ∙ e in
-    n (ap (λ k. k % 32) (some x))
-  where
-    some : ◌≡◌ {A = Option ℕ} (Some d) (Some c) → d ≡ c
-    some h = cc
+some-other s c d t e f n h = grind arith
 
 -- what is found from a place that was noted before, or among those that are left behind the member
 on_from : (w : Members) (m : Tree × Tree) (rest : List (Tree × Tree)) (s : List ℕ) (p : ℕ)
     → (is_noted p ≡ false → first_named s (m ∷ rest) ≡ first_named s rest)
     → first_named s (noted_from w rest p) ≡ first_named s (noted_from w (m ∷ rest) p)
-on_from w m rest s p h = by_test (is_noted p) h
-  where
-    by_test : (b : Bool) → (b ≡ false → first_named s (m ∷ rest) ≡ first_named s rest)
-        → first_named s (cond b (members_from w p) rest) ≡ first_named s (cond b (members_from w p) (m ∷ rest))
-    by_test true h = refl
-    by_test false h = sym (h refl)
+on_from w m rest s p h = grind (arith, members_from)
 
 -- nothing is noted of the member
 noted_past : {w : Members} (m : Tree × Tree) (rest : List (Tree × Tree)) {ps : List ℕ} → AreNoted w (m ∷ rest) ps
     → ((s : List ℕ) (c : ℕ) → head s ≡ Some c → is_noted (get_or ps (c % 32) 0) ≡ false → first_code_of m.0 ≢ head s)
     → AreNoted w rest ps
-noted_past {w} m rest {ps} a n = record {
-  count = a.count;
-  places = a.places;
-  first = λ s c e. on_from w m rest s (get_or ps (c % 32) 0) (λ f. passed s m rest (n s c e f)) ∙ a.first s c e;
-}
+noted_past {w} m rest {ps} a n = grind (arith, on_from, passed, a.count, a.places, a.first)
 
 -- its place is noted
 noted_new : {w : Members} (m : Tree × Tree) (rest : List (Tree × Tree)) {ps : List ℕ} (d : ℕ) {p : ℕ}

@@ -12,7 +12,7 @@ record DeepestFront (b : List ℕ) (s : State) : Type 0 where
   front : JsonPrefix b 0 place s.deepest
 
 deepest_front : {b : List ℕ} {s : State} → Reaches b start s → DeepestFront b s
-deepest_front {b} here = record { place = 0; within = omega arith; front = white 0 0 (no_white b 0) }
+deepest_front {b} here = grind (arith, white, no_white)
 deepest_front {b} (on t v r h) =
     let g = goes v (byte b t.place) (lawful_reaches r) h in
     elim (cases_lt t.deepest (length v.stack)) [
@@ -33,40 +33,18 @@ deepest_front {b} (on t v r h) =
           }
     ]
 
-not_more : {b : List ℕ} {s : State} (k n : ℕ) → Reaches b start s → k ≤ s.place → JsonPrefix b 0 k n → n ≤ s.deepest
-not_more {s} k n r l f =
-    elim (cases_lt s.deepest n) [
-      | inl g ↦ absurd (not_deeper s.deepest k n r (omega arith) l f g)
-      | inr g ↦ g
-    ]
-
 deepest_at : {b : List ℕ} {s : State} {i : ℕ} → Reaches b start s → s.place ≡ i → IsDeepest b i s.deepest
-deepest_at r e =
-    let d = deepest_front r in
-    record {
-      place = d.place;
-      within = omega arith;
-      front = d.front;
-      most = λ k n l f. not_more k n r (omega arith) f;
-    }
+deepest_at r e = grind (arith, deepest_front, not_deeper)
 
 -- the clause of the scan, with the peak that the stack had before it was emptied
 pub ran_peak : {b : List ℕ} {old new : BoundedList Token} {old_stack new_stack : BoundedList ℕ}
     {r : Result (Unit {0}) LineFault} (h : Ran b old new old_stack new_stack r) (i : ℕ)
     → (r ≡ Err (Syntax i)) ⊎ (r ≡ Err (TooDeep i)) → HasPeakAt b i old_stack new_stack
-ran_peak h i (inl e) =
-    let s = ran_sticks h i e in record {
-      deepest = s.0.sticks.last.deepest;
-      counted = deepest_at s.0.sticks.reached s.0.sticks.at;
-      peak = omega arith;
-    }
-ran_peak h i (inr e) =
-    let s = ran_sinks h i e in record
-    { deepest = s.0.last.deepest; counted = deepest_at s.0.reached s.0.at; peak = omega arith }
+ran_peak h i (inl e) = grind (arith, ran_sticks, deepest_at)
+ran_peak h i (inr e) = grind (arith, ran_sinks, deepest_at)
 
 -- the same from a peak that is no other
 pub peak_from : {b : List ℕ} {i : ℕ} (old empty : BoundedList ℕ) {new : BoundedList ℕ} → empty.peak ≡ old.peak
     → HasPeakAt b i empty new
     → HasPeakAt b i old new
-peak_from old empty e h =
-    record { deepest = h.deepest; counted = h.counted; peak = omega arith }
+peak_from old empty e h = grind (arith, h.deepest, h.counted)

@@ -1,6 +1,6 @@
 -- Scalars and names by their places.
-use Rattle.cj_spans.proofs.Common.{◌≡◌, ℕ, suc, ◌+◌, ◌-◌, ◌<◌, ◌≤◌, List, [], ◌∷◌, ◌++◌, length, drop, get_or, slice_range, Bool, true, false, cond, nat_eq, Option, Some, None, refl, sym, ap, subst, arith, ◌∙◌, inl, inr, option_and_then, common_steps, take-suc, get_or-drop, length-drop, length-take, get_or-take, append-nil, Kind, Text, Token, Lex, AfterN, InString, Mode, Ready, FirstItem, After, FirstName, NextName, AfterName, is_white_space, IsScalar, byte, IsAtom, Begun, token_at, State, state, in_atom, step, begin_value, lex_start, lex_step, lex_kind, Continues, still, further, Reaches, on, end_atom, BeginsValue}
-use Rattle.std.proofs.lemmas.Bool.{eqb-true, cases_lt}
+use Rattle.cj_spans.proofs.Common.{◌≡◌, ℕ, suc, ◌+◌, ◌-◌, ◌<◌, ◌≤◌, List, [], ◌∷◌, ◌++◌, length, drop, get_or, slice_range, Bool, true, false, cond, nat_eq, Option, Some, None, refl, sym, ap, subst, arith, ◌∙◌, option_and_then, common_steps, take-suc, get_or-drop, length-drop, append-nil, Kind, Text, Token, Lex, AfterN, InString, Mode, Ready, FirstItem, After, FirstName, NextName, AfterName, is_white_space, IsScalar, byte, IsAtom, Begun, token_at, State, state, in_atom, step, lex_start, lex_step, lex_kind, Continues, still, further, Reaches, on, BeginsValue}
+use Rattle.std.proofs.lemmas.Bool.{eqb-true}
 use Rattle.cj_spans.proofs.Spellings.{none_some, some_same, lex_run, reading, reading_sound, reading_whole, reading-more, reading-append, reading-prefix, stepped, kind_of_lex, kind_done, run_kind, can_end}
 use Rattle.cj_spans.proofs.Atoms.{continues_reaches}
 use Rattle.cj_spans.proofs.Runs.{IsEnd, space, white_end, Arrives, BeginsName, idle}
@@ -22,31 +22,20 @@ slice-more b i k h l =
     cc (take-suc (drop i b) (k - i) 0 r, get_or-drop i b (k - i) 0)
 
 slice-one : (b : List ℕ) (i : ℕ) → i < length b → slice_range b i (suc i) ≡ get_or b i 0 ∷ []
-slice-one b i h =
-    let z : i - i ≡ 0 = omega arith in
-    cc (slice-more b i i (omega arith) h)
+slice-one b i h = grind (arith, slice-more)
 
 pub slice-length : (b : List ℕ) (i j : ℕ) → i ≤ j → j ≤ length b → i + length (slice_range b i j) ≡ j
 slice-length b i j h l = grind (arith, common_steps)
-
-past_end : (b : List ℕ) (k : ℕ) → length b ≤ k → get_or b k 0 ≡ 0
-past_end b k h = grind (arith, common_steps)
 
 no_zero : (x : Lex) → lex_step x 0 ≡ None
 no_zero AfterN = refl
 no_zero _ = refl
 
 within_step : (b : List ℕ) (k : ℕ) (x y : Lex) → lex_step x (get_or b k 0) ≡ Some y → k < length b
-within_step b k x y h =
-    elim (cases_lt k (length b)) [
-      | inl l ↦ l
-      | inr g ↦
-          none_some y (sym (no_zero x) ∙ ap (lex_step x) (sym (past_end b k g)) ∙ h)
-    ]
+within_step b k x y h = grind (arith, none_some, no_zero, common_steps)
 
 within_start : (b : List ℕ) (k : ℕ) (y : Lex) → lex_start (get_or b k 0) ≡ Some y → k < length b
-within_start b k y h =
-    elim (cases_lt k (length b)) [ inl l ↦ l | inr g ↦ none_some y (ap lex_start (sym (past_end b k g)) ∙ h) ]
+within_start b k y h = grind (arith, none_some, common_steps)
 
 start_one : (o : Option Lex) → option_and_then (lex_run []) o ≡ o
 start_one None = refl
@@ -55,14 +44,7 @@ start_one (Some x) = refl
 -- ---- a scalar that has begun
 
 pub atom_first : (b : List ℕ) (i : ℕ) (x : Lex) → lex_start (byte b i) ≡ Some x → InAtom b i (suc i) x
-atom_first b i x h =
-    let l = within_start b i x h in
-    record {
-      order = omega arith;
-      within = omega arith;
-      run = ap reading (slice-one b i l)
-          ∙ start_one _ ∙ h;
-    }
+atom_first b i x h = search (arith, within_start, reading, slice-one, start_one)
 
 pub atom_more : {b : List ℕ} {i k : ℕ} {x : Lex} (y : Lex) → InAtom b i k x → lex_step x (byte b k) ≡ Some y
     → InAtom b i (suc k) y
@@ -78,8 +60,7 @@ atom_more {b} {i} {k} {x} y r h =
 
 pub atom_sound : {b : List ℕ} {i k : ℕ} {x : Lex} → InAtom b i k x → (kd : Kind) → lex_kind x ≡ Some kd
     → IsAtom b kd i k
-atom_sound {b} {i} {k} {x} r kd h =
-    record { order = r.order; within = r.within; spelled = reading_sound _ x kd r.run h }
+atom_sound {b} {i} {k} {x} r kd h = grind (arith, reading_sound, r.order, r.within, r.run)
 
 -- a scalar of the reading's kind begins so
 pub atom_begun : {b : List ℕ} {i k : ℕ} {x : Lex} → InAtom b i k x → Begun b (kind_of_lex x) i k
@@ -97,16 +78,13 @@ atom_begun {b} {i} {k} {x} r =
 
 pub slice_has : (b : List ℕ) (i j n : ℕ) → n < length (slice_range b i j)
     → byte b (i + n) ≡ get_or (slice_range b i j) n 0
-slice_has b i j n l =
-    let q : n < j - i = omega (arith, length-take (j - i) (drop i b)) in
-    sym (get_or-take (j - i) (drop i b) n 0 q ∙ get_or-drop i b n 0)
+slice_has b i j n l = grind (arith, common_steps)
 
 plus_zero : (k : ℕ) → k ≡ k + 0
 plus_zero k = omega arith
 
 pub first_byte : (b : List ℕ) (i k : ℕ) → i < k → k ≤ length b → byte b i ≡ get_or (slice_range b i k) 0 0
-first_byte b i k o l = let e = slice-length b i k (omega arith) l in
-    cc (plus_zero i, slice_has b i k 0 (omega arith))
+first_byte b i k o l = grind (arith, slice-length, plus_zero, slice_has)
 
 -- a reading that began with a quote is one of a string
 pub in_text : {b : List ℕ} {i k : ℕ} {x : Lex} → InAtom b i k x → byte b i ≡ 34 → kind_of_lex x ≡ Text
@@ -135,21 +113,15 @@ start_end space = refl
 start_end _ = refl
 
 starts_not : (c d : ℕ) (x : Lex) → lex_start c ≡ Some x → lex_start d ≡ None → nat_eq c d ≡ true → ⊥
-starts_not c d x h n e = none_some x (sym n ∙ sym (ap lex_start (eqb-true c d e)) ∙ h)
+starts_not c d x h n e = grind (arith, none_some, eqb-true)
 
 starts_not_white : (c : ℕ) (x : Lex) → lex_start c ≡ Some x → is_white_space c ≡ true → ⊥
 starts_not_white c x h e = none_some x (sym (start_end (white_end c e)) ∙ h)
 
-begin_atom : (c : ℕ) (x : Lex) (m : Mode) (ks : List ℕ) (ts : List Token) (i p : ℕ) → lex_start c ≡ Some x
-    → begin_value c (idle m ks ts i p) ≡ Some (state (in_atom After i x) ks ts (suc i) p)
-begin_atom c x m ks ts i p h =
-    cc (cond_not _ _ _ (starts_not c 91 x h refl), cond_not _ _ _ (starts_not c 123 x h refl))
-
 pub step_atom : (c : ℕ) (x : Lex) (m : Mode) (ks : List ℕ) (ts : List Token) (i p : ℕ) → BeginsValue m
     → lex_start c ≡ Some x → step c (idle m ks ts i p) ≡ Some (state (in_atom After i x) ks ts (suc i) p)
-step_atom c x Ready ks ts i p b h = cond_not _ _ _ (starts_not_white c x h) ∙ begin_atom c x Ready ks ts i p h
-step_atom c x FirstItem ks ts i p b h = cond_not _ _ _ (starts_not_white c x h)
-    ∙ cond_not _ _ _ (starts_not c 93 x h refl) ∙ begin_atom c x FirstItem ks ts i p h
+step_atom c x Ready ks ts i p b h = grind (arith, common_steps, cond_not, starts_not_white, starts_not)
+step_atom c x FirstItem ks ts i p b h = grind (arith, common_steps, cond_not, starts_not_white, starts_not)
 step_atom c x _ ks ts i p b h = absurd b
 
 pub step_name : {c : ℕ} (m : Mode) (ks : List ℕ) (ts : List Token) (i p : ℕ) → BeginsName m → c ≡ 34
@@ -165,10 +137,7 @@ shift k n = omega arith
 pub continues_run : (r : List ℕ) {b : List ℕ} {i k : ℕ} {x y : Lex} (z : Lex) → Continues b i x k y
     → lex_run r y ≡ Some z
     → ((n : ℕ) → n < length r → byte b (k + n) ≡ get_or r n 0) → Continues b i x (k + length r) z
-continues_run [] {k} {y} z c h e =
-    let q : y ≡ z = some_same y z h in
-    let f : k ≡ k + 0 = omega arith in
-    rw f at (rw q at c)
+continues_run [] {k} {y} z c h e = grind (arith, some_same)
 continues_run (d ∷ r) {b} {k} {y} z c h e =
     let w = stepped _ (lex_step y d) z h in
     let f : byte b k ≡ d = cc (plus_zero k, e 0 (omega arith)) in
@@ -227,11 +196,7 @@ pub record AtomReading (b : List ℕ) (i k : ℕ) : Type 0 where
 
 pub begun_reading : {b : List ℕ} {kd : Kind} {i j : ℕ} → Begun b kd i j → AtomReading b i j
 begun_reading {b} {kd} {i} {j} w =
-    let a = reading_whole kd (slice_range b i j ++ w.rest) w.spelled in
-    let l = w.within in
-    let e = slice-length b i j (omega arith) l in
-    let q = reading-prefix (slice_range b i j) w.rest a.last (omega arith) a.run in
-    record { last = q.last; inside = record { order = w.order; within = w.within; run = q.run } }
+    grind (arith, reading_whole, slice-length, reading-prefix, w.rest, w.spelled, w.within, w.order)
 
 -- the reading of a whole scalar
 pub record WholeReading (b : List ℕ) (kd : Kind) (i k : ℕ) : Type 0 where
@@ -240,9 +205,7 @@ pub record WholeReading (b : List ℕ) (kd : Kind) (i k : ℕ) : Type 0 where
   pub kind : lex_kind last ≡ Some kd
 
 pub atom_reading : {b : List ℕ} {kd : Kind} {i j : ℕ} → IsAtom b kd i j → WholeReading b kd i j
-atom_reading {b} {kd} {i} {j} w =
-    let a = reading_whole kd _ w.spelled in
-    record { last = a.last; inside = record { order = w.order; within = w.within; run = a.run }; kind = a.kind }
+atom_reading {b} {kd} {i} {j} w = grind (arith, reading_whole, w.spelled, w.order, w.within)
 
 -- a string begins with its quote
 pub quote_first : (b : List ℕ) (i j : ℕ) (r : List ℕ) → i < j → j ≤ length b → IsScalar Text (slice_range b i j ++ r)
@@ -262,9 +225,7 @@ name_quote {b} {i} {j} w = quote_first b i j [] w.order w.within (subst (IsScala
 atom_arrives : {b : List ℕ} {s : State} (n : Mode) {kd : Kind} {x : Lex} {i j p : ℕ} {ks : List ℕ} {ts : List Token}
     → Reaches b s (state (in_atom n i x) ks ts j p) → lex_kind x ≡ Some kd
     → Arrives b s (idle n ks (ts ++ token_at i j (suc (length ts)) ∷ []) j p)
-atom_arrives n {x} {i} {j} {p} {ks} {ts} r e =
-    let at = state (in_atom n i x) ks ts j p in
-    record { at = at; reached = r; settles = ap (λ q. end_atom n i q at) e }
+atom_arrives n {x} {i} {j} {p} {ks} {ts} r e = grind (arith, in_atom)
 
 pub run_atom : {b : List ℕ} {kd : Kind} {i j : ℕ} → IsAtom b kd i j
     → {s : State} (m : Mode) (ks : List ℕ) (ts : List Token) (p : ℕ) → BeginsValue m → Reaches b s (idle m ks ts i p)

@@ -1,5 +1,5 @@
 -- Trees that stand side by side start one after another.
-use Rattle.cj_spans.proofs.Common.{◌≡◌, ℕ, suc, ◌-◌, ◌<◌, ◌≤◌, List, [], ◌∷◌, length, drop, slice_get, slice_range, Some, inl, inr, refl, arith, All, ⊤, cases_lt, Token, Tree, start_of, byte, Span, spans_of, forest, held, past, kind_by, AreNamesInOrder, AreValuesInOrder, AreWithin, shown_between, pairs_of}
+use Rattle.cj_spans.proofs.Common.{◌≡◌, ℕ, suc, ◌-◌, ◌<◌, ◌≤◌, List, [], ◌∷◌, length, drop, slice_get, slice_range, Some, refl, arith, All, ⊤, Token, Tree, start_of, byte, Span, spans_of, forest, held, past, kind_by, AreNamesInOrder, AreValuesInOrder, AreWithin, shown_between, pairs_of}
 use Rattle.std.proofs.lemmas.List.Elements.{All-nil, All-cons, All-head, All-tail, All-take, All-drop}
 use Rattle.cj_spans.proofs.Forests.{past_on, start-node}
 use Rattle.cj_spans.proofs.Views.{past_here}
@@ -12,12 +12,7 @@ Rise (t ∷ ts) = All (λ u. start_of t < start_of u) ts × Rise ts
 -- those past a place start from it on
 past_rises : (j : ℕ) (ts : List Tree) → Rise ts → Rise (past j ts) × All (λ u. j ≤ start_of u) (past j ts)
 past_rises j [] r = (tt, All-nil (λ u. j ≤ start_of u))
-past_rises j (t ∷ ts) r =
-    elim (cases_lt (start_of t) j) [
-      | inl l ↦ rw (past_on t ts j l) (past_rises j ts r.1)
-      | inr g ↦ rw (past_here t ts j g)
-          (r, All-cons (λ u. j ≤ start_of u) t ts g (λ k d l. let h = r.0 k d l in omega arith))
-    ]
+past_rises j (t ∷ ts) r = grind (arith, past_on, past_here, All-cons, past_rises j ts r.1, r.1, r.0)
 
 forest_rises : (b : List ℕ) (ss : List Span) → All (λ (s : Span). s.start < s.stop) ss → Rise (forest b ss)
 unfolding forest

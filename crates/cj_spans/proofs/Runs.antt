@@ -1,5 +1,5 @@
 -- Runs of the machine: bytes that end a scalar, and white space.
-use Rattle.cj_spans.proofs.Common.{◌≡◌, ℕ, zero, suc, ◌+◌, ◌-◌, ◌<◌, ◌≤◌, List, true, false, ◌||◌, nat_eq, Option, Some, None, refl, sym, ap, subst, arith, ◌∙◌, inl, inr, eq-or-lt_of_le, option_and_then, Kind, Token, Lex, NullDone, TruthDone, Zero, Whole, Fraction, Exponent, StringDone, Mode, FirstName, NextName, is_white_space, byte, White, is_digit, Phase, State, state, between, in_atom, read, end_atom, go_on, step, settle, lex_step, lex_kind, point_or_mark, Reaches, on}
+use Rattle.cj_spans.proofs.Common.{◌≡◌, ℕ, zero, suc, ◌+◌, ◌-◌, ◌<◌, ◌≤◌, List, true, false, ◌||◌, nat_eq, Option, Some, None, refl, sym, ap, subst, arith, inl, inr, eq-or-lt_of_le, option_and_then, Kind, Token, Lex, NullDone, TruthDone, Zero, Whole, Fraction, Exponent, StringDone, Mode, FirstName, NextName, is_white_space, byte, White, is_digit, Phase, State, state, between, in_atom, read, end_atom, go_on, step, settle, lex_step, lex_kind, point_or_mark, Reaches, on}
 use Rattle.std.proofs.lemmas.Bool.{eqb-true, cond-true, cond-false, or_cases}
 use Rattle.cj_spans.proofs.Spellings.{none_some, some_same}
 
@@ -36,7 +36,7 @@ pub atom_ends : (x : Lex) {c : ℕ} (k : Kind) → lex_kind x ≡ Some k → IsE
 atom_ends NullDone k h e = refl
 atom_ends TruthDone k h e = refl
 atom_ends Zero k h e = point_end e
-atom_ends Whole {c} k h e = cond-false (is_digit c) _ _ (digit_end e) ∙ point_end e
+atom_ends Whole {c} k h e = grind (arith, cond-false, digit_end, point_end)
 atom_ends Fraction k h e = fraction_end e
 atom_ends Exponent {c} k h e = cond-false (is_digit c) _ _ (digit_end e)
 atom_ends StringDone k h e = refl
@@ -62,9 +62,7 @@ settled_atom : (m : Mode) (a : ℕ) (x : Lex) (k : Option Kind) (ks : List ℕ) 
     → go_on (λ y. in_atom m a y) (lex_step x c) (state (in_atom m a x) ks ts i p)
     (option_and_then (read m c) (end_atom m a k (state (in_atom m a x) ks ts i p))) ≡ step c t
 settled_atom m a x None ks ts i p t kind e h = none_some t h
-settled_atom m a x (Some k) ks ts i p t kind e h =
-    let s = state (in_atom m a x) ks ts i p in
-    cc (atom_ends x k kind e, some_same _ t h)
+settled_atom m a x (Some k) ks ts i p t kind e h = grind (arith, in_atom, atom_ends, some_same)
 
 settled_phase : (f : Phase) (ks : List ℕ) (ts : List Token) (i p : ℕ) (t : State) {c : ℕ} → IsEnd c
     → settle (state f ks ts i p) ≡ Some t → step c (state f ks ts i p) ≡ step c t
@@ -81,12 +79,11 @@ pub record Settled (s t : State) : Type 0 where
   pub deepest : s.deepest ≡ t.deepest
 
 settled_by : {s t : State} → s ≡ t → Settled s t
-settled_by e = record { stack = ap (λ u. u.stack) e; place = ap (λ u. u.place) e; deepest = ap (λ u. u.deepest) e }
+settled_by e = grind arith
 
 settled_end : (m : Mode) (a : ℕ) (k : Option Kind) (s t : State) → end_atom m a k s ≡ Some t → Settled s t
 settled_end m a None s t h = none_some t h
-settled_end m a (Some k) s t h = let e = some_same _ t h in
-    record { stack = ap (λ u. u.stack) e; place = ap (λ u. u.place) e; deepest = ap (λ u. u.deepest) e }
+settled_end m a (Some k) s t h = grind (arith, some_same)
 
 settled_same : (f : Phase) (ks : List ℕ) (ts : List Token) (i p : ℕ) (t : State) → settle (state f ks ts i p) ≡ Some t
     → Settled (state f ks ts i p) t
@@ -107,20 +104,16 @@ pub record Arrives (b : List ℕ) (s t : State) : Type 0 where
 pub arrive_on : {b : List ℕ} {s t : State} (u : State) → IsEnd (byte b t.place) → Arrives b s t
     → step (byte b t.place) t ≡ Some u
     → Reaches b s u
-arrive_on {b} {t} u e a h =
-    let p : a.at.place ≡ t.place = (settled a.at t a.settles).place in
-    let q : step (byte b t.place) a.at ≡ step (byte b t.place) t = settled_step a.at t e a.settles in
-    on a.at u a.reached (ap (λ i. step (byte b i) a.at) p ∙ q ∙ h)
+arrive_on {b} {t} u e a h = grind (arith, settled, settled_step, on, a.at.place, t.place, a.at, a.settles, a.reached)
 
 pub arrived : {b : List ℕ} {s : State} (m : Mode) (ks : List ℕ) (ts : List Token) (i p : ℕ)
     → Reaches b s (idle m ks ts i p) → Arrives b s (idle m ks ts i p)
-arrived m ks ts i p r = record { at = idle m ks ts i p; reached = r; settles = refl }
+arrived m ks ts i p r = grind arith
 
 skip_some : (n : ℕ) {b : List ℕ} {s : State} (m : Mode) (ks : List ℕ) (ts : List Token) (i p : ℕ)
     → ((k : ℕ) → i ≤ k → k < i + n → is_white_space (byte b k) ≡ true)
     → Reaches b s (idle m ks ts i p) → Reaches b s (idle m ks ts (i + n) p)
-skip_some zero m ks ts i p each r = let e : i ≡ i + 0 = omega arith in
-    rw e at r
+skip_some zero m ks ts i p each r = grind arith
 skip_some (suc n) {b} m ks ts i p each r =
     let white = each i (omega arith) (omega arith) in
     let e : suc i + n ≡ i + suc n = omega arith in
@@ -134,7 +127,7 @@ skip {i} {j} w m ks ts p r =
     rw e at (skip_some (j - i) m ks ts i p (λ k l u. w.each k l (omega arith)) r)
 
 white_rest : {b : List ℕ} {i j : ℕ} → White b i j → i < j → White b (suc i) j
-white_rest w h = record { order = omega arith; each = λ k l u. w.each k (omega arith) u }
+white_rest w h = grind (arith, w.each)
 
 -- the same where a scalar may just have ended
 pub skip_after : {b : List ℕ} {i j : ℕ} → White b i j → {s : State} (m : Mode) (ks : List ℕ) (ts : List Token) (p : ℕ)

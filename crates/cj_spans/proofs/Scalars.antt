@@ -1,5 +1,5 @@
 -- How far scalars and names are read, piece by piece.
-use Rattle.cj_spans.proofs.Common.{◌≡◌, ℕ, suc, ◌+◌, ◌<◌, ◌≤◌, List, length, true, Some, refl, ap, arith, ◌∙◌, inr, Lex, AfterN, AfterNu, AfterNul, NullDone, AfterT, AfterTr, AfterTru, AfterF, AfterFa, AfterFal, AfterFals, TruthDone, Whole, Zero, Minus, Point, Fraction, InString, Escape, Hex4, Hex3, Hex2, Hex1, StringDone, byte, is_escape, is_hex, lex_step, is_digit, Continues, still, further, GoesTo, ReadsTo}
+use Rattle.cj_spans.proofs.Common.{◌≡◌, ℕ, suc, ◌+◌, ◌<◌, ◌≤◌, List, length, true, Some, refl, arith, inr, Lex, AfterN, AfterNu, AfterNul, NullDone, AfterT, AfterTr, AfterTru, AfterF, AfterFa, AfterFal, AfterFals, TruthDone, Whole, Zero, Minus, Point, Fraction, InString, Escape, Hex4, Hex3, Hex2, Hex1, StringDone, byte, is_escape, is_hex, lex_step, is_digit, Continues, still, further, GoesTo, ReadsTo}
 use Rattle.cj_spans.proofs.Spellings.{escape_goes, hex_goes}
 
 through : {b : List ℕ} {i : ℕ} {x : Lex} {j : ℕ} {y : Lex} {k : ℕ} {z : Lex} → Continues b i x j y → Continues b j y k z
@@ -10,11 +10,11 @@ through r (further k y z c h) = further k y z (through r c) h
 -- two pieces are one
 pub goes_far : {b : List ℕ} {i : ℕ} {x : Lex} {j : ℕ} {y : Lex} {k : ℕ} {z : Lex} → GoesTo b i x j y → GoesTo b j y k z
     → GoesTo b i x k z
-goes_far g h = record { goes = through g.goes h.goes; order = omega arith; within = h.within }
+goes_far g h = grind (arith, through, g.goes, h.goes, h.within)
 
 pub reads_far : {b : List ℕ} {i : ℕ} {x : Lex} {j : ℕ} {y : Lex} {k : ℕ} {z : Lex} → GoesTo b i x j y
     → ReadsTo b j y k z → ReadsTo b i x k z
-reads_far g h = record { run = goes_far g h.run; halts = h.halts }
+reads_far g h = grind (arith, goes_far, h.run, h.halts)
 
 -- the same reading under another name
 pub reads_as : {b : List ℕ} {i : ℕ} {x y : Lex} {k : ℕ} {z : Lex} → x ≡ y → ReadsTo b i x k z → ReadsTo b i y k z
@@ -34,16 +34,16 @@ goes_one b i j x y l e h =
 -- one byte that is known
 pub goes_by : (b : List ℕ) (i j : ℕ) (x y : Lex) {c : ℕ} → i < length b → j ≡ i + 1 → byte b i ≡ c
     → lex_step x c ≡ Some y → GoesTo b i x j y
-goes_by b i j x y l e is h = goes_one b i j x y l e (ap (lex_step x) is ∙ h)
+goes_by b i j x y l e is h = grind (arith, goes_one)
 
 -- bytes that leave the reading as it is
 pub goes_same : {b : List ℕ} {i k : ℕ} {y : Lex} → ((n : ℕ) (x : Lex) → Continues b n x i y → Continues b n x k y)
     → i ≤ k → k ≤ length b → GoesTo b i y k y
-goes_same {i} {y} same o w = record { goes = same i y still; order = o; within = w }
+goes_same {i} {y} same o w = grind (arith, still)
 
 -- the quote that ends a string
 pub reads_quote : (b : List ℕ) (i : ℕ) → (i < length b) × (byte b i ≡ 34) → ReadsTo b i InString (i + 1) StringDone
-reads_quote b i q = record { run = goes_by b i (i + 1) InString StringDone q.0 refl q.1 refl; halts = inr refl }
+reads_quote b i q = grind (arith, goes_by, q.0, q.1)
 
 pub goes_hex : (b : List ℕ) (i : ℕ) → i + 4 ≤ length b → is_hex (byte b i) ≡ true → is_hex (byte b (i + 1)) ≡ true
     → is_hex (byte b (i + 2)) ≡ true → is_hex (byte b (i + 3)) ≡ true → GoesTo b i Hex4 (i + 4) InString
@@ -81,10 +81,7 @@ goes_minus_zero b i l p = goes_by b i (i + 1) Minus Zero l refl p refl
 
 pub goes_minus : (b : List ℕ) (i : ℕ) → i < length b → (byte b i ≡ 48 → ⊥) → is_digit (byte b i) ≡ true
     → GoesTo b i Minus (i + 1) Whole
-goes_minus b i l n p = goes_one b i (i + 1) Minus Whole l refl (whole (byte b i) n p)
-  where
-    whole : (c : ℕ) → (c ≡ 48 → ⊥) → is_digit c ≡ true → lex_step Minus c ≡ Some Whole
-    whole c n h = grind (arith)
+goes_minus b i l n p = grind (arith, goes_one)
 
 -- three letters and what is read behind each
 letters : (b : List ℕ) (i : ℕ) (w x y z : Lex) {c d e : ℕ} → i + 3 ≤ length b → (byte b i ≡ c) × (byte b (i + 1) ≡ d)

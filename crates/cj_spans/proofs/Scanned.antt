@@ -1,5 +1,5 @@
 -- Tokens that show the tree of a line: what is known of each.
-use Rattle.cj_spans.proofs.Common.{◌≡◌, ℕ, zero, suc, ◌+◌, ◌-◌, ◌<◌, ◌≤◌, List, [], ◌∷◌, ◌++◌, length, drop, slice_get, slice_range, true, inl, inr, Some, refl, sym, ap, subst, arith, ◌∙◌, append_assoc, cases_lt, append-nil, nat_tests, merely, Token, Kind, Number, Array, Object, Atom, Tree, scalar, array, object, Items, no_items, item, Members, no_members, member, add_item, add_member, start_of, size, items_size, members_size, total_size, kind_by, held, past, atom_of, items_from, members_from, node, forest, IsScalar, IsNumber, byte, IsAtom, Value, atom, empty_array, full_array, empty_object, full_object, Padded, padded, LedItems, no_led, led, LedMembers, no_led_members, led_member, Named, named, Json, Span, span_at, preorder, items_preorder, members_preorder, spans_of, AreOf, AreWithin, AreRising, AreNested, AreNamed, AreSpelled, AreLinked, are_members, tree_at}
+use Rattle.cj_spans.proofs.Common.{◌≡◌, ℕ, zero, suc, ◌+◌, ◌-◌, ◌<◌, ◌≤◌, List, [], ◌∷◌, ◌++◌, length, drop, slice_get, slice_range, true, Some, refl, sym, ap, subst, arith, ◌∙◌, append_assoc, append-nil, nat_tests, merely, Token, Kind, Number, Array, Object, Atom, Tree, scalar, array, object, Items, no_items, item, Members, no_members, member, add_item, add_member, start_of, size, items_size, members_size, total_size, kind_by, held, past, atom_of, items_from, members_from, node, forest, IsScalar, IsNumber, byte, IsAtom, Value, atom, empty_array, full_array, empty_object, full_object, Padded, padded, LedItems, no_led, led, LedMembers, no_led_members, led_member, Named, named, Json, Span, span_at, preorder, items_preorder, members_preorder, spans_of, AreOf, AreWithin, AreRising, AreNested, AreNamed, AreSpelled, AreLinked, are_members, tree_at}
 use Rattle.std.specs.List.{AllByRecursion as Each}
 use Rattle.cj_spans.proofs.Lists.{each_more, each_append, items_preorder-add, members_preorder-add}
 use Rattle.cj_spans.proofs.Verdicts.{json_only}
@@ -83,12 +83,7 @@ held-past_here t ts j h = grind (arith, nat_tests)
 
 held-past : (j : ℕ) (ts : List Tree) → held j ts ++ past j ts ≡ ts
 held-past j [] = refl
-held-past j (t ∷ ts) =
-    elim (cases_lt (start_of t) j) [
-      | inl l ↦ held-past_on t ts j l ∙ ap (λ us. t ∷ us) (held-past j ts)
-      | inr g ↦
-          held-past_here t ts j g
-    ]
+held-past j (t ∷ ts) = grind (arith, held-past_on, held-past_here, held-past j ts)
 
 pub held_sizes : (j : ℕ) (ts : List Tree) → total_size (held j ts) + total_size (past j ts) ≡ total_size ts
 held_sizes j ts = cc (sizes-append (held j ts) (past j ts), held-past j ts)
@@ -96,13 +91,7 @@ held_sizes j ts = cc (sizes-append (held j ts) (past j ts), held-past j ts)
 pub forest_small : (b : List ℕ) (ss : List Span) → total_size (forest b ss) ≤ length ss
 unfolding forest
 forest_small b [] = omega arith
-forest_small b (s ∷ ss) = omega (
-  arith,
-  forest_small b ss,
-  held_sizes s.stop (forest b ss),
-  node_small b (kind_by
-      (byte b s.start)) s.start s.stop (held s.stop (forest b ss)),
-)
+forest_small b (s ∷ ss) = grind (arith, held_sizes, node_small, forest_small b ss, s.start)
 
 forest_same : (b : List ℕ) (ss : List Span) → total_size (forest b ss) ≡ length ss → preorders (forest b ss) ≡ ss
 unfolding forest
@@ -161,11 +150,7 @@ good_none : (b : List ℕ) (i : ℕ) → Good b i i []
 good_none b i = record { between = tt; good = λ rest f g. g }
 
 good_more : {b : List ℕ} {i j : ℕ} (k l : ℕ) {ss : List Span} → k ≤ i → j ≤ l → Good b i j ss → Good b k l ss
-good_more {i} {j} k l {ss} f g h =
-    record {
-      between = each_more (Between i j) (Between k l) (λ s b. omega arith) ss h.between;
-      good = λ rest m n. h.good rest (each_more (From l) (From j) (λ s o. omega arith) rest m) n;
-    }
+good_more {i} {j} k l {ss} f g h = grind (arith, each_more, h.between, h.good)
 
 good_both : {b : List ℕ} {i j k : ℕ} {ss us : List Span} → i ≤ j → j ≤ k → Good b i j ss → Good b j k us
     → Good b i k (ss ++ us)
@@ -184,24 +169,7 @@ good_over : {b : List ℕ} (i : ℕ) {j : ℕ} {ss : List Span} → i < j → j 
     → (kind_by (byte b i) ≡ Number → IsNumber (slice_range b i j)) → (byte b i ≡ 91 → byte b (j - 1) ≡ 93)
     → ((rest : List Span) → Each (From j) rest → byte b i ≡ 123 → are_members (held j (forest b (ss ++ rest))) ≡ true)
     → Good b i j (span_at i j ∷ ss)
-good_over i {j} {ss} o l h numeral closed n = record {
-  between = (omega arith, each_more (Between (suc i) j) (Between i j) (λ s b. omega arith) ss h.between);
-  good = λ rest f g. (
-    record {
-      order = o;
-      within = l;
-      stops = each_append (StopsBy j) ss rest (each_more (Between (suc i) j) (StopsBy j) (λ s b m. b.1) ss h.between)
-          (each_more (From j) (StopsBy j) (λ s l m. absurd (omega arith)) rest f);
-      named = n rest f;
-      numeral = numeral;
-      closed = closed;
-      later = each_append (From (suc i)) ss rest
-          (each_more (Between (suc i) j) (From (suc i)) (λ s b. b.0) ss h.between)
-          (each_more (From j) (From (suc i)) (λ s m. omega arith) rest f);
-    },
-    h.good rest f g,
-  );
-}
+good_over i {j} {ss} o l h numeral closed n = grind (arith, each_more, each_append, named, h.between, h.good)
 
 -- ---- the grammar
 
@@ -258,19 +226,13 @@ alternate (member n t ms) = alternate ms
 from_beyond : (b : List ℕ) (j : ℕ) (ss : List Span) → Each (From j) ss → Beyond j (forest b ss)
 unfolding forest
 from_beyond b j [] h = tt
-from_beyond b j (s ∷ ss) h =
-    omega (
-      arith,
-      start-node b (kind_by (byte b s.start)) s.start s.stop (held s.stop (forest b ss)),
-    )
+from_beyond b j (s ∷ ss) h = grind (arith, start-node, s.start)
 
 -- the members of an object, before what starts later
 alternate_held : (b : List ℕ) (j : ℕ) (ms : Members) (rest : List Span)
     → Shows b j (members_preorder ms) (names_and_values ms) → Each (From j) rest
     → are_members (held j (forest b (members_preorder ms ++ rest))) ≡ true
-alternate_held b j ms rest s f =
-    let o = from_beyond b j rest f in
-    cc (s.shows rest o, held_all j (names_and_values ms) (forest b rest) s.all o, alternate ms)
+alternate_held b j ms rest s f = grind (arith, from_beyond, held_all, alternate, s.shows, s.all)
 
 mutual
   good_value : {b : List ℕ} {i j : ℕ} {t : Tree} → Value b i j t → Good b i j (preorder t)
@@ -334,8 +296,7 @@ good_at b (u ∷ ts) (suc k) t g h = good_at b ts k t g.1 h
 stops_at : (ts : List Token) (j n i : ℕ) (u : Token) → Each (StopsBy j) (drop n (spans_of ts)) → n ≤ i
     → slice_get ts i ≡ Some u → u.start < j → u.stop ≤ j
 stops_at [] j n i u s l h m = cc
-stops_at (v ∷ ts) j zero zero u s l h m =
-    let e : v ≡ u = cc in let f = ap (λ (w : Token). w.start) e in let g = ap (λ (w : Token). w.stop) e in omega arith
+stops_at (v ∷ ts) j zero zero u s l h m = grind arith
 stops_at (v ∷ ts) j zero (suc i) u s l h m = stops_at ts j zero i u s.1 (omega arith) h m
 stops_at (v ∷ ts) j (suc n) zero u s l h m = absurd (omega arith)
 stops_at (v ∷ ts) j (suc n) (suc i) u s l h m = stops_at ts j n i u s (omega arith) h m
@@ -349,8 +310,7 @@ are_nested b ts g = λ k t h i u l m n. stops_at ts t.stop (suc k) i u (good_at 
 from_at : (ts : List Token) (j n k : ℕ) (u : Token) → Each (From j) (drop n (spans_of ts)) → n ≤ k
     → slice_get ts k ≡ Some u → j ≤ u.start
 from_at [] j n k u s l h = cc
-from_at (v ∷ ts) j zero zero u s l h =
-    let e : v ≡ u = cc in let f = ap (λ (w : Token). w.start) e in omega arith
+from_at (v ∷ ts) j zero zero u s l h = grind arith
 from_at (v ∷ ts) j zero (suc k) u s l h = from_at ts j zero k u s.1 (omega arith) h
 from_at (v ∷ ts) j (suc n) zero u s l h = absurd (omega arith)
 from_at (v ∷ ts) j (suc n) (suc k) u s l h = from_at ts j n k u s (omega arith) h
@@ -360,9 +320,7 @@ are_rising b ts g = λ i k t u l h m. let o =
     from_at ts (suc t.start) (suc i) k u (good_at b ts i t g h).later (omega arith) m in omega arith
 
 are_named : (b : List ℕ) (ts : List Token) → AllGood b (spans_of ts) → AreNamed b ts
-are_named b ts g = λ k t h e.
-    let f : suc k ≡ k + 1 = omega arith in
-    rw f at ((good_at b ts k t g h).named e)
+are_named b ts g = grind (arith, good_at)
 
 are_spelled : (b : List ℕ) (ts : List Token) → AllGood b (spans_of ts) → AreSpelled b ts
 are_spelled b ts g = λ k t h. let w = good_at b ts k t g h in (λ e. merely (w.numeral e), w.closed)
@@ -403,7 +361,7 @@ first_shown b (s ∷ ss) t h = cc
 
 -- the tree that the tokens show is the line's
 pub one_tree : {b : List ℕ} {ts : List Token} → AreOf b ts → (t : Tree) → Json b t → tree_at b (spans_of ts) 0 ≡ t
-one_tree {b} {ts} a t j = first_shown b (spans_of ts) a.tree a.shown ∙ json_only b t a.tree j a.json
+one_tree {b} {ts} a t j = grind (arith, first_shown, json_only, a.tree, a.shown, a.json)
 
 pub its_tree : {b : List ℕ} {ts : List Token} → AreOf b ts → Json b (tree_at b (spans_of ts) 0)
-its_tree {b} {ts} a = subst (Json b) (sym (first_shown b (spans_of ts) a.tree a.shown)) a.json
+its_tree {b} {ts} a = grind (arith, first_shown, a.tree, a.shown, a.json)

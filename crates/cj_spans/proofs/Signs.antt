@@ -1,5 +1,5 @@
 -- Signs: where the machine stands behind a colon and a comma, and which container is then innermost.
-use Rattle.cj_spans.proofs.Common.{◌≡◌, ℕ, suc, ◌+◌, ◌<◌, List, [], ◌∷◌, ◌++◌, length, max, Bool, true, false, cond, nat_eq, Option, Some, None, refl, sym, ap, subst, arith, ◌∙◌, slice_get, Kind, Array, Object, Token, Mode, Ready, FirstItem, After, FirstName, NextName, AfterName, Move, To, Open, byte, token_at, Phase, State, state, between, moved, read, after_top, after_token, after_in, with_closed, step, phase_after, open_link, open_kind, Reaches, on, ComesTo, IsInnermost, InArray, InObject, BeginsValueNext, BeginsNameNext, StaysInArrayNext, StaysInObjectNext}
+use Rattle.cj_spans.proofs.Common.{◌≡◌, ℕ, suc, ◌+◌, ◌<◌, List, [], ◌∷◌, ◌++◌, length, Bool, true, false, cond, Option, Some, None, refl, ap, arith, ◌∙◌, slice_get, Kind, Array, Object, Token, Mode, Ready, FirstItem, After, FirstName, NextName, AfterName, Move, To, Open, byte, token_at, Phase, State, state, between, moved, read, after_top, after_token, after_in, step, phase_after, open_link, open_kind, Reaches, on, ComesTo, IsInnermost, InArray, InObject, BeginsValueNext, BeginsNameNext, StaysInArrayNext, StaysInObjectNext}
 use Rattle.cj_spans.proofs.Spellings.{some_same, none_some}
 use Rattle.cj_spans.proofs.Lists.{slice_get-append, slice_get-seam}
 use Rattle.cj_spans.proofs.Runs.{idle, settled}
@@ -10,9 +10,7 @@ use Rattle.cj_spans.proofs.Runs.{idle, settled}
 pub step_on : {b : List ℕ} {s t : State} (u : State) → ComesTo b s t → t.place < length b
     → step (byte b t.place) t ≡ Some u
     → Reaches b s u
-step_on {b} {t} u h l e =
-    let p : h.last.place ≡ t.place = (settled h.last t h.settles).place in
-    on h.last u h.reached (ap (λ n. step (byte b n) h.last) p ∙ h.same l ∙ e)
+step_on {b} {t} u h l e = grind (arith, settled, on, h.last.place, t.place, h.settles, h.reached, h.same)
 
 -- a sign takes the machine from one mode to another
 sign_read : {b : List ℕ} {s : State} (m n : Mode) {c : ℕ} (ks : List ℕ) (ts : List Token) (k p : ℕ) → k < length b
@@ -26,17 +24,14 @@ sign_read m n ks ts k p l e go h =
 -- the colon behind a name
 pub colon_read : (b : List ℕ) (s : State) (ks : List ℕ) (ts : List Token) (k p : ℕ) → k < length b → byte b k ≡ 58
     → ComesTo b s (idle AfterName ks ts k p) → ComesTo b s (idle Ready ks ts (k + 1) p)
-colon_read b s ks ts k p l e h = sign_read AfterName Ready ks ts k p l e refl h
+colon_read b s ks ts k p l e h = grind (arith, sign_read)
 
 -- the comma behind a part of a container of the kind d, in which the mode n comes behind one
 pub comma_read : (b : List ℕ) (s : State) {d : Kind} (n : Mode) {ks : List ℕ} {ts : List Token} (k p : ℕ)
     → ((i : ℕ) (t : Token) (u : State) → after_in d 44 i t u ≡ Some (moved (between n) u)) → IsInnermost d ks ts
     → k < length b → byte b k ≡ 44
     → ComesTo b s (idle After ks ts k p) → ComesTo b s (idle n ks ts (k + 1) p)
-comma_read b s n {ks} {ts} k p next a l e h =
-    let u = idle After ks ts k p in
-    sign_read After n ks ts k p l e (ap (λ o. after_top 44 o u) a.innermost ∙ ap (λ o. after_token 44 a.top o u) a.there
-    ∙ ap (λ g. after_in g 44 a.top a.token u) a.kind ∙ next a.top a.token u) h
+comma_read b s n {ks} {ts} k p next a l e h = search (arith, sign_read, a.innermost, a.there, a.kind)
 
 -- ---- the innermost container
 
@@ -48,13 +43,7 @@ innermost_same e f a = rw f at (rw e at a)
 pub innermost_more : {d : Kind} {ks : List ℕ} {ts us : List Token} (vs : List Token) → IsInnermost d ks ts
     → us ≡ ts ++ vs
     → IsInnermost d ks us
-innermost_more {ts} vs a e = record {
-  top = a.top;
-  token = a.token;
-  innermost = a.innermost;
-  there = rw e (slice_get-append ts vs a.top a.token a.there);
-  kind = a.kind;
-}
+innermost_more {ts} vs a e = grind (arith, slice_get-append, a.innermost, a.there, a.kind)
 
 -- it is the one that was just opened
 pub innermost_opened : (d : Kind) (ks : List ℕ) (ts : List Token) (i : ℕ) → open_kind (token_at i 0 (open_link d)) ≡ d
@@ -82,7 +71,7 @@ IsIn (Some u) = (d : Kind) → kind_in u.phase ≡ Some d → IsInnermost d u.st
 
 is_in : (g : Kind) {ks : List ℕ} {ts : List Token} → IsInnermost g ks ts → (d : Kind) → Some g ≡ Some d
     → IsInnermost d ks ts
-is_in g {ks} {ts} a d w = subst (λ z. IsInnermost z ks ts) (some_same g d w) a
+is_in g {ks} {ts} a d w = grind (arith, some_same)
 
 in_cond : (v : Bool) (x y : Option State) → IsIn x → IsIn y → IsIn (cond v x y)
 in_cond true x y a b = a
@@ -92,12 +81,8 @@ module _ (ks : List ℕ) (ts : List Token) (i p : ℕ) where
   -- behind a part of a container
   after_kind : (c k : ℕ) (t : Token) (g : Kind) → open_kind t ≡ g → slice_get ts k ≡ Some t → slice_get ks 0 ≡ Some k
       → IsIn (after_in g c k t (idle After ks ts i p))
-  after_kind c k t Array e f g =
-      in_cond (nat_eq c 44) _ _ (is_in Array (record { top = k; token = t; innermost = g; there = f; kind = e }))
-      (in_cond (nat_eq c 93) _ None (λ d w. none_some d w) tt)
-  after_kind c k t Object e f g =
-      in_cond (nat_eq c 44) _ _ (is_in Object (record { top = k; token = t; innermost = g; there = f; kind = e }))
-      (in_cond (nat_eq c 125) _ None (λ d w. none_some d w) tt)
+  after_kind c k t Array e f g = grind (arith, in_cond, is_in, none_some)
+  after_kind c k t Object e f g = grind (arith, in_cond, is_in, none_some)
   after_kind c k t _ e f g = tt
 
   after_found : (c k : ℕ) (o : Option Token) → slice_get ts k ≡ o → slice_get ks 0 ≡ Some k
@@ -115,8 +100,8 @@ module _ (ks : List ℕ) (ts : List Token) (i p : ℕ) where
 
   behind_bracket : (m : Mode) → IsIn (read m 91 (idle m ks ts i p))
   behind_bracket After = after_part 91 (slice_get ks 0) refl
-  behind_bracket Ready = is_in Array (innermost_opened Array ks ts i refl)
-  behind_bracket FirstItem = is_in Array (innermost_opened Array ks ts i refl)
+  behind_bracket Ready = search (arith, is_in, innermost_opened)
+  behind_bracket FirstItem = search (arith, is_in, innermost_opened)
   behind_bracket _ = tt
 
   behind_brace : (m : Mode) → IsIn (read m 123 (idle m ks ts i p))
@@ -129,22 +114,22 @@ module _ (ks ls : List ℕ) (ts us : List Token) (i p j q : ℕ) (m : Mode) wher
   -- a state that comes, and in which this container is innermost
   comes : (d c : ℕ) {f : Phase} → c ≡ d → IsIn (read m d (idle m ks ts i p))
       → read m c (idle m ks ts i p) ≡ Some (state f ls us j q) → IsIn (Some (state f ls us j q))
-  comes d c e a h = subst IsIn h (subst (λ z. IsIn (read m z (idle m ks ts i p))) (sym e) a)
+  comes d c e a h = grind arith
 
   -- an array is innermost behind `[`, and behind a comma after which a value comes
   pub array_next : (c : ℕ) (v : Move) → StaysInArrayNext c v
       → read m c (idle m ks ts i p) ≡ Some (state (phase_after m i v) ls us j q) → InArray ls us
-  array_next c (To Ready) e h = comes 44 c e (behind_comma ks ts i p m) h Array refl
-  array_next c (Open Ready) e h = comes 44 c e (behind_comma ks ts i p m) h Array refl
-  array_next c (To FirstItem) e h = comes 91 c e (behind_bracket ks ts i p m) h Array refl
-  array_next c (Open FirstItem) e h = comes 91 c e (behind_bracket ks ts i p m) h Array refl
+  array_next c (To Ready) e h = grind (arith, comes, behind_comma)
+  array_next c (Open Ready) e h = grind (arith, comes, behind_comma)
+  array_next c (To FirstItem) e h = grind (arith, comes, behind_bracket)
+  array_next c (Open FirstItem) e h = grind (arith, comes, behind_bracket)
   array_next c _ e h = absurd e
 
   -- an object is innermost behind `{`, and behind a comma after which a name comes
   pub object_next : (c : ℕ) (v : Move) → StaysInObjectNext c v
       → read m c (idle m ks ts i p) ≡ Some (state (phase_after m i v) ls us j q) → InObject ls us
-  object_next c (To NextName) e h = comes 44 c e (behind_comma ks ts i p m) h Object refl
-  object_next c (Open FirstName) e h = comes 123 c e (behind_brace ks ts i p m) h Object refl
+  object_next c (To NextName) e h = grind (arith, comes, behind_comma)
+  object_next c (Open FirstName) e h = grind (arith, comes, behind_brace)
   object_next c _ e h = absurd e
 
 pub values_next : (c : ℕ) (v : Move) → StaysInArrayNext c v → BeginsValueNext v

@@ -1,5 +1,5 @@
 -- Tokens past the tree of a token: as many as the tree has values and names.
-use Rattle.cj_spans.proofs.Common.{◌≡◌, ℕ, zero, suc, ◌+◌, ◌<◌, ◌≤◌, List, [], ◌∷◌, length, drop, slice_get, Some, Result, Ok, Err, refl, sym, ap, arith, rules, ◌∙◌, OnOk, length-drop, slice_get_within, BoundedList, Token, LineFault, Atom, Tree, Items, no_items, item, Members, no_members, member, add_item, add_member, size, items_size, members_size, total_size, held, past, forest, kind_by, node, byte, Value, atom, empty_array, full_array, empty_object, full_object, Padded, padded, LedItems, no_led, led, LedMembers, no_led_members, led_member, Named, named, Span, spans_of, AreOf, AreFull, AreNested, AreLinked, before, AreSized, IsScanOf, tree_at}
+use Rattle.cj_spans.proofs.Common.{◌≡◌, ℕ, zero, suc, ◌+◌, ◌<◌, ◌≤◌, List, [], ◌∷◌, length, drop, slice_get, Some, Result, Ok, Err, refl, sym, ap, arith, rules, ◌∙◌, OnOk, length-drop, slice_get_within, BoundedList, Token, LineFault, Atom, Tree, Items, no_items, item, Members, no_members, member, add_item, add_member, size, items_size, members_size, total_size, held, past, forest, Value, atom, empty_array, full_array, empty_object, full_object, Padded, padded, LedItems, no_led, led, LedMembers, no_led_members, led_member, Named, named, Span, spans_of, AreOf, AreFull, AreNested, AreLinked, before, AreSized, IsScanOf, tree_at}
 use Rattle.cj_spans.proofs.Links.{before_length, before_one, before_zero}
 use Rattle.cj_spans.proofs.Scanned.{node_small, forest_small, held_sizes, known, length-spans_of}
 use Rattle.cj_spans.proofs.Verdicts.{Ran, ran_tree}
@@ -10,13 +10,7 @@ use Rattle.cj_spans.proofs.Views.{link_past}
 full_next : (b : List ℕ) (s : Span) (ss : List Span) → total_size (forest b (s ∷ ss)) ≡ length (s ∷ ss)
     → total_size (forest b ss) ≡ length ss
 unfolding forest
-full_next b s ss h = omega (
-  arith,
-  forest_small b ss,
-  held_sizes s.stop (forest b ss),
-  node_small b (kind_by (byte b
-      s.start)) s.start s.stop (held s.stop (forest b ss)),
-)
+full_next b s ss h = grind (arith, forest_small, held_sizes, node_small, s.start)
 
 full_from : (b : List ℕ) (ss : List Span) (k : ℕ) → total_size (forest b ss) ≡ length ss
     → total_size (forest b (drop k ss)) ≡ length (drop k ss)
@@ -30,14 +24,7 @@ full_tree : (b : List ℕ) (ts : List Token) (k : ℕ) (t : Token) → slice_get
     → size (tree_at b (spans_of ts) k) ≡ suc (total_size (held t.stop (forest b (drop (suc k) (spans_of ts)))))
 unfolding forest tree_at
 full_tree b [] k t h e = cc
-full_tree b (u ∷ ts) zero t h e =
-    let q : u ≡ t = cc in
-    let l = forest_small b (spans_of ts) in
-    let f = held_sizes u.stop (forest b (spans_of ts)) in
-    let n = node_small b (kind_by (byte b u.start)) u.start u.stop (held u.stop (forest b (spans_of ts))) in
-    let own : size (node b (kind_by (byte b u.start)) u.start u.stop (held u.stop (forest b (spans_of ts))))
-    ≡ suc (total_size (held u.stop (forest b (spans_of ts)))) = omega arith in
-    rw (← q) own
+full_tree b (u ∷ ts) zero t h e = grind (arith, forest_small, held_sizes, node_small, u.start)
 full_tree b (u ∷ ts) (suc k) t h e = full_tree b ts k t h (full_next b _ (spans_of ts) e)
 
 length_from : (ts : List Token) (k : ℕ) → length (drop k (spans_of ts)) ≡ length (drop k ts)
@@ -83,9 +70,7 @@ are_sized b ts a = full_sized b ts (known b ts a).nested a.linked (are_full a)
 
 scan_sized : {b : List ℕ} {old new : BoundedList Token} {old_stack new_stack : BoundedList ℕ} → (t : Tree)
     × IsScanOf b t old new old_stack new_stack → AreSized b new.elements
-scan_sized {b} {new} s =
-    are_sized b new.elements
-    (record { tree = s.0; json = s.1.json; shown = s.1.shown; count = s.1.count; linked = s.1.linked })
+scan_sized {b} {new} s = grind (arith, are_sized, s.0, s.1.json, s.1.shown, s.1.count, s.1.linked)
 
 pub ran_sized : {b : List ℕ} {old new : BoundedList Token} {old_stack new_stack : BoundedList ℕ}
     (r : Result (Unit {0}) LineFault) → Ran b old new old_stack new_stack r → OnOk r (AreSized b new.elements)
@@ -113,13 +98,7 @@ mutual
   value_room (full_array i j k us u o l p c) = omega (arith, led_room l, padded_room p, items_size-add us u)
   value_room (empty_object i j o w c) = omega arith
   value_room (full_object i j k l us n u o ld nm p c) =
-      omega (
-        arith,
-        led_members_room ld,
-        padded_room p,
-        members_size-add us n u,
-        named_room nm,
-      )
+      grind (arith, members_size-add, named_room, padded_room p, led_members_room ld)
 
   padded_room : {b : List ℕ} {i j : ℕ} {t : Tree} → Padded b i j t → size t + i ≤ j
   padded_room (padded i j k l t w v x) = omega (arith, value_room v)
@@ -131,13 +110,7 @@ mutual
   led_members_room : {b : List ℕ} {i j : ℕ} {us : Members} → LedMembers b i j us → members_size us + i ≤ j
   led_members_room (no_led_members i) = omega arith
   led_members_room (led_member i j k l us n u ld nm p c) =
-      omega (
-        arith,
-        led_members_room ld,
-        padded_room p,
-        members_size-add us n u,
-        named_room nm,
-      )
+      grind (arith, members_size-add, named_room, led_members_room ld, padded_room p)
 
 -- ---- a walk over the tokens that start before a place
 
@@ -149,11 +122,7 @@ before_step (u ∷ ts) j (suc n) t h l = before_step ts j n t h l
 
 pub before_walked : (ts : List Token) (j k n : ℕ) (t : Token) → slice_get ts n ≡ Some t → t.start < j
     → k ≡ n + before j (drop n ts) → k ≡ n + 1 + before j (drop (n + 1) ts)
-before_walked ts j k n t h l e =
-    let f = before_step ts j n t h l in
-    let next : suc n ≡ n + 1 = omega arith in
-    let g : k ≡ suc n + before j (drop (suc n) ts) = omega arith in
-    rw next at g
+before_walked ts j k n t h l e = grind (arith, before_step)
 
 pub before_stopped : (ts : List Token) (j n : ℕ) (t : Token) → slice_get ts n ≡ Some t → j ≤ t.start
     → before j (drop n ts) ≡ 0

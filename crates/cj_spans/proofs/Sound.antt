@@ -1,5 +1,5 @@
 -- What the machine has read, by its state.
-use Rattle.cj_spans.proofs.Common.{◌≡◌, ℕ, suc, List, [], ◌∷◌, ◌++◌, length, max, Bool, true, false, cond, nat_eq, Option, Some, None, refl, ap, subst, arith, ◌∙◌, ◌≤◌, inl, inr, slice_set, eq-or-lt_of_le, option_and_then, option_map, append-nil, Kind, Text, Token, Lex, InString, Mode, Ready, FirstItem, After, FirstName, NextName, AfterName, Atom, Tree, scalar, array, object, Items, no_items, Members, no_members, add_item, add_member, is_white_space, byte, atom_at, White, IsAtom, Value, atom, empty_array, full_array, empty_object, full_object, Padded, padded, LedItems, no_led, led, LedMembers, no_led_members, led_member, Named, named, flatten, flatten_items, flatten_members, token_at, State, state, in_atom, step, read, begin_value, after_value, end_atom, go_on, lex_start, lex_step, lex_kind, Reaches, here, on, start}
+use Rattle.cj_spans.proofs.Common.{◌≡◌, ℕ, suc, List, [], ◌∷◌, ◌++◌, length, max, Bool, true, false, cond, nat_eq, Option, Some, None, refl, ap, subst, arith, ◌∙◌, slice_set, eq-or-lt_of_le, option_and_then, option_map, append-nil, Kind, Text, Token, Lex, InString, Mode, Ready, FirstItem, After, FirstName, NextName, AfterName, Atom, Tree, scalar, array, object, Items, no_items, Members, no_members, add_item, add_member, is_white_space, byte, atom_at, White, IsAtom, Value, atom, empty_array, full_array, empty_object, full_object, Padded, padded, LedItems, no_led, led, LedMembers, no_led_members, led_member, Named, named, flatten, flatten_items, flatten_members, token_at, State, state, in_atom, step, read, begin_value, after_value, end_atom, go_on, lex_start, lex_step, lex_kind, Reaches, here, on, start}
 use Rattle.std.proofs.lemmas.Bool.{eqb-true}
 use Rattle.cj_spans.proofs.Lists.{length-snoc, items_more, members_more, array_done, object_done, array_empty, object_empty, slice_get-append, slice_get-seam}
 use Rattle.cj_spans.proofs.Runs.{idle}
@@ -8,17 +8,13 @@ use Rattle.cj_spans.proofs.Places.{InAtom, atom_first, atom_more, atom_sound, na
 -- ---- white space
 
 pub no_white : (b : List ℕ) (i : ℕ) → White b i i
-no_white b i = record { order = omega arith; each = λ k h l. absurd (omega arith) }
+no_white b i = grind arith
 
 last_white : (b : List ℕ) {j k : ℕ} → is_white_space (byte b j) ≡ true → k ≡ j → is_white_space (byte b k) ≡ true
 last_white b h e = rw e h
 
 pub white_more : {b : List ℕ} {i j : ℕ} → White b i j → is_white_space (byte b j) ≡ true → White b i (suc j)
-white_more {b} {j} w h = record {
-  order = omega arith;
-  each = λ k l u. let m : k ≤ j = omega arith in
-      elim (eq-or-lt_of_le m) [ inl e ↦ last_white b h e | inr s ↦ w.each k l s ];
-}
+white_more {b} {j} w h = grind (arith, eq-or-lt_of_le, last_white, w.each)
 
 -- ---- the invariant
 
@@ -81,7 +77,7 @@ inv_cond b false x y f g = g
 
 inv_byte : (b : List ℕ) (k d : ℕ) (x y : Option State) → (byte b k ≡ d → InvIf b x) → InvIf b y
     → InvIf b (cond (nat_eq (byte b k) d) x y)
-inv_byte b k d x y f g = inv_cond b _ x y (λ z. f (eqb-true (byte b k) d z)) g
+inv_byte b k d x y f g = grind (arith, inv_cond, eqb-true)
 
 module _ {b : List ℕ} where
   lex_sound : (k p : ℕ) (ks : List ℕ) (ts : List Token) → Context b k ks ts → (o : Option Lex)
@@ -202,8 +198,8 @@ module _ {b : List ℕ} where
       (inv_byte b k 34 _ _ (λ z. in_name e j k (suc k) p ks ts us InString c o l w z
       (atom_first b k InString (ap lex_start z))) tt)
   inv_step (after_name e j l m k p ks ts us c o ld w0 wd w) = colon_sound p us c o ld w0 wd w
-  inv_step (in_scalar e k p ks ts x c w) = scalar_sound p c w (lex_step x (byte b k)) refl
-  inv_step (in_name e j l k p ks ts us x c o ld w0 q w) = name_sound p us c o ld w0 q w (lex_step x (byte b k)) refl
+  inv_step (in_scalar e k p ks ts x c w) = search (arith, scalar_sound)
+  inv_step (in_name e j l k p ks ts us x c o ld w0 q w) = search (arith, name_sound)
 
   -- each state that the machine comes to has it
   pub inv_reaches : {s : State} → Reaches b start s → Inv b s

@@ -1,6 +1,6 @@
 -- The readings of a scalar against the spellings of RFC 8259, over lists of bytes.
 use Rattle.std.specs.Prelude.{codes}
-use Rattle.cj_spans.proofs.Common.{◌≡◌, ℕ, ◌<◌, ◌≤◌, List, [], ◌∷◌, ◌++◌, length, Bool, true, false, cond, ◌&&◌, ◌||◌, not, nat_eq, nat_le, Option, Some, None, refl, sym, ap, subst, arith, ◌∙◌, ◌⊎◌, inl, inr, both_true, first_so, second_so, option_and_then, IsSomeAnd, append-nil, nat_tests, Kind, Null, Truth, Number, Text, Lex, AfterN, AfterNu, AfterNul, NullDone, AfterT, AfterTr, AfterTru, AfterF, AfterFa, AfterFal, AfterFals, TruthDone, Minus, Zero, Whole, Point, Fraction, Mark, MarkSign, Exponent, InString, Escape, Hex4, Hex3, Hex2, Hex1, StringDone, IsScalar, is_plain, is_escape, is_hex, IsDigit, AllDigits, IsDigits, IsMinus, IsInt, IsFrac, IsExp, IsExpRest, IsNumber, IsBody, nothing, plain, escape, unicode, is_digit, lex_start, lex_step, lex_kind, hex, digit_or, mark, point_or_mark, sign_mark}
+use Rattle.cj_spans.proofs.Common.{◌≡◌, ℕ, ◌<◌, ◌≤◌, List, [], ◌∷◌, ◌++◌, length, Bool, true, false, cond, ◌&&◌, ◌||◌, not, nat_eq, nat_le, Option, Some, None, refl, sym, ap, subst, arith, ◌∙◌, ◌⊎◌, inl, inr, both_true, first_so, second_so, option_and_then, IsSomeAnd, append-nil, nat_tests, Kind, Null, Truth, Number, Text, Lex, AfterN, AfterNu, AfterNul, NullDone, AfterT, AfterTr, AfterTru, AfterF, AfterFa, AfterFal, AfterFals, TruthDone, Minus, Zero, Whole, Point, Fraction, Mark, MarkSign, Exponent, InString, Escape, Hex4, Hex3, Hex2, Hex1, StringDone, IsScalar, is_plain, is_escape, is_hex, IsDigit, AllDigits, IsDigits, IsMinus, IsInt, IsFrac, IsExp, IsExpRest, IsNumber, IsBody, nothing, plain, escape, unicode, lex_start, lex_step, lex_kind, hex, digit_or, mark, point_or_mark, sign_mark}
 use Rattle.std.proofs.lemmas.Bool.{eqb-true, leb-true, le-leb, or_cases}
 
 pub none_some : {A B : Type 0} (x : A) → ◌≡◌ {A = Option A} None (Some x) → B
@@ -56,8 +56,7 @@ between_test : {a c b : ℕ} → a ≤ c → c ≤ b → nat_le a c && nat_le c 
 between_test {a} {c} {b} h g = both_true (le-leb a c h) (le-leb c b g)
 
 or_two : (c d e : ℕ) → nat_eq c d || nat_eq c e ≡ true → (c ≡ d) ⊎ (c ≡ e)
-or_two c d e h =
-    elim (or_cases (nat_eq c d) (nat_eq c e) h) [ inl p ↦ inl (eqb-true c d p) | inr q ↦ inr (eqb-true c e q) ]
+or_two c d e h = grind (arith, or_cases, eqb-true)
 
 -- the reading behind a test that succeeds
 test_one : (P : Lex → Type 0) (v : Bool) (x : Lex) → IsSomeAnd (cond v (Some x) None) P → (v ≡ true) × P x
@@ -128,10 +127,10 @@ Rest r Hex1 = (h i j : ℕ) → is_hex h && is_hex i && is_hex j ≡ true → Bo
 Rest r _ = r ≡ []
 
 no_tail : Tail []
-no_tail = record { frac = []; exp = []; frac_is = tt; exp_is = tt; joined = refl }
+no_tail = grind arith
 
 no_digits : {P : List ℕ → Type 0} (r : List ℕ) → P r → DigitsThen P r
-no_digits r p = record { digits = []; rest = r; digits_are = tt; rest_is = p; joined = refl }
+no_digits r p = grind arith
 
 more_digits : {P : List ℕ → Type 0} (c : ℕ) {r : List ℕ} → IsDigit c → DigitsThen P r → DigitsThen P (c ∷ r)
 more_digits c d t = record {
@@ -172,11 +171,7 @@ module _ (c : ℕ) (r : List ℕ) where
   exp_from p = let q = test_one _ _ Mark p in (or_two c 101 69 q.0, q.1)
 
   tail_from : IsSomeAnd (point_or_mark c) (Rest r) → Tail (c ∷ r)
-  tail_from p =
-      elim (test_two _ (nat_eq c 46) Point (mark c) p) [
-        | inl q ↦ behind Tail c 46 r q
-        | inr q ↦ record { frac = []; exp = c ∷ r; frac_is = tt; exp_is = exp_from q.1; joined = refl }
-      ]
+  tail_from p = grind (arith, test_two, behind, exp_from)
 
   sign_from : IsSomeAnd (sign_mark c) (Rest r) → IsExpRest (c ∷ r)
   sign_from p =
@@ -199,17 +194,9 @@ module _ (c : ℕ) (r : List ℕ) where
       (c ∷ t.0, plain c t.0 (both_true q.0 (both_true (ap not f) (ap not g))) t.1, ap (λ z. c ∷ z) t.2)
 
 rest_before : (x : Lex) (c : ℕ) (r : List ℕ) → IsSomeAnd (lex_step x c) (Rest r) → Rest (c ∷ r) x
-rest_before Minus c r p =
-    elim (test_two (Rest r) (nat_eq c 48) Zero _ p) [
-      | inl q ↦ zero_first c r q
-      | inr q ↦ whole_first c r (test_one (Rest r) (nat_le 49 c && nat_le c 57) Whole q.1)
-    ]
+rest_before Minus c r p = grind (arith, test_two, zero_first, whole_first, test_one)
 rest_before Zero c r p = tail_from c r p
-rest_before Whole c r p =
-    elim (test_two (Rest r) (is_digit c) Whole _ p) [
-      | inl q ↦ more_digits c (between_is 48 c 57 q.0) q.1
-      | inr q ↦ no_digits (c ∷ r) (tail_from c r q.1)
-    ]
+rest_before Whole c r p = grind (arith, test_two, more_digits, between_is, no_digits, tail_from)
 rest_before Point c r p =
     let q = digit c r Fraction p in let t = q.1 in
     record {
@@ -219,40 +206,19 @@ rest_before Point c r p =
       exp_is = t.rest_is;
       joined = ap (λ z. 46 ∷ c ∷ z) t.joined;
     }
-rest_before Fraction c r p =
-    elim (test_two (Rest r) (is_digit c) Fraction _ p) [
-      | inl q ↦ more_digits c (between_is 48 c 57 q.0) q.1
-      | inr q ↦ no_digits (c ∷ r) (exp_from c r q.1)
-    ]
-rest_before Mark c r p =
-    elim (test_two (Rest r) (is_digit c) Exponent _ p) [
-      | inl q ↦ record {
-        sign = [];
-        digits = c ∷ r;
-        sign_is = inl refl;
-        digits_are = (between_is 48 c 57 q.0, q.1);
-        joined = refl;
-      }
-      | inr q ↦ sign_from c r q.1
-    ]
+rest_before Fraction c r p = grind (arith, test_two, more_digits, between_is, no_digits, exp_from)
+rest_before Mark c r p = grind (arith, test_two, between_is, sign_from)
 rest_before MarkSign c r p = digit c r Exponent p
 rest_before Exponent c r p = digit c r Exponent p
-rest_before InString c r p =
-    elim (test_two (Rest r) (nat_eq c 34) StringDone _ p) [
-      | inl q ↦ ([], nothing, front q)
-      | inr q ↦ elim (test_two (Rest r) (nat_eq c 92) Escape _ q.1) [
-        | inl s ↦ behind BodyTail c 92 r s
-        | inr s ↦ plain_from c r q.0 s.0 s.1
-      ]
-    ]
+rest_before InString c r p = grind (arith, test_two, nothing, front, behind, plain_from)
 rest_before Escape c r p =
     elim (test_two (Rest r) (is_escape c) InString _ p) [
       | inl q ↦ let t = q.1 in (92 ∷ c ∷ t.0, escape c t.0 q.0 t.1, ap (λ z. 92 ∷ c ∷ z) t.2)
       | inr q ↦ behind (λ z. BodyTail (92 ∷ z)) c 117 r (test_one (Rest r) (nat_eq c 117) Hex4 q.1)
     ]
 rest_before Hex4 c r p = let q = test_one (Rest r) (is_hex c) Hex3 p in q.1 c q.0
-rest_before Hex3 c r p = let q = test_one (Rest r) (is_hex c) Hex2 p in λ i e. q.1 i c (both_true e q.0)
-rest_before Hex2 c r p = let q = test_one (Rest r) (is_hex c) Hex1 p in λ i j e. q.1 i j c (both_true e q.0)
+rest_before Hex3 c r p = grind (arith, test_one, both_true)
+rest_before Hex2 c r p = grind (arith, test_one, both_true)
 rest_before Hex1 c r p =
     let q = test_one (Rest r) (is_hex c) InString p in let t = q.1 in λ i j k e. (
       92 ∷ 117 ∷ i ∷ j ∷ k ∷ c ∷ t.0,
@@ -296,17 +262,7 @@ rest_of (c ∷ r) x y k h d = let w = stepped (lex_run r) (lex_step x c) y h in
 -- ---- all scalars
 
 number : (minus : List ℕ) {r : List ℕ} → IsMinus minus → Unsigned r → IsNumber (minus ++ r)
-number minus m u = record {
-  minus = minus;
-  int = u.int;
-  frac = u.tail.frac;
-  exp = u.tail.exp;
-  minus_is = m;
-  int_is = u.int_is;
-  frac_is = u.tail.frac_is;
-  exp_is = u.tail.exp_is;
-  joined = ap (λ z. minus ++ z) (u.joined ∙ ap (λ z. u.int ++ z) u.tail.joined);
-}
+number minus m u = grind (arith, u.int_is, u.tail.frac_is, u.tail.exp_is)
 
 scalar_from : (c : ℕ) (r : List ℕ) (k : Kind)
     → IsSomeAnd (lex_start c) (λ x. Rest r x × (kind_of_lex x ≡ k)) → IsScalar k (c ∷ r)
@@ -356,8 +312,7 @@ ends_by {k} {r} z h e = subst (Ends k r) (sym h) e
 
 later : {k : Kind} (c : ℕ) {r : List ℕ} {x : Lex} (z : Lex) → lex_step x c ≡ Some z → Ends k r (Some z)
     → Ends k (c ∷ r) (Some x)
-later c {r} z h e =
-    record { last = e.last; run = ap (option_and_then (lex_run r)) h ∙ e.run; kind = e.kind }
+later c {r} z h e = grind (arith, e.run, e.kind)
 
 pub plain_goes : (c : ℕ) → is_plain c ≡ true → lex_step InString c ≡ Some InString
 plain_goes c h = grind (arith)
@@ -374,7 +329,7 @@ digit_goes y c other d = cc (between_test d.0 d.1)
 body_ends : {s : List ℕ} → IsBody s → Ends Text (s ++ 34 ∷ []) (Some InString)
 body_ends nothing = later 34 StringDone refl (ended StringDone refl)
 body_ends (plain c s p r) = later c InString (plain_goes c p) (body_ends r)
-body_ends (escape c s p r) = later 92 Escape refl (later c InString (escape_goes c p) (body_ends r))
+body_ends (escape c s p r) = grind (arith, later, escape_goes, body_ends r)
 body_ends (unicode h i j k s p r) =
     let three = first_so (is_hex h && is_hex i && is_hex j) (is_hex k) p in
     let two = first_so (is_hex h && is_hex i) (is_hex j) three in
@@ -461,10 +416,8 @@ pub reading_whole : (k : Kind) (s : List ℕ) → IsScalar k s → Spelled k s
 reading_whole Null s h = record { last = NullDone; run = ap reading h; kind = refl }
 reading_whole Truth s h =
     record { last = TruthDone; run = elim h [ inl e ↦ ap reading e | inr e ↦ ap reading e ]; kind = refl }
-reading_whole Number s h =
-    subst (Spelled Number) (sym h.joined)
-    (number_read h.minus h.int h.frac h.exp h.minus_is h.int_is h.frac_is h.exp_is)
-reading_whole Text s h = subst (Spelled Text) (sym h.joined) (first_read 34 (body_ends h.body_is))
+reading_whole Number s h = grind (arith, number_read, h.joined, h.minus_is)
+reading_whole Text s h = grind (arith, first_read, body_ends, h.joined, h.body_is)
 reading_whole _ s h = absurd h
 
 -- ---- every reading can still come to an end

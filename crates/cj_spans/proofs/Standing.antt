@@ -1,5 +1,5 @@
 -- Where the pass over a line stands in the machine.
-use Rattle.cj_spans.proofs.Common.{◌≡◌, ℕ, suc, ◌+◌, ◌*◌, ◌/◌, ◌^◌, ◌<◌, ◌≤◌, List, [], ◌∷◌, ◌++◌, length, length-append, max, Bool, true, false, IsTrue, rules, Option, Some, None, Err, refl, sym, ap, subst, arith, ◌∙◌, inl, inr, IsSomeAnd, BoundedList, IsWithin, Becomes, LineFault, NotUtf8, Syntax, TooDeep, Token, Mode, Ready, FirstItem, After, FirstName, NextName, AfterName, Move, Next, byte, KeepsLaw, State, state, step, read, Reaches, here, on, start, ComesTo, Sticks, phase_after, deepest_after, Answers, EndAnswers, Kept, Grown, BeginsValue, BeginsName, BeginsAtom, SticksAt, RunAnswers, Standing}
+use Rattle.cj_spans.proofs.Common.{◌≡◌, ℕ, suc, ◌+◌, ◌*◌, ◌/◌, ◌^◌, ◌<◌, ◌≤◌, List, [], ◌∷◌, ◌++◌, length, max, Bool, false, IsTrue, Option, Some, None, Err, refl, sym, ap, subst, arith, ◌∙◌, inl, inr, IsSomeAnd, BoundedList, IsWithin, Becomes, LineFault, NotUtf8, Syntax, TooDeep, Token, Mode, Ready, FirstItem, After, FirstName, NextName, AfterName, Move, Next, byte, KeepsLaw, State, state, step, read, Reaches, here, on, start, ComesTo, Sticks, phase_after, deepest_after, Answers, EndAnswers, Kept, Grown, BeginsValue, BeginsName, BeginsAtom, SticksAt, RunAnswers, Standing, common_steps}
 use Rattle.cj_spans.specs.declared.step.Move.TheVariants.{Stay, To, Open, Atom}
 use Rattle.cj_spans.proofs.Spellings.{some_same}
 use Rattle.cj_spans.proofs.Runs.{idle, Settled, settled, same_mode}
@@ -15,16 +15,7 @@ empty_settles b e f =
 
 pub standing_first : (b : List ℕ) (tokens : BoundedList Token) (stack : BoundedList ℕ) → IsWithin tokens
     → IsWithin stack → tokens.elements ≡ [] → stack.elements ≡ [] → Standing b tokens stack tokens stack Ready 0
-standing_first b tokens stack w v e f = record {
-  deepest = 0;
-  settles = empty_settles b e f;
-  place = omega arith;
-  kept = record { limit = refl; peak = omega arith; room = λ r. r; within = w };
-  stack_limit = refl;
-  stack_peak = omega arith;
-  stack_room = λ r. r;
-  stack_within = v;
-}
+standing_first b tokens stack w v e f = grind (arith, empty_settles)
 
 -- ---- what the calls need
 
@@ -49,23 +40,8 @@ count_name _ ks ts i p l h = absurd h
 half_room : (t i n o d limit : ℕ) → 2 * t ≤ i + o → i < n → o ≤ d → (n + d + 1) / 2 ≤ limit → t < limit
 half_room t i n o d limit h l g r = omega arith
 
--- the room that is left in lists that were kept
-room_left : (b : List ℕ) {tokens0 tokens : BoundedList Token} (stack0 stack : BoundedList ℕ) (i : ℕ)
-    → Kept tokens0 tokens → stack.limit ≡ stack0.limit → IsWithin stack
-    → (length b + stack0.limit + 1) / 2 ≤ tokens0.limit → i < length b
-    → 2 * length tokens.elements ≤ i + length stack.elements → length tokens.elements < tokens.limit
-room_left b {tokens0} {tokens} stack0 stack i k e w r l c =
-    rw k.limit (half_room (length tokens.elements) i (length b) (length stack.elements) stack0.limit tokens0.limit c l
-    (omega arith) r)
-
 pub kept_both : {x y z : BoundedList Token} → Kept x y → Grown y z → Kept x z
-kept_both k g =
-    record {
-      limit = g.kept.limit ∙ k.limit;
-      peak = omega arith;
-      room = λ r. g.kept.room (k.room r);
-      within = g.kept.within;
-    }
+kept_both k g = grind (arith, g.kept.limit, k.limit, g.kept.room, k.room, g.kept.within)
 
 -- the machine after a byte, with the lists that the code then has
 pub record Stepped (b : List ℕ) (tokens0 : BoundedList Token) (stack0 : BoundedList ℕ) (tokens : BoundedList Token)
@@ -92,28 +68,21 @@ count_after m i p (Atom n x) ks ts l = omega arith
 
 -- a run goes on
 pub settles_both : {b : List ℕ} {s t u : State} → Reaches b s t → ComesTo b t u → ComesTo b s u
-settles_both r h = record { last = h.last; reached = reaches_both r h.reached; settles = h.settles; same = h.same }
+settles_both r h = grind (arith, reaches_both, h.reached, h.settles, h.same)
 
 abbrev sticks_both : {b : List ℕ} {s t : State} {i : ℕ} → Reaches b s t → Sticks b t i → Sticks b s i
 sticks_both r h =
     record { last = h.last; reached = reaches_both r h.reached; at = h.at; within = h.within; stuck = h.stuck }
 
 pub kept_same : (x : BoundedList ℕ) → IsWithin x → Kept x x
-kept_same x w = record { limit = refl; peak = omega arith; room = λ r. r; within = w }
+kept_same x w = grind arith
 
 pub grown_same : (x : BoundedList Token) → IsWithin x → Grown x x
-grown_same x w =
-    record { kept = record { limit = refl; peak = omega arith; room = λ r. r; within = w }; longer = omega arith }
+grown_same x w = grind arith
 
 -- one token more
 pub grown_more : (x z : BoundedList Token) (t : Token) → IsWithin x → Becomes x (x.elements ++ t ∷ []) z → Grown x z
-grown_more x z t w e =
-    let n : length z.elements ≡ length x.elements + 1 = ap length e.elements ∙ length-append x.elements (t ∷ []) in
-    let f = length-append x.elements (t ∷ []) in
-    record {
-      kept = record { limit = e.limit; peak = omega arith; room = e.room; within = e.within };
-      longer = omega arith;
-    }
+grown_more x z t w e = grind (arith, common_steps, e.limit, e.room, e.within)
 
 shallow_at : (deepest : ℕ) {peak limit : ℕ} (peak0 : ℕ) {limit0 : ℕ} → peak ≡ max peak0 deepest → peak ≤ limit
     → limit ≡ limit0
@@ -125,46 +94,30 @@ shallow_at deepest peak0 e h q = omega arith
 module _ {b : List ℕ} {tokens0 : BoundedList Token} {stack0 : BoundedList ℕ} {tokens : BoundedList Token}
     {stack : BoundedList ℕ} {m : Mode} {i : ℕ} (s : Standing b tokens0 stack0 tokens stack m i) where
   standing_lawful : IsLawful (idle m stack.elements tokens.elements i s.deepest)
-  standing_lawful = lawful_settles _ (lawful_reaches s.settles.reached) s.settles.settles
+  standing_lawful = search (arith, lawful_settles, lawful_reaches)
 
   standing_last : Settled s.settles.last (idle m stack.elements tokens.elements i s.deepest)
   standing_last = settled s.settles.last _ s.settles.settles
 
   standing_shallow : s.deepest ≤ stack0.limit
-  standing_shallow = shallow_at s.deepest stack0.peak s.stack_peak s.stack_within.below_limit s.stack_limit
+  standing_shallow = grind (arith, shallow_at)
 
   pub standing_small : length b ≤ 1073741824 → i < length b → (i < 2 ^ 31) × (length tokens.elements < 2 ^ 31)
-  standing_small h l =
-      let w = standing_lawful in
-      let c = count_of m stack.elements tokens.elements i s.deepest w in
-      (omega arith, omega arith)
+  standing_small h l = grind (arith, standing_lawful, count_of)
 
   pub standing_room : (length b + stack0.limit + 1) / 2 ≤ tokens0.limit → i < length b → BeginsValue m
       → length tokens.elements < tokens.limit
-  standing_room r l h =
-      room_left b stack0 stack i s.kept s.stack_limit s.stack_within r l
-      (count_before m stack.elements tokens.elements i s.deepest standing_lawful h)
+  standing_room r l h = grind (arith, half_room, count_before, standing_lawful)
 
   pub standing_name_room : (length b + stack0.limit + 1) / 2 ≤ tokens0.limit → i < length b → BeginsName m
       → length tokens.elements < tokens.limit
-  standing_name_room r l h =
-      room_left b stack0 stack i s.kept s.stack_limit s.stack_within r l
-      (count_name m stack.elements tokens.elements i s.deepest standing_lawful h)
+  standing_name_room r l h = grind (arith, half_room, count_name, standing_lawful)
 
   -- what goes on over the tokens alone
   pub standing_with : {tokens1 : BoundedList Token} (n : Mode) (j : ℕ) → Grown tokens tokens1 → j ≤ length b
       → ((p : ℕ) → ComesTo b start (idle m stack.elements tokens.elements i p)
       → ComesTo b start (idle n stack.elements tokens1.elements j p)) → Standing b tokens0 stack0 tokens1 stack n j
-  standing_with n j g l h = record {
-    deepest = s.deepest;
-    settles = h s.deepest s.settles;
-    place = l;
-    kept = kept_both s.kept g;
-    stack_limit = s.stack_limit;
-    stack_peak = s.stack_peak;
-    stack_room = s.stack_room;
-    stack_within = s.stack_within;
-  }
+  standing_with n j g l h = grind (arith, kept_both)
 
   -- over one byte
   pub standing_step : {tokens1 : BoundedList Token} {stack1 : BoundedList ℕ} (v : Move) → i < length b
@@ -192,24 +145,10 @@ module _ {b : List ℕ} {tokens0 : BoundedList Token} {stack0 : BoundedList ℕ}
   pub standing_law : {tokens1 : BoundedList Token} {stack1 : BoundedList ℕ} → Grown tokens tokens1 → Kept stack stack1
       → tokens1 ≡ tokens → stack1 ≡ stack → KeepsLaw b tokens0 tokens1 stack0 stack1
   standing_law {tokens1} {stack1} g k e x =
-      let l : length stack1.elements ≡ length stack.elements = cc x in
-      let c = count_of m stack.elements tokens.elements i s.deepest standing_lawful in
-      let z = kept_both s.kept g in
-      let f : length tokens1.elements ≡ length tokens.elements = cc e in
-      record {
-        law = omega arith;
-        token_limit = z.limit;
-        token_peak = z.peak;
-        token_room = z.room;
-        tokens_within = z.within;
-        stack_limit = k.limit ∙ s.stack_limit;
-        stack_peak = omega arith;
-        stack_room = λ r. k.room (s.stack_room r);
-        stack_within = k.within;
-      }
+      grind (arith, count_of, standing_lawful, kept_both, k.limit, k.room, k.within)
 
   pub ended_law : KeepsLaw b tokens0 tokens stack0 stack
-  ended_law = standing_law (grown_same tokens s.kept.within) (kept_same stack s.stack_within) refl refl
+  ended_law = grind (arith, standing_law, grown_same, kept_same)
 
   pub standing_fault : (X : Type 0) (tokens1 : BoundedList Token) {stack1 : BoundedList ℕ} (f : LineFault)
       → i < length b
@@ -284,17 +223,11 @@ module _ {b : List ℕ} {tokens0 : BoundedList Token} {stack0 : BoundedList ℕ}
     {stack : BoundedList ℕ} {m : Mode} {i : ℕ} {v : Move} (s : Stepped b tokens0 stack0 tokens stack m i v) where
   pub stepped_room : (length b + stack0.limit + 1) / 2 ≤ tokens0.limit → i < length b → BeginsAtom v
       → length tokens.elements < tokens.limit
-  stepped_room r l h =
-      room_left b stack0 stack i s.kept s.stack_limit s.stack_within r l
-      (atom_count m i s.deepest v stack.elements tokens.elements (lawful_reaches s.reached) h)
-
-  stepped_count : 2 * length tokens.elements ≤ suc (suc i) + length stack.elements
-  stepped_count = count_after m i s.deepest v stack.elements tokens.elements (lawful_reaches s.reached)
+  stepped_room r l h = grind (arith, half_room, atom_count, lawful_reaches)
 
   pub stepped_small : length b ≤ 1073741824 → i < length b
       → (length stack.elements < 2 ^ 31) × (length tokens.elements < 2 ^ 31)
-  stepped_small h l = let w = (lawful_reaches s.reached).open_count in
-      (omega (arith, w), omega (arith, stepped_count, w))
+  stepped_small h l = grind (arith, lawful_reaches, count_after)
 
   pub stepped_on : {tokens1 : BoundedList Token} (n : Next) → Grown tokens tokens1
       → ((p : ℕ) → ComesTo b (state (phase_after m i v) stack.elements tokens.elements (suc i) p)
@@ -313,21 +246,7 @@ module _ {b : List ℕ} {tokens0 : BoundedList Token} {stack0 : BoundedList ℕ}
 
   pub stepped_law : {tokens1 : BoundedList Token} → i < length b → Grown tokens tokens1 → tokens1 ≡ tokens
       → KeepsLaw b tokens0 tokens1 stack0 stack
-  stepped_law {tokens1} l g e =
-      let c = stepped_count in
-      let z = kept_both s.kept g in
-      let f : length tokens1.elements ≡ length tokens.elements = cc e in
-      record {
-        law = omega arith;
-        token_limit = z.limit;
-        token_peak = z.peak;
-        token_room = z.room;
-        tokens_within = z.within;
-        stack_limit = s.stack_limit;
-        stack_peak = omega arith;
-        stack_room = s.stack_room;
-        stack_within = s.stack_within;
-      }
+  stepped_law {tokens1} l g e = grind (arith, count_after, lawful_reaches, kept_both)
 
   pub stepped_fault : (X : Type 0) (tokens1 : BoundedList Token) (f : LineFault)
       → ((p : ℕ) → EndAnswers b (state (phase_after m i v) stack.elements tokens.elements (suc i) p)
@@ -343,8 +262,4 @@ module _ {b : List ℕ} {tokens0 : BoundedList Token} {stack0 : BoundedList ℕ}
 
 -- a test that failed
 pub not_so : {r : Bool} (P : Type 0) → (IsTrue r → P) × (P → IsTrue r) → r ≡ false → P → ⊥
-not_so {r} P h e x = is_false r e (h.1 x)
-  where
-    is_false : (r : Bool) → r ≡ false → IsTrue r → ⊥
-    is_false true e t = cc
-    is_false false e t = search rules
+not_so {r} P h e x = grind (arith, h.1)

@@ -1,5 +1,5 @@
 -- The characters between the quotes of a string stand for code points.
-use Rattle.cj_spans.proofs.Common.{◌≡◌, ℕ, zero, suc, ◌-◌, ◌<◌, ◌≤◌, List, [], ◌∷◌, ◌++◌, length, get_or, Bool, true, false, ◌&&◌, inl, inr, nat_eq, refl, sym, ap, subst, arith, ◌∙◌, length-append, take-length, first_so, second_so, append-nil, take-append-le, nat_tests, encode_utf8, is_plain, is_escape, is_hex, IsBody, nothing, plain as plain_byte, escape, unicode, IsString, char_of, four_digits, unit, is_unicode, is_pair, body_of}
+use Rattle.cj_spans.proofs.Common.{◌≡◌, ℕ, zero, suc, ◌<◌, ◌≤◌, List, [], ◌∷◌, ◌++◌, length, get_or, Bool, true, false, ◌&&◌, inl, inr, nat_eq, refl, sym, ap, subst, arith, ◌∙◌, length-append, take-length, first_so, second_so, append-nil, take-append-le, nat_tests, encode_utf8, is_plain, is_escape, is_hex, IsBody, nothing, plain as plain_byte, escape, unicode, IsString, char_of, four_digits, unit, is_unicode, is_pair, body_of, common_steps}
 use Rattle.std.proofs.lemmas.Bool.{cases_lt, eqb-true}
 use Rattle.std.proofs.lemmas.Str.{encode_ascii, inside_one, cons_from_encodes, chars-encodes, IsUtf8-past_char, IsUtf8-take, IsCharBoundary-before_ascii}
 use Rattle.std.specs.Str.{chars, IsUtf8, encode_utf8_all}
@@ -15,8 +15,7 @@ data BodyBegins (b : ℕ) (r : List ℕ) : Type 0 where
 
 body_begins : {s : List ℕ} → IsBody s → (b : ℕ) (r : List ℕ) → s ≡ b ∷ r → BodyBegins b r
 body_begins nothing b r e = cc
-body_begins (plain_byte c s p y) b r e = let x : c ≡ b = cc in let z : s ≡ r = cc in
-    by_plain (rw x at p) (subst IsBody z y)
+body_begins (plain_byte c s p y) b r e = grind arith
 body_begins (escape c s p y) b r e = let x : 92 ≡ b = cc in let z : c ∷ s ≡ r = cc in by_escape (sym x) c s (sym z) p y
 body_begins (unicode h i j k s p y) b r e = let x : 92 ≡ b = cc in let z : 117 ∷ h ∷ i ∷ j ∷ k ∷ s ≡ r = cc in
     by_unicode (sym x) h i j k s (sym z) p y
@@ -52,8 +51,7 @@ next cs c rest l e = let r = cons_from_encodes cs rest c (e ∙ ap (λ xs. xs ++
     record { after = r.0; is = r.1; left = r.2 }
 
 all_so : (a b c d : Bool) → a && b && c && d ≡ true → (b ≡ true) × (c ≡ true) × (d ≡ true)
-all_so a b c d h = let e : b ≡ true = grind (arith) in let f : c ≡ true = grind (arith) in
-    let g : d ≡ true = grind (arith) in (e, f, g)
+all_so a b c d h = grind arith
 
 four_so : (a b c d : Bool) → a && b && c && d ≡ true → a ≡ true
 four_so a b c d h = grind (arith)
@@ -108,13 +106,8 @@ record NextUnit (es : List ℕ) : Type 0 where
   body : IsBody (encode_utf8_all after)
 
 unit_second : (ds : List ℕ) → char_of (92 ∷ ds) 1 ≡ 117 → BodyBegins 92 (encode_utf8_all ds) → NextUnit (92 ∷ ds)
-unit_second ds u (by_plain p y) = let n : ⊥ = grind (arith, nat_tests) in absurd n
-unit_second ds u (by_escape q e s f p y) =
-    let a = next ds e s (escape_small e p) f in
-    let x : char_of (92 ∷ ds) 1 ≡ e = ap (λ xs. char_of (92 ∷ xs) 1) a.is in
-    let z : e ≡ 117 = sym x ∙ u in
-    let w = escape_other e p in
-    let n : ⊥ = grind (arith, nat_tests) in absurd n
+unit_second ds u (by_plain p y) = grind arith
+unit_second ds u (by_escape q e s f p y) = grind (arith, common_steps, escape_small, escape_other)
 unit_second ds u (by_unicode q h i j k s f p y) =
     let a = unit4 ds h i j k s f p in
     record {
@@ -189,10 +182,7 @@ quote_at [] = omega arith
 quote_at (x ∷ body) = quote_at body
 
 body-joined : (body : List ℕ) → body_of (34 ∷ (body ++ 34 ∷ [])) ≡ body
-body-joined body =
-    let e = length-append body (34 ∷ []) in
-    let f : length (34 ∷ (body ++ 34 ∷ [])) - 1 - 1 ≡ length body = omega arith in
-    cc (take-append-le (length body) body (34 ∷ []) (omega arith), take-length body)
+body-joined body = grind (arith, common_steps)
 
 utf8_body : (body : List ℕ) → IsUtf8 (34 ∷ (body ++ 34 ∷ [])) → IsUtf8 body
 utf8_body body u =

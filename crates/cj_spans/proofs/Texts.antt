@@ -1,5 +1,5 @@
 -- Characters and code points, read one at a time.
-use Rattle.cj_spans.proofs.Common.{◌≡◌, ℕ, zero, suc, ◌+◌, ◌-◌, ◌*◌, ◌<◌, ◌≤◌, List, [], ◌∷◌, ◌++◌, length, take, drop, get_or, Bool, true, false, cond, ◌&&◌, nat_eq, nat_lt, Option, Some, inl, inr, refl, sym, ap, subst, arith, ◌∙◌, add-one, drop-cons, length-append, both_true, cases_lt, drop-drop, drop-take, get_or-take, length-take, nat_tests, common_steps, left, after_read, ReadsCodePoint, code_points_from, AreAlike, StartAlike, compare, nat_cmp, ordering_then, Less, Equal, Greater, char_of, four_digits, unit, is_unicode, is_escaped, is_pair, escaped, first_code_point, first_width, code_points_after, text, are_same, chars, chars_after, continuation_len, lead_bits}
+use Rattle.cj_spans.proofs.Common.{◌≡◌, ℕ, zero, suc, ◌+◌, ◌-◌, ◌*◌, ◌<◌, ◌≤◌, List, [], ◌∷◌, ◌++◌, length, take, drop, get_or, Bool, true, false, cond, nat_eq, Option, Some, inl, inr, refl, sym, ap, subst, arith, ◌∙◌, add-one, drop-cons, length-append, both_true, cases_lt, drop-drop, drop-take, get_or-take, length-take, nat_tests, common_steps, left, after_read, ReadsCodePoint, code_points_from, AreAlike, StartAlike, compare, nat_cmp, Equal, char_of, four_digits, unit, is_unicode, is_escaped, is_pair, escaped, first_code_point, first_width, code_points_after, text, are_same, chars, chars_after, continuation_len, lead_bits}
 use Rattle.std.proofs.lemmas.Bool.{and_left, and_right}
 use Rattle.cj_spans.specs.declared.text.decode.CodePoint.{CodePoint}
 use Rattle.cj_spans.specs.Meaning.StandFor.{StandFor, done, plain, letter, single, pair}
@@ -19,7 +19,7 @@ chars_end c (b ∷ bs) = refl
 
 pub chars_past : (bs : List ℕ) (i : ℕ) → length bs ≤ i → chars (drop i bs) ≡ []
 unfolding chars
-chars_past bs i h = let e : drop i bs ≡ [] = grind (arith, common_steps) in ap chars e
+chars_past bs i h = grind (arith, common_steps)
 
 at_drop : (bs : List ℕ) (i : ℕ) → i < length bs → drop i bs ≡ get_or bs i 0 ∷ drop (i + 1) bs
 at_drop bs i h = rw (add-one, drop-cons bs i 0)
@@ -52,12 +52,12 @@ lead_four bs i c o h l e f = lead bs i 3 c h (grind (arith, nat_tests)) (grind (
 
 char_cons : (bs cs : List ℕ) (p : CodePoint) → p.code ∷ left bs p.stop ≡ cs → ReadsCodePoint bs cs (char_of cs 0) 1 p
 char_cons bs [] p h = cc
-char_cons bs (c ∷ cs) p h = let x : p.code ≡ c = cc in let y : left bs p.stop ≡ cs = cc in record { code = x; rest = y }
+char_cons bs (c ∷ cs) p h = grind (arith, p.code)
 
 pub char_some : (bs : List ℕ) {cs : List ℕ} (i : ℕ) (p : CodePoint) → left bs i ≡ after_read bs 0 (Some p)
     → left bs i ≡ cs
     → ReadsCodePoint bs cs (char_of cs 0) 1 p
-char_some bs {cs} i p h e = char_cons bs cs p (sym (chars_end p.code (drop p.stop bs)) ∙ sym h ∙ e)
+char_some bs {cs} i p h e = grind (arith, char_cons, chars_end, p.code)
 
 char_nil : (bs cs : List ℕ) (p : CodePoint) → [] ≡ cs → p.code ≡ 0 → left bs p.stop ≡ []
     → ReadsCodePoint bs cs (char_of cs 0) 1 p
@@ -66,8 +66,7 @@ char_nil bs (c ∷ cs) p h z e = cc
 
 pub char_none : (bs : List ℕ) {cs : List ℕ} (i : ℕ) (p : CodePoint) → left bs i ≡ [] → left bs i ≡ cs → p.code ≡ 0
     → p.stop ≡ length bs → ReadsCodePoint bs cs (char_of cs 0) 1 p
-char_none bs {cs} i p h e z s = char_nil bs cs p (sym h ∙ e) z (ap (left bs) s
-    ∙ chars_past bs (length bs) (omega arith))
+char_none bs {cs} i p h e z s = grind (arith, char_nil, chars_past)
 
 at_later : (k : ℕ) (cs : List ℕ) → char_of (drop k cs) 0 ≡ char_of cs k
 at_later zero cs = refl
@@ -77,14 +76,11 @@ at_later (suc k) (c ∷ cs) = at_later k cs
 -- what comes after two steps
 pub takes_on : {bs cs : List ℕ} (x n m : ℕ) (p : CodePoint) → ReadsCodePoint bs cs x n p → {y : ℕ} {q : CodePoint}
     → ReadsCodePoint bs (drop n cs) y m q → ReadsCodePoint bs cs y (n + m) q
-takes_on {cs} x n m p t u = record { code = u.code; rest = u.rest ∙ drop-drop m n cs }
-
-digits_same : (a b c d : ℕ) → (a * 16 + b) * 256 + (c * 16 + d) ≡ ((a * 16 + b) * 16 + c) * 16 + d
-digits_same a b c d = omega arith
+takes_on {cs} x n m p t u = grind (arith, common_steps, u.code, u.rest)
 
 digits_by : {a b c d e f g h : ℕ} → a ≡ e → b ≡ f → c ≡ g → d ≡ h
     → (a * 16 + b) * 256 + (c * 16 + d) ≡ ((e * 16 + f) * 16 + g) * 16 + h
-digits_by {a} {b} {c} {d} i j k l = digits_same a b c d ∙ (λ n. ((i n * 16 + j n) * 16 + k n) * 16 + l n)
+digits_by {a} {b} {c} {d} i j k l = grind arith
 
 -- four digits after one another
 pub digits_read : {bs cs : List ℕ} {p q r s : CodePoint} {a b c d : ℕ} → ReadsCodePoint bs cs (char_of cs 0) 1 p
@@ -115,13 +111,13 @@ pair_shown cs a b c d = both_true (both_true (both_true a b) c) d
 
 -- one of its four tests fails
 not_high : (cs : List ℕ) → is_high_surrogate (unit cs) ≡ false → is_pair cs ≡ false
-not_high cs h = and_left _ _ (and_left _ _ (and_right (is_unicode cs) _ h))
+not_high cs h = grind (arith, and_left, and_right)
 
 not_followed : (cs : List ℕ) → is_unicode (drop 6 cs) ≡ false → is_pair cs ≡ false
-not_followed cs h = and_left _ _ (and_right (is_unicode cs && is_high_surrogate (unit cs)) _ h)
+not_followed cs h = grind (arith, and_left, and_right)
 
 not_low : (cs : List ℕ) → is_low_surrogate (unit (drop 6 cs)) ≡ false → is_pair cs ≡ false
-not_low cs h = and_right (is_unicode cs && is_high_surrogate (unit cs) && is_unicode (drop 6 cs)) _ h
+not_low cs h = grind (arith, and_right)
 
 not_unicode : (cs : List ℕ) → is_unicode cs ≡ false → is_pair cs ≡ false
 not_unicode cs h = and_left _ _ (and_left _ _ (and_left _ _ h))
@@ -135,11 +131,7 @@ by_tests : (cs : List ℕ) {p u e : Bool} → is_pair cs ≡ p → is_unicode cs
     (cond u (unit cs) (cond e (escaped (char_of cs 1)) (char_of cs 0))))
     × (first_width cs ≡ cond p 12 (cond u 6 (cond e 2 1)))
 unfolding first_code_point first_width
-by_tests cs h g a = (
-  λ k. cond (h k) (surrogate_pair_char (unit cs) (unit (drop 6 cs)))
-      (cond (g k) (unit cs) (cond (a k) (escaped (char_of cs 1)) (char_of cs 0))),
-  λ k. cond (h k) 12 (cond (g k) 6 (cond (a k) 2 1)),
-)
+by_tests cs h g a = grind arith
 
 first_pair : (cs : List ℕ) → is_pair cs ≡ true
     → (first_code_point cs ≡ surrogate_pair_char (unit cs) (unit (drop 6 cs))) × (first_width cs ≡ 12)
@@ -158,7 +150,7 @@ first_plain cs a = let g = not_escaped cs a in by_tests cs (not_unicode cs g) g 
 
 taken : {bs cs : List ℕ} {p : CodePoint} {x n : ℕ} → (first_code_point cs ≡ x) × (first_width cs ≡ n)
     → ReadsCodePoint bs cs x n p → ReadsCodePoint bs cs (first_code_point cs) (first_width cs) p
-taken {cs} e t = record { code = t.code ∙ sym e.0; rest = t.rest ∙ ap (λ m. drop m cs) (sym e.1) }
+taken {cs} e t = grind (arith, t.code, e.0, t.rest, e.1)
 
 -- the text goes on after its first point
 points_drop : (n : ℕ) (cs : List ℕ) → code_points_after n cs ≡ code_points_after 0 (drop n cs)
@@ -178,14 +170,13 @@ width_some cs = by_bools (is_pair cs) (is_unicode cs) (is_escaped cs) refl refl 
 drop_width : (c : ℕ) (cs : List ℕ) (w : ℕ) → 0 < w
     → code_points_after (w - 1) cs ≡ code_points_after 0 (drop w (c ∷ cs))
 drop_width c cs zero h = absurd (omega arith)
-drop_width c cs (suc n) h =
-    let k : suc n - 1 ≡ n = omega arith in cc (points_drop n cs)
+drop_width c cs (suc n) h = grind (arith, points_drop)
 
 pub points_cons : (c : ℕ) (cs : List ℕ)
     → code_points_after 0 (c ∷ cs) ≡ first_code_point (c ∷ cs) ∷ code_points_after 0
     (drop (first_width (c ∷ cs)) (c ∷ cs))
 unfolding code_points_after
-points_cons c cs = cc (drop_width c cs (first_width (c ∷ cs)) (width_some (c ∷ cs)))
+points_cons c cs = grind (arith, drop_width, width_some)
 
 pub points_nil : code_points_after 0 [] ≡ []
 unfolding code_points_after
@@ -263,7 +254,7 @@ characters_step bs i f h = h ∙ chars_end f.code (drop f.stop bs)
 
 pub plain_character : (bs : List ℕ) (i : ℕ) → i < length bs → get_or bs i 0 < 128
     → left bs i ≡ get_or bs i 0 ∷ left bs (i + 1)
-plain_character bs i h l = lead_one bs i h l ∙ chars_end (get_or bs i 0) (drop (i + 1) bs)
+plain_character bs i h l = grind (arith, lead_one, chars_end)
 
 points_go_on : (c : ℕ) (cs ds : List ℕ) {ps : List ℕ} {x n : ℕ}
     → (first_code_point (c ∷ cs) ≡ x) × (first_width (c ∷ cs) ≡ n)
@@ -275,46 +266,26 @@ plain_cons c cs n = points_go_on c cs cs {ps = code_points_after 0 cs} (first_pl
 
 pub plain_code : (bs : List ℕ) (i : ℕ) → i < length bs → get_or bs i 0 < 128 → nat_eq (get_or bs i 0) 92 ≡ false
     → code_points_from bs i ≡ get_or bs i 0 ∷ code_points_from bs (i + 1)
-plain_code bs i h l n = cc (plain_character bs i h l, plain_cons (get_or bs i 0) (left bs (i + 1)) n)
+plain_code bs i h l n = grind (arith, plain_character, plain_cons)
 
 pub text_ends : (bs ws : List ℕ) (i j : ℕ) → length bs ≤ i → length ws ≤ j
     → are_same (code_points_from bs i) (left ws j) ≡ true
-text_ends bs ws i j h k = cc (chars_past bs i h, points_nil, chars_past ws j k)
+text_ends bs ws i j h k = grind (arith, chars_past, points_nil)
 
 pub order_ends : (bs ds : List ℕ) (i j : ℕ) → length bs ≤ i → length ds ≤ j
     → compare (code_points_from bs i) (code_points_from ds j) ≡ Equal
-order_ends bs ds i j h k = cc (points_done bs i (chars_past bs i h), points_done ds j (chars_past ds j k))
-
--- the first code points decide, where they differ
-order_differs : (x y : ℕ) (xs ys : List ℕ) → nat_eq x y ≡ false → compare (x ∷ xs) (y ∷ ys) ≡ nat_cmp x y
-order_differs x y xs ys n =
-    elim (cases_lt x y) [
-      | inl h ↦ let e : nat_lt x y ≡ true = grind (arith, nat_tests) in
-          ap (λ b. ordering_then (cond b Less (cond (nat_eq x y) Equal Greater)) (compare xs ys)) e
-          ∙ sym (ap (λ b. cond b Less (cond (nat_eq x y) Equal Greater)) e)
-      | inr h ↦ let e : nat_lt x y ≡ false = grind (arith, nat_tests) in
-          (λ k. ordering_then (cond (e k) Less (cond (n k) Equal Greater)) (compare xs ys))
-          ∙ sym (λ k. cond (e k) Less (cond (n k) Equal Greater))
-    ]
+order_ends bs ds i j h k = grind (arith, points_done, chars_past)
 
 pub order_apart : (bs ds : List ℕ) (i j : ℕ) {b c : ℕ} → (i < length bs) × (b ≡ get_or bs i 0) → (j < length ds)
     × (c ≡ get_or ds j 0) → nat_eq b c ≡ false → (b < 128) × (c < 128) → (nat_eq b 92 ≡ false) × (nat_eq c 92 ≡ false)
     → compare (code_points_from bs i) (code_points_from ds j) ≡ nat_cmp b c
-order_apart bs ds i j {b} {c} f g n a p =
-    let x = plain_code bs i f.0 (omega (arith, f.1)) (ap (λ v. nat_eq v 92) (sym f.1) ∙ p.0)
-    ∙ ap (λ v. v ∷ code_points_from bs (i + 1)) (sym f.1) in
-    let y = plain_code ds j g.0 (omega (arith, g.1)) (ap (λ v. nat_eq v 92) (sym g.1) ∙ p.1)
-    ∙ ap (λ v. v ∷ code_points_from ds (j + 1)) (sym g.1) in
-    cc (order_differs b c (code_points_from bs (i + 1)) (code_points_from ds (j + 1)) n)
+order_apart bs ds i j {b} {c} f g n a p = grind (arith, plain_code, f.0, f.1, p.0, g.0, g.1, p.1)
 
 -- ---- between the quotes
 
 body_place : (s : List ℕ) (n : ℕ) → drop 1 (take n s) ≡ take (n - 1) (drop 1 s)
 body_place s zero = refl
-body_place s (suc n) =
-    let e : 1 + n ≡ suc n = omega arith in
-    let f : suc n - 1 ≡ n = omega arith in
-    cc (drop-take 1 n s)
+body_place s (suc n) = grind (arith, common_steps, drop-take)
 
 pub code_points_between : (s : List ℕ) → code_points_after 0 (left (take (length s - 1) s) 1) ≡ text s
 unfolding text
@@ -343,12 +314,7 @@ others_differ x y xs ys h = cc
 
 front_differs : (s ys : List ℕ) (y : ℕ) → 1 < length s → get_or s 1 0 < 128 → nat_eq (get_or s 1 0) 92 ≡ false
     → nat_eq (get_or s 1 0) y ≡ false → are_same (text s) (y ∷ ys) ≡ false
-front_differs s ys y h l n d =
-    elim (cases_lt 2 (length s)) [
-      | inl o ↦ let p = text_front s o l n in
-          ap (λ xs. are_same xs (y ∷ ys)) p.1 ∙ others_differ (get_or s 1 0) y p.0 ys d
-      | inr g ↦ ap (λ xs. are_same xs (y ∷ ys)) (text_empty s g)
-    ]
+front_differs s ys y h l n d = grind (arith, text_front, others_differ, text_empty)
 
 -- texts that differ in it are others
 pub other_text : (s w : List ℕ) → 1 < length s → 0 < length w → (get_or s 1 0 < 128) × (get_or w 0 0 < 128)
@@ -359,8 +325,7 @@ other_text s w h o a n d = cc (plain_character w 0 o a.1, front_differs s (left 
 pub other_texts : (s o : List ℕ) → 1 < length s → 2 < length o → (get_or s 1 0 < 128) × (get_or o 1 0 < 128)
     → (nat_eq (get_or s 1 0) 92 ≡ false) × (nat_eq (get_or o 1 0) 92 ≡ false)
     → nat_eq (get_or s 1 0) (get_or o 1 0) ≡ false → are_same (text s) (text o) ≡ false
-other_texts s o h k a n d = let p = text_front o k a.1 n.1 in
-    cc (p.1, front_differs s p.0 (get_or o 1 0) h a.0 n.0 d)
+other_texts s o h k a n d = grind (arith, text_front, front_differs, a.1, n.1, a.0, n.0)
 
 -- ---- the relation has one answer, the function's
 
@@ -397,11 +362,11 @@ alike_on bs i ds j n last m a c b k l =
     ]
 
 pub alike_none : (bs : List ℕ) (i : ℕ) (ds : List ℕ) (j : ℕ) → StartAlike bs i ds j 0
-alike_none bs i ds j = record { within = omega arith; within_other = omega arith; alike = λ k l. absurd (omega arith) }
+alike_none bs i ds j = grind arith
 
 pub alike_first : (bs : List ℕ) (i : ℕ) (ds : List ℕ) (j n : ℕ) → i + n ≤ length bs → j + n ≤ length ds
     → AreAlike bs i ds j n → StartAlike bs i ds j n
-alike_first bs i ds j n h k a = record { within = omega arith; within_other = omega arith; alike = a }
+alike_first bs i ds j n h k a = grind arith
 
 -- more of them are alike, by a look that begins no later than where the first look ended
 pub alike_more : {bs : List ℕ} {i : ℕ} {ds : List ℕ} {j n : ℕ} (last m : ℕ) {all : ℕ} → StartAlike bs i ds j n
@@ -417,10 +382,7 @@ alike_more {bs} {i} {ds} {j} {n} last m s c e h k a = subst (StartAlike bs i ds 
 pub alike_one_more : {bs : List ℕ} {i : ℕ} {ds : List ℕ} {j n : ℕ} → StartAlike bs i ds j n → n < length bs - i
     → n < length ds - j → get_or bs (i + n) 0 ≡ get_or ds (j + n) 0 → get_or bs (i + n) 0 < 128
     → nat_eq (get_or bs (i + n) 0) 92 ≡ false → StartAlike bs i ds j (n + 1)
-alike_one_more {bs} {i} {ds} {j} {n} s h k same low other =
-    alike_more n 1 s (omega arith) refl (omega arith) (omega arith) (λ l m.
-    let z : l ≡ 0 = omega arith in
-    shared_at bs (i + n) (i + n + l) ds (j + n) (j + n + l) (omega arith) (omega arith) (same, low, other))
+alike_one_more {bs} {i} {ds} {j} {n} s h k same low other = grind (arith, alike_more, shared_at)
 
 -- those behind the first one are alike too
 alike_behind : (bs : List ℕ) (i : ℕ) (ds : List ℕ) (j n : ℕ) → AreAlike bs i ds j (suc n)
@@ -431,13 +393,13 @@ alike_behind bs i ds j n a l m =
 
 alike_here : (bs : List ℕ) (i : ℕ) (ds : List ℕ) (j n : ℕ) → AreAlike bs i ds j (suc n)
     → IsShared (get_or bs i 0) (get_or ds j 0)
-alike_here bs i ds j n a = shared_at bs (i + 0) i ds (j + 0) j (omega arith) (omega arith) (a 0 (omega arith))
+alike_here bs i ds j n a = grind (arith, shared_at)
 
 -- the code points that they share
 pub shared_front : (n : ℕ) (bs : List ℕ) (i : ℕ) (ds : List ℕ) (j : ℕ) → n ≤ length bs - i → n ≤ length ds - j
     → AreAlike bs i ds j n → (f : List ℕ) × (code_points_from bs i ≡ f ++ code_points_from bs (i + n))
     × (code_points_from ds j ≡ f ++ code_points_from ds (j + n))
-shared_front zero bs i ds j h k a = ([], ap (code_points_from bs) (omega arith), ap (code_points_from ds) (omega arith))
+shared_front zero bs i ds j h k a = grind arith
 shared_front (suc n) bs i ds j h k a =
     let s = alike_here bs i ds j n a in
     let p = plain_code bs i (omega arith) s.1 s.2 in
@@ -453,7 +415,7 @@ shared_front (suc n) bs i ds j h k a =
 -- plain bytes up to the ends of a string and of a text: they are the same
 pub same_alike : (n : ℕ) (ws : List ℕ) (i : ℕ) (bs : List ℕ) (j : ℕ) → n ≡ length ws - i → n ≡ length bs - j
     → AreAlike ws i bs j n → are_same (code_points_from bs j) (left ws i) ≡ true
-same_alike zero ws i bs j h k a = text_ends bs ws j i (omega arith) (omega arith)
+same_alike zero ws i bs j h k a = grind (arith, text_ends)
 same_alike (suc n) ws i bs j h k a =
     let s = alike_here ws i bs j n a in
     let same = s.0 in
@@ -465,9 +427,7 @@ same_alike (suc n) ws i bs j h k a =
 
 -- tell nothing
 number_equal : (x : ℕ) → nat_cmp x x ≡ Equal
-number_equal x = let l : nat_lt x x ≡ false = grind (arith, nat_tests) in
-    ap (λ b. cond b Less (cond (nat_eq x x) Equal Greater)) l
-    ∙ (let e : nat_eq x x ≡ true = grind (arith, nat_tests) in ap (λ b. cond b Equal Greater) e)
+number_equal x = grind arith
 
 order_behind : (fs cs ds : List ℕ) → compare cs ds ≡ compare (fs ++ cs) (fs ++ ds)
 order_behind [] cs ds = refl

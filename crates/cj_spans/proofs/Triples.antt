@@ -96,8 +96,8 @@ sign_kind b (inl h) = let low = h.0 in let high = h.1 in grind (arith, nat_tests
 sign_kind b (inr h) = grind (arith, nat_tests)
 
 sign_in : (b : ℕ) → IsSign b → IsInWhole b
-sign_in b (inl h) = (λ e. absurd (grind (arith, nat_tests)), (λ e. absurd (omega arith), λ e. absurd (omega arith)))
-sign_in b (inr h) = (λ e. absurd (omega arith), (λ e. absurd (omega arith), λ e. absurd (omega arith)))
+sign_in b (inl h) = grind arith
+sign_in b (inr h) = grind arith
 
 number_size : (b : List ℕ) (i j : ℕ) (ts : List Tree) → kind_by (byte b i) ≡ Number
     → size (node b (kind_by (byte b i)) i j ts) ≡ 1
@@ -113,11 +113,7 @@ all_three P x y z px py pz (suc (suc (suc k))) d l = absurd (omega arith)
 
 -- there is room between the brackets of an array
 pub room_within : (b : List ℕ) (i j : ℕ) → i < j → byte b i ≡ 91 → byte b (j - 1) ≡ 93 → i + 1 ≤ j - 1
-room_within b i j l first last =
-    elim (cases_lt i (j - 1)) [
-      | inl o ↦ omega arith
-      | inr g ↦ let e : i ≡ j - 1 = omega arith in let f = ap (byte b) e in absurd (omega arith)
-    ]
+room_within b i j l first last = grind arith
 
 -- a part of the array
 pub record Part (b : List ℕ) (ts : List Token) (t : Token) (m : ℕ) (u : Token) : Type 0 where
@@ -203,10 +199,7 @@ module _ (source : Source) where
         ]
 
     links : (m : ℕ) (u : Token) → Part b ts t m u → LinksTo ts m (m + 1)
-    links m u p = λ v g.
-        let e = source.linked m v g in
-        let q : link_of v ≡ m + 1 = ap link_of (some_same v u (sym g ∙ p.here)) ∙ p.lone in
-        omega arith
+    links m u p = grind (arith, some_same, p.here, p.lone)
 
     -- the three parts, and that they are all
     pub record Three : Type 0 where
@@ -264,8 +257,7 @@ module _ (source : Source) where
     -- what is asked of a part
     whole_part : (m : ℕ) (u : Token) → Part b ts t m u → u.stop ≤ u.start + 18
         → IsShortWhole b (tree_of m)
-    whole_part m u p l = let e = p.long in let s = p.some in
-        record { kind = p.kind; whole = p.whole; short = omega arith }
+    whole_part m u p l = grind (arith, p.long, p.some, p.kind, p.whole)
 
     pub wholes : ((m : ℕ) (u : Token) → k < m → m < k + 4 → slice_get ts m ≡ Some u → u.stop ≤ u.start + 18)
         → All (IsShortWhole b) (items_of (tree_of k))
@@ -280,20 +272,7 @@ module _ (source : Source) where
 
     -- in so few bytes each is short
     pub few_wholes : t.stop ≤ t.start + 21 → All (IsShortWhole b) (items_of (tree_of k))
-    few_wholes l =
-        let w = three in
-        let a = w.x_part.after in
-        let e = w.z_part.before_end in
-        let sx = w.x_part.some in
-        let sy = w.y_part.some in
-        let sz = w.z_part.some in
-        let xy = w.x_y in
-        let yz = w.y_z in
-        subst (All (IsShortWhole b)) (sym w.all)
-        (all_three (IsShortWhole b) (tree_of (k + 1)) (tree_of (k + 2))
-        (tree_of (k + 3))
-        (whole_part (k + 1) w.x w.x_part (omega arith)) (whole_part (k + 2) w.y w.y_part (omega arith))
-        (whole_part (k + 3) w.z w.z_part (omega arith)))
+    few_wholes l = grind (arith, three, all_three, whole_part)
 
     pub three_long : length (items_of (tree_of k)) ≡ 3
     three_long = ap length three.all

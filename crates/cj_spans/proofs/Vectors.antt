@@ -1,5 +1,5 @@
 -- Bytes of a line, 16 at a time: what the marks of a vector say of the bytes.
-use Rattle.cj_spans.proofs.Common.{◌≡◌, ℕ, zero, suc, ◌+◌, ◌-◌, ◌%◌, ◌^◌, ◌/◌, ◌<◌, ◌≤◌, List, [], ◌∷◌, length, map, get_or, nat_eq, inl, inr, Bool, true, false, cond, not, eqb, ltb, replicate, refl, sym, ap, subst, arith, ◌∙◌, w8, cases_eq, nat_tests, prefix_len, count_trailing_zeros, length-map, get_or-map, map-id, div-eq_of_lt, is_plain, byte, is_digit, AreAlike, IsWholeSign, AreMarkedTo}
+use Rattle.cj_spans.proofs.Common.{◌≡◌, ℕ, zero, suc, ◌+◌, ◌-◌, ◌%◌, ◌^◌, ◌/◌, ◌<◌, ◌≤◌, List, [], ◌∷◌, length, map, get_or, nat_eq, Bool, true, false, cond, not, eqb, ltb, replicate, refl, sym, ap, subst, arith, ◌∙◌, w8, nat_tests, prefix_len, count_trailing_zeros, length-map, get_or-map, map-id, div-eq_of_lt, is_plain, byte, is_digit, AreAlike, IsWholeSign, AreMarkedTo}
 use Rattle.std.specs.Simd.Lanes.{zip2, mask_l, sel_l, top, chunk}
 use Rattle.std.proofs.lemmas.List.Sums.{prefix_len-le-length, prefix_len_passes}
 use Rattle.std.proofs.lemmas.Simd.{bit_mask_l, mask_l-lt, get_or-chunk, leading_from_mask_l, tops_compared, bitmask_splat, zip2_splat, zip2_splat_left, mask_l-mod, map-map, length-chunk, none_from_empty_mask, trailing_mask_l, run_in_chunk_le, run_in_chunk_fails}
@@ -10,18 +10,16 @@ use Rattle.std.proofs.Math.Pow.{pow_mono}
 module _ (p : ℕ → Bool) (b : List ℕ) (i n : ℕ) {m : ℕ} (few : n ≤ 64) (room : i + n ≤ length b)
     (e : m ≡ mask_l (map p (chunk i n b))) where
   pub none_marked : m ≡ 0 → (k : ℕ) → i ≤ k → k < i + n → p (byte b k) ≡ false
-  none_marked z = none_from_empty_mask p b i n 0 room (sym e ∙ z)
+  none_marked z = grind (arith, none_from_empty_mask)
 
   marks_counted : (m ≡ 0 → ⊥) → count_trailing_zeros 64 m ≡ prefix_len (λ x. not (p x)) (chunk i n b)
-  marks_counted s =
-      let some : 0 < m = omega arith in
-      cc (e, trailing_mask_l p 64 (chunk i n b) (omega (arith, length-chunk i n b room)) (rw e at some))
+  marks_counted s = grind (arith, trailing_mask_l, length-chunk)
 
   pub marks_within : (m ≡ 0 → ⊥) → count_trailing_zeros 64 m ≤ n
-  marks_within s = run_in_chunk_le p b i n (count_trailing_zeros 64 m) 0 room (marks_counted s)
+  marks_within s = grind (arith, run_in_chunk_le, marks_counted)
 
   pub not_marked : (m ≡ 0 → ⊥) → (k : ℕ) → i ≤ k → k < i + count_trailing_zeros 64 m → p (byte b k) ≡ false
-  not_marked s = run_in_chunk_fails p b i n (count_trailing_zeros 64 m) 0 room (marks_counted s)
+  not_marked s = grind (arith, run_in_chunk_fails, marks_counted)
 
 -- ---- digits
 
@@ -34,10 +32,7 @@ abbrev other : ℕ → Bool
 other x = ltb 9 (above x)
 
 digit_from : (x : ℕ) → x < 256 → other x ≡ false → is_digit x ≡ true
-digit_from x l h = let e : (x + 208) % 256 ≤ 9 = grind (arith, nat_tests) in test x (omega arith) (omega arith)
-  where
-    test : (x : ℕ) → 48 ≤ x → x ≤ 57 → is_digit x ≡ true
-    test x a b = grind (arith, nat_tests)
+digit_from x l h = grind arith
 
 -- the marks of the m lanes above n
 pub marks_over : {m : ℕ} (n : ℕ) (v : List ℕ) → length v ≡ m → m ≤ 64
@@ -205,14 +200,7 @@ abbrev foreign : ℕ → Bool
 foreign x = ltb 13 (above_comma x)
 
 sign_from : (x : ℕ) → x < 256 → foreign x ≡ false → IsWholeSign x
-sign_from x l h =
-    elim (cases_eq x 46) [
-      | inl e ↦ absurd (grind (arith, nat_tests))
-      | inr d ↦
-          let same : dropped 46 x ≡ x = grind (arith, nat_tests) in
-          let e : (x + 212) % 256 ≤ 13 = grind (arith, nat_tests) in
-          (omega arith, omega arith, grind (arith, nat_tests))
-    ]
+sign_from x l h = grind arith
 
 -- the marks of the bytes from i on that stand in no such array
 abbrev pub foreign_marks : List ℕ → ℕ → ℕ
@@ -274,14 +262,7 @@ abbrev lane : ℕ → ℕ → ℕ
 lane x y = cond (eqb x y) (cond (eqb x 92) 255 x) 255
 
 lane_shared : (x y : ℕ) → not (ltb 127 (lane x y)) ≡ true → IsShared x y
-lane_shared x y h =
-    elim (cases_eq x y) [
-      | inl e ↦ elim (cases_eq x 92) [
-        | inl b ↦ absurd (grind (arith, nat_tests))
-        | inr b ↦ (e, grind (arith, nat_tests), grind (arith, nat_tests))
-      ]
-      | inr d ↦ absurd (grind (arith, nat_tests))
-    ]
+lane_shared x y h = grind arith
 
 -- the lanes of both
 abbrev lanes : ℕ → List ℕ → List ℕ → List ℕ
@@ -309,8 +290,7 @@ lanes_from m b i o j = lanes m (chunk i m b) (chunk j m o)
 
 lanes_long : (m : ℕ) (b : List ℕ) (i : ℕ) (o : List ℕ) (j : ℕ) → i + m ≤ length b → j + m ≤ length o
     → length (lanes_from m b i o j) ≡ m
-lanes_long m b i o j room there =
-    length_lanes m (chunk i m b) (chunk j m o) (length-chunk i m b room) (length-chunk j m o there)
+lanes_long m b i o j room there = grind (arith, length_lanes, length-chunk)
 
 alike_marks_are : (m : ℕ) (b : List ℕ) (i : ℕ) (o : List ℕ) (j : ℕ) → m ≤ 64 → i + m ≤ length b → j + m ≤ length o
     → alike_marks m b i o j ≡ mask_l (map (λ y. ltb 127 y) (lanes_from m b i o j))
@@ -330,8 +310,7 @@ count_before m b i o j = prefix_len (λ y. not (ltb 127 y)) (lanes_from m b i o 
 
 within_lanes : (m : ℕ) (b : List ℕ) (i : ℕ) (o : List ℕ) (j : ℕ) → i + m ≤ length b → j + m ≤ length o
     → count_before m b i o j ≤ m
-within_lanes m b i o j room there =
-    omega (arith, lanes_long m b i o j room there, prefix_len-le-length (λ y. not (ltb 127 y)) (lanes_from m b i o j))
+within_lanes m b i o j room there = grind (arith, lanes_long, prefix_len-le-length)
 
 alike_before : (m : ℕ) (b : List ℕ) (i : ℕ) (o : List ℕ) (j : ℕ) → i + m ≤ length b → j + m ≤ length o
     → AreAlike b i o j (count_before m b i o j)
@@ -357,20 +336,11 @@ all_alike m b i o j few room there e =
 -- where not all are alike, those before the first that are not
 counted_alike : (m : ℕ) (b : List ℕ) (i : ℕ) (o : List ℕ) (j : ℕ) → m ≤ 64 → i + m ≤ length b → j + m ≤ length o
     → (alike_marks m b i o j ≡ 0 → ⊥) → count_trailing_zeros 64 (alike_marks m b i o j) ≡ count_before m b i o j
-counted_alike m b i o j few room there n =
-    let e = alike_marks_are m b i o j few room there in
-    let some : 0 < alike_marks m b i o j = omega arith in
-    cc (trailing_mask_l (λ y. ltb 127 y) 64 (lanes_from m b i o j) (omega (
-      arith,
-      few,
-      lanes_long m b i o j room
-          there,
-    )) (rw e at some))
+counted_alike m b i o j few room there n = grind (arith, alike_marks_are, trailing_mask_l, lanes_long)
 
 pub few_alike : (m : ℕ) (b : List ℕ) (i : ℕ) (o : List ℕ) (j : ℕ) → m ≤ 64 → i + m ≤ length b → j + m ≤ length o
     → (alike_marks m b i o j ≡ 0 → ⊥) → count_trailing_zeros 64 (alike_marks m b i o j) ≤ m
-few_alike m b i o j few room there n =
-    omega (arith, counted_alike m b i o j few room there n, within_lanes m b i o j room there)
+few_alike m b i o j few room there n = grind (arith, counted_alike, within_lanes)
 
 pub front_alike : (m : ℕ) (b : List ℕ) (i : ℕ) (o : List ℕ) (j : ℕ) → m ≤ 64 → i + m ≤ length b → j + m ≤ length o
     → (alike_marks m b i o j ≡ 0 → ⊥) → AreAlike b i o j (count_trailing_zeros 64 (alike_marks m b i o j))

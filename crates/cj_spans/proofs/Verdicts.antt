@@ -1,5 +1,5 @@
 -- What the pass over a line says of the line.
-use Rattle.cj_spans.proofs.Common.{◌≡◌, ℕ, suc, ◌+◌, ◌^◌, ◌<◌, ◌≤◌, List, [], ◌++◌, length, max, IsTrue, Option, Some, None, Result, Ok, Err, refl, sym, ap, subst, arith, rules, ◌∙◌, ◌⊎◌, inl, inr, take-length, eq-or-lt_of_le, cases_lt, cases_order, IsValidUpTo, BoundedList, Becomes, LineFault, NotUtf8, Syntax, TooDeep, Kind, Token, Ready, After, AfterName, Tree, scalar, size, nest, byte, atom_at, White, Value, atom, padded, Json, JsonPrefix, IsJsonPrefix, SyntaxAt, stuck, short, DeepAt, NowhereDeep, flatten, spans_of, IsScanOf, KeepsLaw, AreUnmarked, State, state, in_atom, step, settle, end_atom, lex_kind, Reaches, here, on, start, Sticks, SticksAt, SinksAt, Accepts, RunAnswers}
+use Rattle.cj_spans.proofs.Common.{◌≡◌, ℕ, suc, ◌+◌, ◌^◌, ◌<◌, ◌≤◌, List, [], ◌++◌, length, max, IsTrue, Option, Some, None, Result, Ok, Err, refl, sym, ap, subst, arith, rules, ◌∙◌, ◌⊎◌, inl, inr, take-length, eq-or-lt_of_le, cases_lt, IsValidUpTo, BoundedList, Becomes, LineFault, NotUtf8, Syntax, TooDeep, Kind, Token, Ready, After, Tree, scalar, size, nest, byte, atom_at, White, Value, atom, padded, Json, JsonPrefix, IsJsonPrefix, SyntaxAt, stuck, short, DeepAt, NowhereDeep, flatten, spans_of, IsScanOf, KeepsLaw, AreUnmarked, State, state, in_atom, step, settle, end_atom, lex_kind, Reaches, here, on, start, Sticks, SticksAt, SinksAt, Accepts, RunAnswers}
 use Rattle.std.specs.Prelude.{IsSomeAnd, OnOk, IsErrOf, IsOk, IsUtf8}
 use Rattle.std.proofs.lemmas.Str.{utf8_valid_len-IsValidUpTo}
 use Rattle.cj_spans.proofs.Spellings.{none_some, some_same}
@@ -29,16 +29,7 @@ spells_at : {b : List ℕ} {e j k : ℕ} (p q : ℕ) {ks : List ℕ} {ts : List 
     → Context b e ks ts
     → Value b e j t → White b j k → idle After ks (ts ++ flatten (length ts) t) k p ≡ idle After [] us (length b) q
     → Spells b us
-spells_at {b} {e} {j} {k} p q {ks} {ts} us t c v w h =
-    let s : ks ≡ [] = ap (λ u. u.stack) h in
-    let n : k ≡ length b = ap (λ u. u.place) h in
-    let r = root_only c s in
-    let z : us ≡ ts ++ flatten (length ts) t = sym (ap (λ u. u.tokens) h) in
-    record {
-      tree = t;
-      json = rw n at (padded 0 e j k t r.0 v w);
-      tokens = z ∙ ap (λ y. y ++ flatten (length y) t) r.1;
-    }
+spells_at {b} {e} {j} {k} p q {ks} {ts} us t c v w h = grind (arith, root_only, padded)
 
 pub spells : {b : List ℕ} {s : State} → Inv b s → (us : List Token) (q : ℕ)
     → settle s ≡ Some (idle After [] us (length b) q) → Spells b us
@@ -51,19 +42,13 @@ spells {b} (in_scalar e k p ks ts x c w) us q h = by_kind (lex_kind x) refl h
     by_kind (Some kd) kind h =
         spells_at p q us (scalar kd (atom_at b e k)) c (atom kd e k (atom_sound w kd kind)) (no_white b k)
         (some_same _ _ h)
-spells {b} {s} (in_name e j l k p ks ts us0 x c o ld w0 y w) us q h = by_name (lex_kind x) h
-  where
-    by_name : (r : Option Kind) → end_atom AfterName l r s ≡ Some (idle After [] us (length b) q) → Spells b us
-    by_name None h = none_some _ h
-    by_name _ h = let e = ap (λ (u : State). u.phase) (some_same _ _ h) in cc
-spells _ us q h = let e = ap (λ (u : State). u.phase) (some_same _ _ h) in cc
+spells {b} {s} (in_name e j l k p ks ts us0 x c o ld w0 y w) us q h = grind (arith, none_some, some_same)
+spells _ us q h = grind (arith, some_same)
 
 -- two ends of one line are the same
 same_end : {b : List ℕ} (x y : State) {s t : State} → Reaches b start s → Reaches b start t → settle s ≡ Some x
     → settle t ≡ Some y → x.place ≡ y.place → x ≡ y
-same_end x y {s} {t} r q e f p =
-    let d : s ≡ t = same_state r q ((settled s x e).place ∙ p ∙ sym (settled t y f).place) in
-    some_same x y (sym e ∙ ap settle d ∙ f)
+same_end x y {s} {t} r q e f p = grind (arith, same_state, settled, some_same)
 
 -- a line spells one tree at most
 pub json_only : (b : List ℕ) (t u : Tree) → Json b t → Json b u → u ≡ t
@@ -75,9 +60,7 @@ json_only b t u j k =
 
 pub nest_of : {b : List ℕ} (t : Tree) {s : State} (us : List Token) (p : ℕ) → Json b t → Reaches b start s
     → settle s ≡ Some (idle After [] us (length b) p) → p ≡ nest t
-nest_of {b} t us p j r h =
-    let q = run_json b t j in let e = same_end _ _ r q.reached h q.settles refl in let
-    d : p ≡ rise 0 0 t = ap (λ u. u.deepest) e in omega (arith, rise-nest 0 0 t (omega arith))
+nest_of {b} t us p j r h = grind (arith, run_json, same_end, rise, rise-nest)
 
 -- ---- the places of faults
 
@@ -102,17 +85,21 @@ live_at b i n f = front_runs f start Ready [] [] 0 tt here
 
 pub sticks_syntax : {b : List ℕ} {i : ℕ} → Sticks b start i → SyntaxAt b i
 sticks_syntax {b} {i} a =
-    let e = a.at in
-    elim a.stuck [
-      | inl z ↦ stuck z.0 (λ k h. front_before _ a.reached (omega arith)) (λ f.
-          let v = live_at b _ f.open_count f.front in
-          next_stuck a.reached (ap (λ n. step (byte b n) a.last) e ∙ z.1) v.reached (v.place ∙ ap suc (sym e)))
-      | inr z ↦ short z.0 (λ k h. front_before _ a.reached (omega arith)) (λ t j.
-          let v = run_json b t j in
-          let d : a.last ≡ v.at =
-          same_state a.reached v.reached (e ∙ z.0 ∙ sym (settled v.at _ v.settles).place) in
-          z.1 (flatten 0 t) (rise 0 0 t) (ap settle d ∙ v.settles))
-    ]
+    grind (
+      arith,
+      stuck,
+      front_before,
+      live_at,
+      next_stuck,
+      short,
+      run_json,
+      same_state,
+      settled,
+      rise,
+      a.at,
+      a.stuck,
+      a.reached,
+    )
 
 -- no state that the machine comes to on its way has more containers open
 pub not_deeper : {b : List ℕ} {s : State} (d i n : ℕ) → Reaches b start s → s.deepest ≤ d → i ≤ s.place
@@ -143,18 +130,11 @@ nowhere_deep {b} {s} d r h stop i a =
     ]
 
 pub sticks_nowhere : (b : List ℕ) {d : ℕ} (i : ℕ) → SticksAt b d i → NowhereDeep b d
-sticks_nowhere b {d} i a =
-    let e = a.sticks.at in
-    nowhere_deep d a.sticks.reached a.shallow (elim a.sticks.stuck [
-      | inl z ↦ inr (ap (λ n. step (byte b n) a.sticks.last) e ∙ z.1)
-      | inr z ↦ inl (omega arith)
-    ])
+sticks_nowhere b {d} i a = grind (arith, nowhere_deep, a.sticks.at, a.sticks.reached, a.shallow, a.sticks.stuck)
 
 accepts_nowhere : {b : List ℕ} {tokens : BoundedList Token} {old new : BoundedList ℕ} → Accepts b tokens old new
     → NowhereDeep b old.limit
-accepts_nowhere {old} a =
-    let e = settled a.settles.last _ a.settles.settles in
-    nowhere_deep old.limit a.settles.reached (omega arith) (inl (omega arith))
+accepts_nowhere {old} a = grind (arith, settled, nowhere_deep, a.settles.settles, old.limit, a.settles.reached)
 
 pub sinks_deep : {b : List ℕ} {d i : ℕ} → SinksAt b d i → DeepAt b d i
 sinks_deep {b} {d} {i} a = by_step _ refl a.deep
@@ -176,12 +156,7 @@ sinks_deep {b} {d} {i} a = by_step _ refl a.deep
 -- ---- each line has one verdict
 
 pub one_deep : {b : List ℕ} {d i j : ℕ} → DeepAt b d i → DeepAt b d j → i ≡ j
-one_deep {i} {j} x y =
-    elim (cases_order i j) [
-      | inl e ↦ e
-      | inr o ↦
-          elim o [ inl l ↦ absurd (y.least i l x.deep) | inr g ↦ absurd (x.least j g y.deep) ]
-    ]
+one_deep {i} {j} x y = grind (arith, y.least, x.deep, x.least, y.deep)
 
 pub fronts_below : {b : List ℕ} {j : ℕ} → SyntaxAt b j → (k : ℕ) → k < j → IsJsonPrefix b (suc k)
 fronts_below (stuck l f n) k h = f k h
@@ -197,12 +172,7 @@ not_earlier (stuck l f n) y h = n (fronts_below y _ h)
 not_earlier (short e f n) y h = absurd (omega (arith, syntax_within y))
 
 pub one_syntax : {b : List ℕ} {i j : ℕ} → SyntaxAt b i → SyntaxAt b j → i ≡ j
-one_syntax {i} {j} x y =
-    elim (cases_order i j) [
-      | inl e ↦ e
-      | inr o ↦
-          elim o [ inl l ↦ absurd (not_earlier x y l) | inr g ↦ absurd (not_earlier y x g) ]
-    ]
+one_syntax {i} {j} x y = grind (arith, not_earlier)
 
 pub json_no_syntax : {b : List ℕ} {i : ℕ} → (t : Tree) → Json b t → SyntaxAt b i → ⊥
 json_no_syntax {b} {i} t j (stuck l f n) =
@@ -211,11 +181,7 @@ json_no_syntax {b} {i} t j (stuck l f n) =
 json_no_syntax t j (short e f n) = n t j
 
 pub json_nowhere : (b : List ℕ) (d : ℕ) (t : Tree) → Json b t → nest t ≤ d → NowhereDeep b d
-json_nowhere b d t j h =
-    let v = run_json b t j in
-    let e = settled v.at _ v.settles in
-    let f = rise-nest 0 0 t (omega arith) in
-    nowhere_deep d v.reached (omega arith) (inl (omega arith))
+json_nowhere b d t j h = grind (arith, run_json, settled, rise-nest, nowhere_deep)
 
 -- ---- the clauses of the scan
 
@@ -226,44 +192,27 @@ pub record Cleared {T : Type 0} (old empty : BoundedList T) : Type 0 where
   pub room : IsTrue old.reserved → IsTrue empty.reserved
 
 pub cleared : {T : Type 0} (old empty : BoundedList T) → Becomes old [] empty → Cleared old empty
-cleared old empty c = record { limit = c.limit; peak = omega arith; room = c.room }
+cleared old empty c = grind (arith, c.limit, c.room)
 
 module _ {b : List ℕ} {empty new : BoundedList Token} {empty_stack new_stack : BoundedList ℕ}
     (k : KeepsLaw b empty new empty_stack new_stack) (few_bytes : length b ≤ 1073741824)
     (a : Accepts b new empty_stack new_stack) where
   spelled : Spells b new.elements
-  spelled = spells (inv_reaches a.settles.reached) new.elements a.deepest a.settles.settles
+  spelled = grind (arith, spells, inv_reaches)
 
   count : length new.elements ≡ size spelled.tree
-  count = ap length spelled.tokens ∙ length-flatten 0 spelled.tree
+  count = grind (arith, length-flatten)
 
   few : size spelled.tree < 2 ^ 31
-  few = let o = ap (λ (ns : List ℕ). length ns) a.closed in omega (arith, count)
+  few = grind (arith, count)
 
   scan_of : {old : BoundedList Token} {old_stack : BoundedList ℕ} → Cleared old empty → Cleared old_stack empty_stack
       → (t : Tree) × IsScanOf b t old new old_stack new_stack
-  scan_of c d =
-      let s = spelled in
-      let t = s.tree in
-      let n = nest_of t new.elements a.deepest s.json a.settles.reached a.settles.settles in (
-        t,
-        record {
-          json = s.json;
-          only = λ u j. json_only b t u s.json j;
-          shallow = omega arith;
-          spans = ap spans_of s.tokens ∙ spans_of-flatten 0 t;
-          shown = cc (s.tokens, spans_of-flatten 0 t, json_shown b t s.json);
-          count = count;
-          linked = rw s.tokens (json_linked b t s.json few);
-          closed = a.closed;
-          token_peak = omega (arith, count);
-          stack_peak = omega arith;
-        },
-      )
+  scan_of c d = grind (arith, spelled, nest_of, json_only, spans_of-flatten, json_shown, count, json_linked, few)
 
   -- it leaves no marks
   scan_unmarked : AreUnmarked new.elements
-  scan_unmarked = rw spelled.tokens (json_unmarked b spelled.tree spelled.json few)
+  scan_unmarked = grind (arith, json_unmarked, few)
 
 -- a pass over the line, which began with lists that were cleared
 pub record Ran (b : List ℕ) (old new : BoundedList Token) (old_stack new_stack : BoundedList ℕ)
@@ -300,7 +249,7 @@ module _ {b : List ℕ} {old new : BoundedList Token} {old_stack new_stack : Bou
   finds_syntax (Ok v) h n s =
       let z = spelled h.law h.short h.answer in absurd (json_no_syntax z.tree z.json s)
   finds_syntax (Err (NotUtf8 j)) h n s = absurd h.answer
-  finds_syntax (Err (Syntax j)) h n s = ap (λ k. Err (Syntax k)) (one_syntax (sticks_syntax h.answer.0.sticks) s)
+  finds_syntax (Err (Syntax j)) h n s = search (arith, one_syntax, sticks_syntax, h.answer.0.sticks)
   finds_syntax (Err (TooDeep j)) h n s = absurd (n j (rw h.cleared_stack.limit at (sinks_deep h.answer.0)))
 
   pub finds_tree : (r : Result (Unit {0}) LineFault) (t : Tree) → Ran b old new old_stack new_stack r → Json b t

@@ -49,30 +49,17 @@ held_none t ts j h = grind (arith)
 
 pub past-past : (ts : List Tree) (i j : ℕ) → i ≤ j → past j (past i ts) ≡ past j ts
 past-past [] i j h = refl
-past-past (t ∷ ts) i j h =
-    elim (cases_lt (start_of t) i) [
-      | inl l ↦ ap (past j) (past_on t ts i l) ∙ past-past ts i j h ∙ sym (past_on t ts j (omega arith))
-      | inr g ↦ ap (past j) (past_here t ts i g)
-    ]
+past-past (t ∷ ts) i j h = grind (arith, past_on, past_here, past-past ts i j h)
 
 -- ---- a walk on, over tokens that start before the place
 
 skip_one : {b : List ℕ} {ts : List Token} {k : ℕ} (j : ℕ) {t : Token} → Below b ts k t → t.start < j → t.stop ≤ j
     → past j (forest b (drop k (spans_of ts))) ≡ past j (forest b (drop (k + 1) (spans_of ts)))
-skip_one {b} {ts} {k} j {t} h l o = cc (
-  h.front,
-  past_on (tree_at b (spans_of ts) k) (past t.stop (forest b (drop (k
-      + 1) (spans_of ts)))) j (omega arith),
-  past-past (forest b (drop (k + 1) (spans_of ts))) t.stop j o,
-)
+skip_one {b} {ts} {k} j {t} h l o = grind (arith, past_on, past-past, h.front)
 
 skip_end : {b : List ℕ} {ts : List Token} {k : ℕ} (j : ℕ) {t : Token} → Below b ts k t → j ≤ t.start
     → past j (forest b (drop k (spans_of ts))) ≡ forest b (drop k (spans_of ts))
-skip_end {b} {ts} {k} j {t} h l = cc (
-  h.front,
-  past_here (tree_at b (spans_of ts) k) (past t.stop (forest b (drop (k
-      + 1) (spans_of ts)))) j (omega arith),
-)
+skip_end {b} {ts} {k} j {t} h l = grind (arith, past_here, h.front)
 
 drop_spans : (ts : List Token) (k : ℕ) → length ts ≤ k → drop k (spans_of ts) ≡ []
 drop_spans [] zero h = refl
@@ -159,18 +146,12 @@ spelling_shown b ts k t h = let w = below_at b ts k t h in
 
 length-past : (j : ℕ) (ts : List Tree) → length (past j ts) ≤ length ts
 length-past j [] = omega arith
-length-past j (t ∷ ts) =
-    let l = length-past j ts in
-    elim (cases_lt (start_of t) j) [
-      | inl h ↦ let e = ap (λ (us : List Tree). length us) (past_on t ts j h) in
-          omega arith
-      | inr h ↦ let e = ap (λ (us : List Tree). length us) (past_here t ts j h) in omega arith
-    ]
+length-past j (t ∷ ts) = grind (arith, past_on, past_here, length-past j ts)
 
 pub length-forest : (b : List ℕ) (ss : List Span) → length (forest b ss) ≤ length ss
 unfolding forest
 length-forest b [] = omega arith
-length-forest b (s ∷ ss) = omega (arith, length-forest b ss, length-past s.stop (forest b ss))
+length-forest b (s ∷ ss) = grind (arith, length-past, length-forest b ss)
 
 pub length-pairs : (ts : List Tree) → length (pairs_of ts) ≤ length ts
 length-pairs (n ∷ t ∷ ts) = omega (arith, length-pairs ts)

@@ -1,5 +1,5 @@
 -- Walks over the parts of a container, by the indices of tokens.
-use Rattle.cj_spans.proofs.Common.{◌≡◌, ℕ, zero, suc, ◌+◌, ◌-◌, ◌%◌, ◌^◌, ◌<◌, ◌≤◌, List, [], ◌∷◌, length, take, drop, slice_get, true, inl, inr, Some, refl, sym, ap, subst, arith, ◌∙◌, first_so, second_so, cases_lt, length-drop, length-take, drop-drop, slice_get_within, nat_tests, Token, Kind, Null, Text, Array, Object, Tree, start_of, size, total_size, kind_by, held, past, node, forest, byte, Span, span_at, spans_of, kind_of, items_of, members_of, AreOf, AreLone, AreWhole, ShowMembers, StopBefore, before, is_name, are_members, link_of, shown_between, items_end, members_end, AreSized, tree_at, pairs_of}
+use Rattle.cj_spans.proofs.Common.{◌≡◌, ℕ, zero, suc, ◌+◌, ◌-◌, ◌%◌, ◌^◌, ◌<◌, ◌≤◌, List, [], ◌∷◌, length, take, drop, slice_get, true, inl, inr, Some, refl, sym, ap, subst, arith, ◌∙◌, first_so, second_so, cases_lt, length-drop, drop-drop, slice_get_within, nat_tests, Token, Kind, Null, Text, Array, Object, Tree, start_of, size, total_size, kind_by, held, past, node, forest, byte, Span, span_at, spans_of, kind_of, items_of, members_of, AreOf, AreLone, AreWhole, ShowMembers, StopBefore, before, is_name, are_members, link_of, shown_between, items_end, members_end, AreSized, tree_at, pairs_of, common_steps}
 use Rattle.cj_spans.specs.declared.node.Source.{Source}
 use Rattle.cj_spans.proofs.Spellings.{some_same}
 use Rattle.cj_spans.proofs.Forests.{held_on, past_on, start-node}
@@ -12,28 +12,11 @@ use Rattle.cj_spans.proofs.Views.{below, below_at, held_none, past_here, past-pa
 
 held-held : (ts : List Tree) (i j : ℕ) → i ≤ j → held i (held j ts) ≡ held i ts
 held-held [] i j h = refl
-held-held (t ∷ ts) i j h =
-    elim (cases_lt (start_of t) i) [
-      | inl l ↦ ap (held i) (held_on t ts j (omega arith)) ∙ held_on t (held j ts) i l
-          ∙ ap (λ xs. t ∷ xs) (held-held ts i j h) ∙ sym (held_on t ts i l)
-      | inr g ↦ elim (cases_lt (start_of t) j) [
-        | inl l ↦ ap (held i) (held_on t ts j l) ∙ held_none t (held j ts) i g ∙ sym (held_none t ts i g)
-        | inr m ↦ ap (held i) (held_none t ts j m) ∙ sym (held_none t ts i g)
-      ]
-    ]
+held-held (t ∷ ts) i j h = grind (arith, held_on, held_none, held-held ts i j h)
 
 past-held : (ts : List Tree) (i j : ℕ) → i ≤ j → past i (held j ts) ≡ held j (past i ts)
 past-held [] i j h = refl
-past-held (t ∷ ts) i j h =
-    elim (cases_lt (start_of t) i) [
-      | inl l ↦ ap (past i) (held_on t ts j (omega arith)) ∙ past_on t (held j ts) i l ∙ past-held ts i j h
-          ∙ sym (ap (held j) (past_on t ts i l))
-      | inr g ↦ elim (cases_lt (start_of t) j) [
-        | inl l ↦ ap (past i) (held_on t ts j l) ∙ past_here t (held j ts) i g ∙ sym (held_on t ts j l)
-            ∙ sym (ap (held j) (past_here t ts i g))
-        | inr m ↦ ap (past i) (held_none t ts j m) ∙ sym (held_none t ts j m) ∙ sym (ap (held j) (past_here t ts i g))
-      ]
-    ]
+past-held (t ∷ ts) i j h = grind (arith, held_on, past_on, past_here, held_none, past-held ts i j h)
 
 -- ---- a token more at the front
 
@@ -43,28 +26,19 @@ built b t f = node b (kind_by (byte b t.start)) t.start t.stop (held t.stop f) �
 
 module _ (b : List ℕ) (t : Token) (f : List Tree) (j : ℕ) where
   first_start : start_of (node b (kind_by (byte b t.start)) t.start t.stop (held t.stop f)) ≡ t.start
-  first_start = start-node b (kind_by (byte b t.start)) t.start t.stop (held t.stop f)
+  first_start = grind (arith, start-node)
 
   held_built : t.start < j → t.stop ≤ j → held j (built b t f) ≡ built b t (held j f)
-  held_built l o =
-      let k = kind_by (byte b t.start) in
-      held_on (node b k t.start t.stop (held t.stop f)) (past t.stop f) j (omega (arith, first_start))
-      ∙ (λ i. node b k t.start t.stop (sym (held-held f t.stop j o) i) ∷ sym (past-held f t.stop j o) i)
+  held_built l o = grind (arith, held_on, first_start, held-held, past-held)
 
   past_built : t.start < j → t.stop ≤ j → past j (built b t f) ≡ past j f
-  past_built l o =
-      past_on (node b (kind_by (byte b t.start)) t.start t.stop (held t.stop f)) (past t.stop f) j
-      (omega (arith, first_start)) ∙ past-past f t.stop j o
+  past_built l o = grind (arith, past_on, first_start, past-past)
 
   held_none_built : j ≤ t.start → held j (built b t f) ≡ []
-  held_none_built g =
-      held_none (node b (kind_by (byte b t.start)) t.start t.stop (held t.stop f)) (past t.stop f) j
-      (omega (arith, first_start))
+  held_none_built g = grind (arith, held_none, first_start)
 
   past_none_built : j ≤ t.start → past j (built b t f) ≡ built b t f
-  past_none_built g =
-      past_here (node b (kind_by (byte b t.start)) t.start t.stop (held t.stop f)) (past t.stop f) j
-      (omega (arith, first_start))
+  past_none_built g = grind (arith, past_here, first_start)
 
 -- ---- tokens at the front and the trees up to a place, where what starts before it stops before it
 
@@ -97,24 +71,24 @@ taken : (b : List ℕ) (ts : List Token) (j n : ℕ) → Stops j ts → n ≡ be
 unfolding forest
 taken b [] j n s e = forest_nil b n 0
 taken b (t ∷ ts) j n s e =
-    elim (cases_lt t.start j) [
-      | inl l ↦ ap (λ m. forest b (take m (spans_of (t ∷ ts)))) (e ∙ before_one j t ts l)
-          ∙ ap (built b t) (taken b ts j (before j ts) s.1 refl)
-          ∙ sym (held_built b t (forest b (spans_of ts)) j l (s.0 l))
-      | inr g ↦ ap (λ m. forest b (take m (spans_of (t ∷ ts)))) (e ∙ before_zero j t ts g)
-          ∙ sym (held_none_built b t (forest b (spans_of ts)) j g)
-    ]
+    grind (
+      arith,
+      before_one,
+      held_built,
+      before_zero,
+      held_none_built,
+      taken b ts j (before j ts) s.1 refl,
+      t.start,
+      s.1,
+      s.0,
+    )
 
 -- more tokens than those do not change the trees up to the place
 held_more : (b : List ℕ) (ts : List Token) (j n : ℕ) → Stops j ts → before j ts ≤ n
     → held j (forest b (take n (spans_of ts))) ≡ held j (forest b (spans_of ts))
 unfolding forest
 held_more b [] j n s e = ap (held j) (forest_nil b n 0)
-held_more b (t ∷ ts) j zero s e =
-    elim (cases_lt t.start j) [
-      | inl l ↦ let f = before_one j t ts l in absurd (omega arith)
-      | inr g ↦ sym (held_none_built b t (forest b (spans_of ts)) j g)
-    ]
+held_more b (t ∷ ts) j zero s e = grind (arith, before_one, held_none_built, t.start)
 held_more b (t ∷ ts) j (suc n) s e =
     let f = forest b (spans_of ts) in
     let g = forest b (take n (spans_of ts)) in
@@ -155,9 +129,7 @@ drop_next : (ts : List Token) (k : ℕ) (t : Token) → slice_get ts k ≡ Some 
     → drop k (spans_of ts) ≡ span_at t.start t.stop ∷ drop (k + 1) (spans_of ts)
 drop_next [] k t h = cc
 drop_next (u ∷ ts) zero t h = let e : u ≡ t = cc in cc
-drop_next (u ∷ ts) (suc k) t h =
-    let e : suc k + 1 ≡ suc (k + 1) = omega arith in
-    cc (drop_next ts k t h)
+drop_next (u ∷ ts) (suc k) t h = grind (arith, drop_next ts k t h)
 
 pub before_drop : (j i : ℕ) (ts : List Token) → i ≤ before j ts → before j (drop i ts) + i ≡ before j ts
 before_drop j zero ts h = omega arith
@@ -170,17 +142,11 @@ before_drop j (suc i) (t ∷ ts) h =
 
 before-less : (i j : ℕ) (ts : List Token) → i ≤ j → before i ts ≤ before j ts
 before-less i j [] h = omega arith
-before-less i j (t ∷ ts) h =
-    elim (cases_lt t.start i) [
-      | inl l ↦ let e = before_one i t ts l in let f = before_one j t ts (omega arith) in
-          let r = before-less i j ts h in omega arith
-      | inr g ↦ let e = before_zero i t ts g in omega arith
-    ]
+before-less i j (t ∷ ts) h = grind (arith, before_one, before_zero, before-less i j ts h, t.start)
 
 pub starts_before : (ts : List Token) (j k : ℕ) (t : Token) → slice_get ts k ≡ Some t → 0 < before j (drop k ts)
     → t.start < j
-starts_before ts j k t h l =
-    elim (cases_lt t.start j) [ inl o ↦ o | inr g ↦ let z = before_stopped ts j k t h g in absurd (omega arith) ]
+starts_before ts j k t h l = grind (arith, before_stopped, t.start)
 
 -- ---- names
 
@@ -229,7 +195,7 @@ named-node Object l shown h e z = cc (h refl)
 named-node _ l shown h e z = cc
 
 whole_none : (ts : List Token) (k : ℕ) → AreWhole ts k 0
-whole_none ts k = (omega arith, λ i u o l g. absurd (omega arith))
+whole_none ts k = grind arith
 
 whole_items : (ts : List Token) (k l : ℕ) (r : Kind) → AreWhole ts k l → AreWhole ts k (items_end r l)
 whole_items ts k l Array w = w
@@ -268,11 +234,11 @@ module _ (source : Source) where
   end_of k t = k + 1 + before t.stop (drop (k + 1) ts)
 
   sized : AreSized b ts
-  sized = full_sized b ts source.nested source.linked source.full
+  sized = grind (arith, full_sized)
 
   pub shown_none : (k n : ℕ) → n ≤ k → shown k n ≡ []
   unfolding forest
-  shown_none k n h = let e : n - k ≡ 0 = omega arith in ap (λ m. forest b (take m (drop k (spans_of ts)))) e
+  shown_none k n h = grind arith
 
   -- the parts of a token's tree are what the tokens up to its link show
   shown_parts : (k : ℕ) {r : ℕ} (t : Token) → slice_get ts k ≡ Some t → r ≡ end_of k t
@@ -327,7 +293,7 @@ module _ (source : Source) where
   )
 
   pub whole_later : (k m n : ℕ) → k ≤ m → AreWhole ts k n → AreWhole ts m n
-  whole_later k m n l w = (w.0, λ i u o p g. w.1 i u (omega arith) p g)
+  whole_later k m n l w = grind (arith, w.0, w.1)
 
   -- at a name: its value stands right behind it
   pub record AtName (k n : ℕ) : Type 0 where
@@ -435,18 +401,10 @@ module _ (source : Source) where
   -- ---- no more trees than tokens
 
   pub few_trees : (k n : ℕ) → length (shown k n) ≤ length ts
-  few_trees k n =
-      let ss = drop k (spans_of ts) in
-      omega (
-        arith,
-        length-forest b (take (n - k) ss),
-        length-take (n - k) ss,
-        length-drop k (spans_of ts),
-        length-spans_of ts,
-      )
+  few_trees k n = grind (arith, common_steps, length-forest, length-spans_of)
 
   pub few_pairs : (k n : ℕ) → length (pairs_of (shown k n)) ≤ length ts
-  few_pairs k n = omega (arith, length-pairs (shown k n), few_trees k n)
+  few_pairs k n = grind (arith, length-pairs, few_trees)
 
   -- ---- a walk that passes over the first trees by how many values and names they are
 
@@ -483,25 +441,13 @@ module _ (source : Source) where
   -- the items of a node whose token, at k, links to l
   pub small_items : (k l : ℕ) {n : ℕ} (r : Kind) → k < length ts → LinksTo ts k l → n ≡ items_end r l
       → total_size (shown (k + 1) n) < 2 ^ 31
-  small_items k l {n} r inside e f =
-      let ss = drop (k + 1) (spans_of ts) in
-      omega (
-        arith,
-        link_low k l inside e,
-        items_end_low r l,
-        forest_small b (take (n - (k + 1)) ss),
-        length-take (n - (k + 1)) ss,
-      )
+  small_items k l {n} r inside e f = grind (arith, common_steps, link_low, items_end_low, forest_small)
 
   -- a walk over them that passes over the first ones
   pub items_behind_link : (k l : ℕ) {n : ℕ} (j : ℕ) {m : ℕ} {r : Kind} → k < length ts → LinksTo ts k l
       → r ≡ kind_of (tree_of k) → n ≡ items_end r l → j ≤ length (items_of (tree_of k))
       → total_size (take j (items_of (tree_of k))) ≡ m → shown (k + 1 + m) n ≡ drop j (items_of (tree_of k))
-  items_behind_link k l {n} j {m} inside e f g few same =
-      let w = items_from_link k l inside e f g in
-      let count = ap length w.all in
-      walk_behind j (k + 1) m n w.whole (omega arith) (ap (λ xs. total_size (take j xs)) w.all ∙ same)
-      ∙ ap (drop j) w.all
+  items_behind_link k l {n} j {m} inside e f g few same = grind (arith, items_from_link, walk_behind)
 
   -- the item behind the first ones of a node, if there is one
   pub record ItemBehind (k j m : ℕ) : Type 0 where

@@ -1,5 +1,5 @@
 -- Worked lines: the machine's run is computed, and gives the place.
-use Rattle.cj_spans.proofs.Common.{◌≡◌, ℕ, zero, suc, ◌<◌, ◌≤◌, List, [], length, Option, Some, None, refl, ap, subst, arith, ◌∙◌, inl, inr, option_and_then, IsSomeAnd, Token, After, SyntaxAt, DeepAt, byte, State, state, between, step, settle, Reaches, here, on, start}
+use Rattle.cj_spans.proofs.Common.{◌≡◌, ℕ, zero, suc, ◌<◌, ◌≤◌, List, [], length, Option, Some, None, refl, ap, arith, ◌∙◌, inl, inr, option_and_then, IsSomeAnd, Token, After, SyntaxAt, DeepAt, byte, State, state, between, step, settle, Reaches, here, on, start}
 use Rattle.cj_spans.proofs.Spellings.{none_some, some_same}
 use Rattle.cj_spans.proofs.Facts.{next_place}
 use Rattle.cj_spans.proofs.Verdicts.{Spells, sticks_syntax, sinks_deep, spells}
@@ -25,7 +25,7 @@ run_last n s None r h = none_some s h
 run_last n s (Some t) r h = run_next s (r t refl) h
 
 run : (b : List ℕ) (n : ℕ) (s : State) → after b n ≡ Some s → Run b n s
-run b zero s h = subst (Run b 0) (some_same start s h) (record { reached = here; place = refl })
+run b zero s h = grind (arith, some_same, here)
 run b (suc n) s h = run_last n s (after b n) (λ t e. run b n t e) h
 
 pub syntax_inside : (b : List ℕ) (n : ℕ) (s : State) → after b n ≡ Some s → n < length b → step (byte b n) s ≡ None
@@ -60,4 +60,4 @@ deep_inside b n d s h l g stop =
 
 pub spells_end : (b : List ℕ) (s : State) (us : List Token) (p : ℕ) → after b (length b) ≡ Some s
     → settle s ≡ Some (state (between After) [] us (length b) p) → Spells b us
-spells_end b s us p h e = spells (inv_reaches (run b (length b) s h).reached) us p e
+spells_end b s us p h e = grind (arith, spells, inv_reaches, run)

@@ -31,6 +31,7 @@ fn halts(line: &[u8], place: usize, read: Lex) -> bool
 }
 
 /// Reads up to the first byte that does not continue the scalar, whatever has been read of it.
+#[tactic(auto, using(crate::proofs::Scalars::goes_same, crate::proofs::Scalars::goes_one, crate::proofs::Scalars::goes_far))]
 #[inline(never)]
 fn read_on(line: &[u8], place: usize, first: Lex) -> Reach
     requires { place ≤ length line.now }
@@ -84,6 +85,7 @@ fn escape_stop(line: &[u8], place: usize) -> Option<usize>
 }
 
 /// Continues to read a string whose next byte is not plain.
+#[tactic(auto, using(crate::proofs::Scalars::goes_same, crate::proofs::Scalars::goes_far, crate::proofs::Scalars::reads_far, crate::proofs::Scalars::reads_quote))]
 #[inline(never)]
 fn read_escapes(line: &[u8], place: usize) -> Reach
     requires { place ≤ length line.now }
@@ -133,6 +135,7 @@ fn begins_fraction(line: &[u8], place: usize) -> bool
 }
 
 /// Continues to read a number after the digits before the point.
+#[tactic(auto, using(crate::proofs::Scalars::reads_far, crate::proofs::Scalars::goes_far, crate::proofs::Scalars::goes_same))]
 #[inline(never)]
 fn read_tail(line: &[u8], place: usize, digits: Lex) -> Reach
     requires point { lex_step_of digits 46 ≡ Some Point }
@@ -153,6 +156,7 @@ fn read_tail(line: &[u8], place: usize, digits: Lex) -> Reach
 }
 
 /// Continues to read a number after its first digit, which is not 0.
+#[tactic(auto, using(crate::proofs::Scalars::goes_same, crate::proofs::Scalars::reads_far))]
 #[inline(always)]
 fn read_whole(line: &[u8], place: usize) -> Reach
     requires { place ≤ length line.now }
@@ -169,6 +173,7 @@ fn read_whole(line: &[u8], place: usize) -> Reach
 }
 
 /// Continues to read a number after the 0 that begins it.
+#[tactic(auto, using(crate::proofs::Scalars::goes_same))]
 #[inline(always)]
 fn read_zero(line: &[u8], place: usize) -> Reach
     requires { place ≤ length line.now }
@@ -213,6 +218,7 @@ fn has_letters(line: &[u8], place: usize, first: u8, second: u8, third: u8) -> b
 }
 
 /// Continues to read a word after its first letter.
+#[tactic(auto, using(crate::proofs::Scalars::reads_as, crate::proofs::Scalars::reads_null, crate::proofs::Scalars::reads_true, crate::proofs::Scalars::reads_false))]
 #[inline(never)]
 fn read_word(line: &[u8], place: usize, first: Lex) -> Reach
     requires { place ≤ length line.now }

@@ -16,6 +16,7 @@ ghost use Rattle.cj_spans.specs.Meaning.Judgement.{Judgement, SaySame};
 /// A string has one text (RFC 8259, section 7). The grammar gives code points for the characters
 /// between the quotes of a string in UTF-8. The text of the string is these code points and no
 /// others.
+#[tactic(auto, using(crate::proofs::Strings::text_told, crate::proofs::Texts::stands_once), unfolding(crate::specs::Meaning::Text::text))]
 pub fn one_text()
     ensures told { (s : List ℕ) → IsString s → IsUtf8 s → StandFor (chars (body_of s)) (text s) }
     ensures only { (s ps : List ℕ) → StandFor (chars (body_of s)) ps → ps ≡ text s }
@@ -23,6 +24,7 @@ pub fn one_text()
 
 /// A line has exactly one judgement under a depth limit. It is a JSON text with one tree within the
 /// limit. Or it is no JSON text from one byte on, or too deep from one byte on.
+#[tactic(auto, using(crate::proofs::Judgements::judgement, crate::proofs::Judgements::say_same))]
 pub fn one_judgement()
     ensures told { (b : List ℕ) (d : ℕ) → Judgement b d }
     ensures only { (b : List ℕ) (d : ℕ) (j k : Judgement b d) → SaySame j k }

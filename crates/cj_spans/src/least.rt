@@ -58,6 +58,7 @@ impl Least {
     }
 
     /// Returns the least finding that was added, or none.
+    #[tactic(auto, using(crate::proofs::Findings::least_only, crate::proofs::Findings::fold_least))]
     pub fn get(self) -> Option<Finding>
         ensures held { result ≡ self }
 

@@ -262,6 +262,7 @@ impl<'a> Node<'a> {
     }
 
     /// Returns the items of an array, in order (RFC 8259, section 5). Any other value has none.
+    #[tactic(auto, using(crate::proofs::Walks::items_from_link, crate::proofs::Walks::few_trees, crate::proofs::Walks::small_items), unfolding(crate::specs::View::tree, crate::specs::View::items_left, crate::specs::View::line_of, crate::specs::View::items_line, crate::specs::View::source_of, crate::specs::View::items_source))]
     pub fn items(self) -> Items<'a>
         ensures items { items_left result ≡ items_of (tree self.entry) }
         ensures line { items_line result ≡ line_of self.entry }
@@ -312,6 +313,7 @@ impl<'a> Node<'a> {
     }
 
     /// Returns the walk over the members of an object. Any other value has none.
+    #[tactic(auto, using(crate::proofs::Walks::members_from_link), unfolding(crate::specs::View::tree, crate::specs::View::members_left, crate::specs::View::source_of, crate::specs::View::members_source))]
     #[inline(always)]
     fn walk(self) -> Members<'a>
         ensures begun { 0 < result.next }
@@ -328,6 +330,7 @@ impl<'a> Node<'a> {
 
     /// Returns the members of an object, names with values, in order (RFC 8259, section 4). Any
     /// other value has none.
+    #[tactic(auto, using(crate::proofs::Rising::pairs_rise, crate::proofs::Rising::shown_rise, crate::proofs::Rising::values_rise, crate::proofs::Walks::few_pairs), unfolding(crate::specs::View::members_left, crate::specs::View::line_of, crate::specs::View::members_line, crate::specs::View::members_source, crate::specs::View::source_of))]
     pub fn members(self) -> Members<'a>
         ensures members { members_left result ≡ members_of (tree self.entry) }
         ensures order { AreNamesInOrder (members_left result) }
@@ -391,6 +394,7 @@ impl<'a> Node<'a> {
     /// Returns its number in the line. [`Node::at`] finds the node again by this number, and
     /// [`crate::set_mark`] takes it as that of the token. A number takes 4 bytes, a node ten times
     /// as many.
+    #[tactic(auto, using(crate::proofs::Walks::number_linked), unfolding(crate::specs::View::tree, crate::specs::View::source_of, crate::specs::View::tree_in, crate::specs::View::line_of, crate::specs::View::tokens_in))]
     pub fn number(self) -> u32
         ensures node { tree_in (source_of self.entry) result ≡ tree self.entry }
         ensures token { tree_at (line_of self.entry) (spans_of (tokens_in (source_of self.entry))) result

@@ -10,6 +10,7 @@ use crate::lex::{Lex, skip_digits};
 
 /// Returns `stop`, where the digits that begin at `place` end. None if a 0 comes before another
 /// digit.
+#[tactic(auto, using(crate::proofs::WholeNumbers::number_is))]
 #[inline(always)]
 fn int_stop(line: &[u8], place: usize, stop: usize) -> Option<usize>
     requires digit { (48 ≤ byte_of line.now place) × (byte_of line.now place ≤ 57) }

@@ -47,6 +47,7 @@ use crate::utf8::check_utf8;
 use cj_budget::{Bounded, NoMemory, Stack};
 
 /// Reads the rest of the scalar or the name that the byte at `place` began, and keeps its token.
+#[tactic(auto, using(crate::proofs::Atoms::ends_err, crate::proofs::Atoms::ends_ok))]
 #[inline(always)]
 fn end_atom(
     line: &[u8],
@@ -78,6 +79,7 @@ fn end_atom(
 }
 
 /// Continues past the colon directly after a name.
+#[tactic(auto, using(crate::proofs::Signs::colon_read))]
 #[inline(always)]
 fn pass_colon(line: &[u8], from: Next) -> Next
     ensures answer { (s : State) (ks : List ℕ) (ts : List TokenOf) (p : ℕ)
@@ -102,6 +104,7 @@ fn pass_colon(line: &[u8], from: Next) -> Next
 }
 
 /// Continues after a move: past a scalar, past a name and its colon, or to the next byte.
+#[tactic(auto, using(crate::proofs::Atoms::settles_at))]
 #[inline(always)]
 fn follow(
     line: &[u8],

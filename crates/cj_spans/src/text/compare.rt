@@ -159,6 +159,7 @@ fn compare_points(points: CodePoints, others: CodePoints) -> Ordering
 
 /// Compares the texts of two strings, given with their quotes. Most are the same plain bytes, or
 /// differ in a plain byte.
+#[tactic(auto, using(crate::proofs::Texts::order_ends, crate::proofs::Texts::order_apart))]
 #[inline]
 pub(crate) fn compare_spellings(spelling: &[u8], other: &[u8]) -> Ordering
     requires first { 0 < length spelling.now }

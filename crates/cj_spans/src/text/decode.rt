@@ -64,6 +64,7 @@ fn add_three(bytes: &[u8], read: CodePoint) -> Option<CodePoint>
 }
 
 /// Reads the character of two to four bytes at a place. None if its bytes end too early.
+#[tactic(auto, using(crate::proofs::Texts::lead_two, crate::proofs::Texts::lead_three, crate::proofs::Texts::lead_four))]
 fn read_long_char(bytes: &[u8], place: usize) -> Option<CodePoint>
     requires within { place < length bytes.now }
     requires long { 128 ≤ get_or bytes.now place 0 }
@@ -424,6 +425,7 @@ impl<'a> Iterator for CodePoints<'a> {
 
     ghost remaining = { item_count code_points_left };
 
+    #[tactic(auto, using(crate::proofs::Texts::points_step, crate::proofs::Texts::points_done))]
     #[inline(always)]
     fn next(&mut self) -> Option<u32> {
         match first_char(self.bytes, self.place) {
@@ -465,6 +467,7 @@ impl<'a> Iterator for Characters<'a> {
 
     ghost remaining = { item_count characters_left };
 
+    #[tactic(auto, using(crate::proofs::Texts::characters_step))]
     #[inline(always)]
     fn next(&mut self) -> Option<u32> {
         match first_char(self.bytes, self.place) {

@@ -24,7 +24,7 @@ loop-tokens-preserved c =
     let n = l.invariant.comes in
     let order = l.invariant.order in
     let more = c.loop-tokens-test.ensures refl in
-    let go = standing_opened opens_array c.args.line.now l.next.mode c.in-Ok.ensures n.begins n.within n.bracket in
+    let go = standing_opened opens_array _ l.next.mode c.in-Ok.ensures n.begins n.within n.bracket in
     record {
       stands = stands_on l.invariant.stands go;
       answer = λ ts ks s. go ts ks (l.invariant.answer ts ks s);

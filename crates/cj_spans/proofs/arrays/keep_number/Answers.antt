@@ -32,6 +32,4 @@ keep_atom-requires-2 c =
     }
 
 pub returns-clause-reads : goal.returns-clause-reads
-returns-clause-reads c =
-    reads_last c.args.tokens.now c.keep_atom-2.new.tokens c.args.from c.requires.begins
-    c.requires.number c.keep_atom-2.ensures c.if-line-stop-ne93.false
+returns-clause-reads c = search (rules, reads_last)

@@ -1,4 +1,4 @@
-use Rattle.cj_spans.proofs.Common.{◌≡◌, ℕ, List, ◌+◌, arith, refl, inl, inr, subst, sym, ◌∙◌, BoundedList, Token, After, Inner, Next, byte, MayCloseArray, EndsItems, Standing}
+use Rattle.cj_spans.proofs.Common.{◌≡◌, ℕ, List, ◌+◌, arith, refl, inl, inr, subst, sym, ◌∙◌, BoundedList, Token, After, Next, byte, MayCloseArray, EndsItems, Standing}
 use Rattle.cj_spans.proofs.Nested.{stands_on, stands_small, standing_closed, standing_comma}
 use Rattle.cj_spans.proofs.arrays.leave_arrays.Goals as goal
 
@@ -20,11 +20,8 @@ returns-then-not-is_open_array-clause-answer c = λ ts ks s.
     let l = c.loop-tokens in
     let a = c.close_array-outer in
     let h = c.loop-tokens-test.ensures refl in
-    let b = c.args.line.now in
-    subst (λ (x : Inner). Standing b ts ks a.new.tokens a.new.stack x.next.mode x.next.place)
-    (sym c.outside_arrays.ensures) (standing_closed
-    (l.invariant.answer ts ks s) h.0 h.1 a.ensures.tokens a.ensures.stack
-    (a.ensures.closed l.next.mode (may_close b l.next l.invariant.ends)))
+    rw c.outside_arrays.ensures (standing_closed (l.invariant.answer ts ks s) h.0 h.1 a.ensures.tokens a.ensures.stack
+    (a.ensures.closed l.next.mode (may_close _ l.next l.invariant.ends)))
 
 pub loop-tokens-preserved : goal.loop-tokens-preserved
 loop-tokens-preserved c =

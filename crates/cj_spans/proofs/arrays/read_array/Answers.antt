@@ -15,17 +15,12 @@ pub close_token-requires : goal.close_token-requires
 close_token-requires c =
     let r = c.requires in
     let n = c.read_numbers-numbers in
+    let s = flat_inside r.stands r.begins r.within r.bracket r.shallow c.open_array.ensures n.ensures.leads in
+    let a = flat_innermost r.stands r.begins r.within r.bracket r.shallow c.open_array.ensures n.ensures.leads in
     record {
-      small =
-          in_small (flat_inside r.stands r.begins r.within r.bracket r.shallow c.open_array.ensures n.ensures.leads)
-          (n.ensures.ended c.if-numbers.true).within;
-      within =
-          let a = flat_innermost r.stands r.begins r.within r.bracket r.shallow c.open_array.ensures n.ensures.leads in
-          rw c.len-index.ensures.value (index_within c.args.stack.now.elements (length c.args.tokens.now.elements)
-          n.new.tokens.elements a);
-      list =
-          let s = flat_inside r.stands r.begins r.within r.bracket r.shallow c.open_array.ensures n.ensures.leads in
-          s.stands.standing.kept.within;
+      small = in_small s (n.ensures.ended c.if-numbers.true).within;
+      within = rw c.len-index.ensures.value (index_within _ _ _ a);
+      list = s.stands.standing.kept.within;
     }
 
 pub leave_arrays-requires-clause-stands : goal.leave_arrays-requires-clause-stands
@@ -34,7 +29,7 @@ leave_arrays-requires-clause-stands c =
     let n = c.read_numbers-numbers in
     let end = n.ensures.ended c.if-numbers.true in
     stands_on r.stands (flat_left r.stands r.begins r.within r.bracket r.shallow c.open_array.ensures n.ensures.leads
-    c.close_token.new.tokens c.len-index.ensures.value c.close_token.ensures.closed c.push_and_pop.ensures.peak
+    _ c.len-index.ensures.value c.close_token.ensures.closed c.push_and_pop.ensures.peak
     end.after end.within end.bracket c.push_and_pop.ensures.within c.close_token.ensures.tokens)
 
 pub leave_arrays-requires-clause-array : goal.leave_arrays-requires-clause-array
@@ -51,7 +46,7 @@ returns-then-numbers-clause-answer c = λ t0 s0 z.
     let n = c.read_numbers-numbers in
     let end = n.ensures.ended c.if-numbers.true in
     c.leave_arrays.ensures.answer t0 s0 (flat_left r.stands r.begins r.within r.bracket r.shallow c.open_array.ensures
-    n.ensures.leads c.close_token.new.tokens c.len-index.ensures.value c.close_token.ensures.closed
+    n.ensures.leads _ c.len-index.ensures.value c.close_token.ensures.closed
     c.push_and_pop.ensures.peak end.after end.within end.bracket c.push_and_pop.ensures.within
     c.close_token.ensures.tokens t0 s0 z)
 
@@ -64,17 +59,14 @@ pub returns-clause-answer : goal.returns-clause-answer
 returns-clause-answer c = λ t0 s0 z.
     let r = c.requires in
     let n = c.read_numbers-numbers in
-    let ts = c.args.tokens.now in
-    let ks = c.args.stack.now in
     let e = rw c.len-index.ensures.value at c.push_reserved.ensures in
-    standing_stack ks c.push_reserved.new.self (length ts.elements) e
+    standing_stack _ _ (length _) e
     (flat_read r.stands r.begins r.within r.bracket r.shallow c.open_array.ensures n.ensures.leads t0 s0 z)
 
 pub returns-clause-array : goal.returns-clause-array
 returns-clause-array c = λ t.
     let r = c.requires in
     let n = c.read_numbers-numbers in
-    let ks = c.args.stack.now in
     let a = flat_innermost r.stands r.begins r.within r.bracket r.shallow c.open_array.ensures n.ensures.leads in
     let e = rw c.len-index.ensures.value at c.push_reserved.ensures in
     (rw e.elements a, n.ensures.begins c.if-numbers.false)

@@ -1,4 +1,4 @@
-use Rattle.cj_spans.proofs.Common.{◌≡◌, ℕ, ◌+◌, ◌^◌, ◌/◌, ◌⊎◌, inl, inr, subst, arith, w64, AreMarked, ReadsNumbers}
+use Rattle.cj_spans.proofs.Common.{◌≡◌, ℕ, ◌+◌, ◌^◌, ◌/◌, ◌⊎◌, inl, inr, subst, arith, w64, AreMarked, ReadsNumbers, rules}
 use Rattle.std.specs.Int.{trailing_zeros}
 use Rattle.cj_spans.proofs.Blocks.{first_mark, block_number}
 use Rattle.cj_spans.proofs.Leads.{reads_on, stands_leads}
@@ -15,9 +15,7 @@ keep_number-numbers-requires-clause-number c =
     block_number m c.if-digits-eq0.false (stands_alone _ _ c.if-digits-ne1.either)
 
 pub returns-then-numbers : goal.returns-then-numbers
-returns-then-numbers c =
-    let l = c.loop-others in
-    reads_on l.invariant.reads c.keep_number-numbers.ensures.reads
+returns-then-numbers c = search (rules, reads_on)
 
 pub overflow_shr-others : goal.overflow_shr-others
 overflow_shr-others c =

@@ -1,11 +1,9 @@
-use Rattle.cj_spans.proofs.Common.{subst, ReadsNumbers}
+use Rattle.cj_spans.proofs.Common.{subst, ReadsNumbers, rules}
 use Rattle.cj_spans.proofs.Leads.{reads_on, stands_leads}
 use Rattle.cj_spans.proofs.arrays.read_numbers.Goals as goal
 
 pub returns-then-numbers : goal.returns-then-numbers
-returns-then-numbers c =
-    let l = c.loop-next in
-    reads_on l.invariant.reads c.read_some-numbers.ensures
+returns-then-numbers c = search (rules, reads_on)
 
 pub loop-next-preserved : goal.loop-next-preserved
 loop-next-preserved c =

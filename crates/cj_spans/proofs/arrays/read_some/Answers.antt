@@ -1,11 +1,9 @@
-use Rattle.cj_spans.proofs.Common.{subst, ReadsNumbers}
+use Rattle.cj_spans.proofs.Common.{subst, ReadsNumbers, rules}
 use Rattle.cj_spans.proofs.Leads.{reads_on, stands_leads}
 use Rattle.cj_spans.proofs.arrays.read_some.Goals as goal
 
 pub read_number-requires-2-clause-stands : goal.read_number-requires-2-clause-stands
-read_number-requires-2-clause-stands c =
-    let n = c.read_block-numbers in
-    stands_leads c.requires.stands n.ensures.leads
+read_number-requires-2-clause-stands c = search (rules, stands_leads)
 
 pub returns : goal.returns
 returns c =

@@ -1,3 +1,4 @@
+use Rattle.cj_spans.proofs.Common.{rules}
 use Rattle.cj_spans.proofs.Scalars.{goes_same, reads_far, reads_quote}
 use Rattle.cj_spans.proofs.atom.read_string.Goals as goal
 
@@ -7,6 +8,4 @@ returns-then-ends_string c =
     reads_far (goes_same s.same s.order s.end) (reads_quote b k (c.ends_string.ensures c.if-ends_string.true))
 
 pub returns : goal.returns
-returns c =
-    let s = c.skip_plain-stop.ensures in
-    reads_far (goes_same s.same s.order s.end) c.read_escapes.ensures
+returns c = search (rules, reads_far, goes_same)

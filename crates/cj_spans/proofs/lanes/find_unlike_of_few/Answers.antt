@@ -1,18 +1,9 @@
-use Rattle.cj_spans.proofs.Common.{arith}
+use Rattle.cj_spans.proofs.Common.{rules}
 use Rattle.cj_spans.proofs.Vectors.{all_alike, few_alike, front_alike}
 use Rattle.cj_spans.proofs.lanes.find_unlike_of_few.Goals as goal
 
 pub returns-then-unlike-eq0-clause-none : goal.returns-then-unlike-eq0-clause-none
-returns-then-unlike-eq0-clause-none c =
-    all_alike 8 c.args.bytes.now c.args.place c.args.others.now c.args.other_place (omega arith) c.requires.first
-    c.requires.second c.if-unlike-eq0.true
+returns-then-unlike-eq0-clause-none c = search (rules, all_alike)
 
 pub returns-else-unlike-eq0-clause-found : goal.returns-else-unlike-eq0-clause-found
-returns-else-unlike-eq0-clause-found c =
-    let bytes = c.args.bytes.now in
-    let others = c.args.others.now in (
-      few_alike 8 bytes c.args.place others c.args.other_place (omega arith) c.requires.first c.requires.second
-          c.if-unlike-eq0.false,
-      front_alike 8 bytes c.args.place others c.args.other_place (omega arith) c.requires.first
-          c.requires.second c.if-unlike-eq0.false,
-    )
+returns-else-unlike-eq0-clause-found c = search (rules, few_alike, front_alike)

@@ -3,4 +3,4 @@ use Rattle.cj_spans.proofs.Letters.{all_ascii}
 use Rattle.cj_spans.proofs.lanes.is_ascii_block.Goals as goal
 
 pub returns : goal.returns
-returns c = λ h. all_ascii 64 c.args.line.now c.args.place (omega arith) c.requires (eqb-true _ _ h)
+returns c = λ h. all_ascii 64 _ _ (omega arith) c.requires (eqb-true _ _ h)

@@ -8,7 +8,3 @@ pub returns-clause-told : goal.returns-clause-told
 unfolding text
 returns-clause-told c = λ s h u. let r = text_told h u in
     subst (StandFor (chars (body_of s))) (sym (stands_once r.1)) r.1
-
-pub returns-clause-only : goal.returns-clause-only
-unfolding text
-returns-clause-only c = λ s ps h. sym (stands_once h)

@@ -10,7 +10,7 @@ returns-then-ends_string c =
     record {
       opens = c.if-line-place-ne34.false;
       goes = read_more _ _ _
-          (c.skip_plain-stop.ensures.same _ _ (read_first c.args.line.now c.args.place InString)) refl
+          (c.skip_plain-stop.ensures.same _ _ (read_first _ _ InString)) refl
           (sym (ap (lex_step InString) q.1));
       order = omega arith;
       within = omega arith;

@@ -6,8 +6,7 @@ use Rattle.cj_spans.proofs.mark.set_mark.Goals as goal
 -- the elements afterwards
 become : (c : goal.After-set)
     → c.set.new.self.elements ≡ slice_set c.args.tokens.now.elements c.args.number (with_mark c.token_at-token.result)
-become c = ap (λ b. b.elements) c.set.ensures.set
-    ∙ ap (slice_set c.args.tokens.now.elements c.args.number) c.with_mark.ensures
+become c = ap (λ b. b.elements) c.set.ensures.set ∙ ap (slice_set _ _) c.with_mark.ensures
 
 pub returns : goal.returns
 returns c = record {

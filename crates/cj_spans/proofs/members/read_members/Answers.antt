@@ -1,4 +1,4 @@
-use Rattle.cj_spans.proofs.Common.{arith, refl, subst, sym, rules, Ready, Inner, Standing, IsInside}
+use Rattle.cj_spans.proofs.Common.{arith, refl, rules, Ready}
 use Rattle.cj_spans.proofs.Nested.{stands_on, stands_small, stands_within, stands_room, stands_reserved, opens_array, opens_object, standing_opened, opened_in, standing_refused}
 use Rattle.cj_spans.proofs.Leads.{leads_from, stands_from, innermost_from, stands_inside}
 use Rattle.cj_spans.proofs.members.read_members.Goals as goal
@@ -42,7 +42,7 @@ loop-next-preserved-then-stands_at c =
     let from = leads_from l.stack l.invariant.object n.ensures.leads c.in-Ready.is in
     let h = c.stands_at.ensures c.if-stands_at.true in
     let order = l.invariant.order in let more = n.ensures.order in
-    let go = standing_opened opens_object c.args.line.now Ready c.in-Ok.ensures tt h.0 h.1 in
+    let go = standing_opened opens_object _ Ready c.in-Ok.ensures tt h.0 h.1 in
     record {
       stands = stands_on s go;
       answer = λ ts ks z. go ts ks (from ts ks (l.invariant.answer ts ks z));
@@ -51,25 +51,16 @@ loop-next-preserved-then-stands_at c =
     }
 
 pub returns-in-Ok-open : goal.returns-in-Ok-open
-returns-in-Ok-open c = record {
-  answer =
-      λ ts ks z.
-      let l = c.loop-next in
-      let from = leads_from l.stack l.invariant.object c.pass_name-named.ensures.leads c.in-Ready.is in
-      let h = c.stands_at-else-stands_at.ensures c.if-stands_at-2.true in
-      let o = c.open-then-stands_at-2.new in
-      let go = standing_opened opens_array c.args.line.now Ready c.in-Ok-open.ensures tt h.0 h.1 ts ks
-      (from ts ks (l.invariant.answer ts ks z)) in
-      subst (λ (x : Inner). Standing c.args.line.now ts ks o.tokens o.stack x.next.mode x.next.place)
-      (sym c.in_array.ensures) go;
-  array =
-      let o = c.open-then-stands_at-2.new in
-      subst (IsInside o.tokens o.stack) (sym c.in_array.ensures) (λ t. (
-        opened_in opens_array c.in-Ok-open.ensures,
-        tt,
-      ));
-  order = search rules;
-}
+returns-in-Ok-open c =
+    let l = c.loop-next in
+    let from = leads_from l.stack l.invariant.object c.pass_name-named.ensures.leads c.in-Ready.is in
+    let h = c.stands_at-else-stands_at.ensures c.if-stands_at-2.true in
+    let go = standing_opened opens_array _ Ready c.in-Ok-open.ensures tt h.0 h.1 in
+    record {
+      answer = λ ts ks z. rw c.in_array.ensures (go ts ks (from ts ks (l.invariant.answer ts ks z)));
+      array = rw c.in_array.ensures (λ t. (opened_in opens_array c.in-Ok-open.ensures, tt));
+      order = search rules;
+    }
 
 pub returns-in-Err-open-clause-answer : goal.returns-in-Err-open-clause-answer
 returns-in-Err-open-clause-answer c = λ ts ks z.

@@ -1,12 +1,10 @@
-use Rattle.cj_spans.proofs.Common.{arith, suc, subst, sym, InArray, InObject}
+use Rattle.cj_spans.proofs.Common.{arith, rules, suc, subst, sym, InArray, InObject}
 use Rattle.cj_spans.proofs.Standing.{standing_first, standing_small, standing_room, standing_step, standing_law, standing_fault, stepped_small, stepped_room, stepped_on, stepped_law, stepped_fault, ended_law, ended_fault, not_so}
 use Rattle.cj_spans.proofs.Signs.{array_next, object_next, values_next, names_next}
 use Rattle.cj_spans.proofs.scanner.run.Goals as goal
 
 pub loop-place-init : goal.loop-place-init
-loop-place-init c =
-    standing_first c.args.line.now c.args.tokens.now c.args.stack.now c.requires.lists.0 c.requires.lists.1
-    c.requires.empty.0 c.requires.empty.1
+loop-place-init c = search (rules, standing_first)
 
 pub read_byte-requires : goal.read_byte-requires
 read_byte-requires c =
@@ -23,7 +21,7 @@ returns-in-Err c =
     let s = c.loop-place.invariant in
     let e = c.in-Err.ensures in
     record {
-      answer = standing_fault s (Unit {0}) c.read_byte.new.tokens c.in-Err.fault c.loop-place-test.true e.answer
+      answer = standing_fault s (Unit {0}) _ _ c.loop-place-test.true e.answer
           e.err.1;
       law = standing_law s e.tokens e.stack e.err.0 e.err.1;
     }
@@ -32,7 +30,7 @@ pub follow-requires : goal.follow-requires
 follow-requires c =
     let e = c.in-Ok.ensures in
     let t = c.loop-place-test.true in
-    let s = standing_step c.loop-place.invariant c.in-Ok.taken t e.tokens e.stack e.answer in
+    let s = standing_step c.loop-place.invariant _ t e.tokens e.stack e.answer in
     let q = stepped_small s c.requires.short t in
     record {
       small = (omega arith, q.1);
@@ -46,10 +44,10 @@ pub returns-in-Err-follow : goal.returns-in-Err-follow
 returns-in-Err-follow c =
     let e = c.in-Ok.ensures in
     let f = c.in-Err-follow in
-    let s = standing_step c.loop-place.invariant c.in-Ok.taken c.loop-place-test.true e.tokens e.stack e.answer in
+    let s = standing_step c.loop-place.invariant _ c.loop-place-test.true e.tokens e.stack e.answer in
     record {
-      answer = stepped_fault s (Unit {0}) c.follow.new.tokens f.fault
-          (λ p. f.ensures.answer c.read_byte.new.stack.elements p);
+      answer = stepped_fault s (Unit {0}) _ f.fault
+          (f.ensures.answer _);
       law = stepped_law s c.loop-place-test.true f.ensures.tokens f.ensures.err;
     }
 
@@ -64,19 +62,19 @@ pass_parts-requires c =
       stands = record {
         tokens0 = c.args.tokens.now;
         stack0 = c.args.stack.now;
-        standing = stepped_on (standing_step l.invariant c.in-Ok.taken c.loop-place-test.true e.tokens e.stack
-            e.answer) c.in-Ok-follow.next f.tokens (λ p. f.answer new.stack.elements p);
-        room = record { short = c.requires.short; room = c.requires.room; reserved = c.requires.reserved };
+        standing = stepped_on (standing_step l.invariant _ c.loop-place-test.true e.tokens e.stack
+            e.answer) _ f.tokens (f.answer new.stack.elements);
+        room = search rules;
       };
       array = λ h.
           let q = f.signs (values_next _ _ h) in
           let a = array_next l.stack.elements new.stack.elements l.tokens.elements new.tokens.elements l.place 0
-          (suc l.place) _ l.mode _ c.in-Ok.taken h (e.answer 0) in
+          (suc l.place) _ l.mode _ _ h (e.answer 0) in
           (subst (λ t. InArray new.stack.elements t.elements) (sym q.0) a, q.1);
       object = λ h.
           let q = f.names (names_next _ _ h) in
           let o = object_next l.stack.elements new.stack.elements l.tokens.elements new.tokens.elements l.place 0
-          (suc l.place) _ l.mode _ c.in-Ok.taken h (e.answer 0) in
+          (suc l.place) _ l.mode _ _ h (e.answer 0) in
           subst (λ t. InObject new.stack.elements t.elements) (sym q) o;
     }
 
@@ -90,17 +88,17 @@ pub loop-place-preserved : goal.loop-place-preserved
 loop-place-preserved c =
     let e = c.in-Ok.ensures in
     let f = c.in-Ok-follow.ensures in
-    let s = stepped_on (standing_step c.loop-place.invariant c.in-Ok.taken c.loop-place-test.true e.tokens e.stack
-    e.answer) c.in-Ok-follow.next f.tokens (λ p. f.answer c.read_byte.new.stack.elements p) in
-    c.in-Ok-pass_parts.ensures.answer c.args.tokens.now c.args.stack.now s
+    let s = stepped_on (standing_step c.loop-place.invariant _ c.loop-place-test.true e.tokens e.stack
+    e.answer) _ f.tokens (f.answer _) in
+    c.in-Ok-pass_parts.ensures.answer _ _ s
 
 pub returns-in-Err-pass_parts : goal.returns-in-Err-pass_parts
 returns-in-Err-pass_parts c =
     let e = c.in-Ok.ensures in
     let f = c.in-Ok-follow.ensures in
-    let s = stepped_on (standing_step c.loop-place.invariant c.in-Ok.taken c.loop-place-test.true e.tokens e.stack
-    e.answer) c.in-Ok-follow.next f.tokens (λ p. f.answer c.read_byte.new.stack.elements p) in
-    let r = c.in-Err-pass_parts.ensures.answer c.args.tokens.now c.args.stack.now s in
+    let s = stepped_on (standing_step c.loop-place.invariant _ c.loop-place-test.true e.tokens e.stack
+    e.answer) _ f.tokens (f.answer _) in
+    let r = c.in-Err-pass_parts.ensures.answer _ _ s in
     record { answer = r.0; law = r.1 }
 
 pub returns-then-is_end-clause-law : goal.returns-then-is_end-clause-law

@@ -4,10 +4,10 @@ use Rattle.cj_spans.proofs.utf8.check_from.Goals as goal
 
 pub returns-in-Ok-clause-ok : goal.returns-in-Ok-clause-ok
 returns-in-Ok-clause-ok c =
-    front_and_rest c.args.line.now c.args.from c.requires.within c.requires.utf8
+    front_and_rest _ _ c.requires.within c.requires.utf8
     (rw take_rest at c.in-Ok.ensures.cases.1)
 
 pub returns-in-Err-clause-err : goal.returns-in-Err-clause-err
 returns-in-Err-clause-err c =
-    valid_after c.args.line.now c.args.from c.valid_up_to.result c.requires.within c.requires.utf8
+    valid_after _ _ _ c.requires.within c.requires.utf8
     (rw (c.valid_up_to.ensures) (rw take_rest at c.in-Err.ensures.cases.1))

@@ -9,13 +9,12 @@ unfolding members_left
 returns-in_default c = c.find_from.ensures
 
 pub returns-then-place-eq0 : goal.returns-then-place-eq0
-returns-then-place-eq0 c =
-    found_none (chars c.args.name.now) c.in-Some.slot c.requires c.in-Some.ensures.slot c.if-place-eq0.true
+returns-then-place-eq0 c = found_none (chars _) c.in-Some.slot c.requires c.in-Some.ensures.slot c.if-place-eq0.true
 
 pub returns-then-not-is_spelled : goal.returns-then-not-is_spelled
 returns-then-not-is_spelled c =
     c.find_from-then-not-is_spelled.ensures
-    ∙ found_from (chars c.args.name.now) c.in-Some.slot c.requires c.in-Some.ensures.slot (omega arith)
+    ∙ found_from (chars _) c.in-Some.slot c.requires c.in-Some.ensures.slot (omega arith)
 
 pub invariant_of-value : goal.invariant_of-value
 invariant_of-value c =
@@ -23,7 +22,7 @@ invariant_of-value c =
     let s = w.source in
     let h = c.requires.places c.in-Some.slot (omega arith) in
     let whole = h.whole.0 in
-    let a = at_name s (get_or c.args.places.now c.in-Some.slot 0) w.stop h.whole h.named h.within in
+    let a = at_name s (get_or _ c.in-Some.slot 0) w.stop h.whole h.named h.within in
     let v = a.value in
     record { known = omega arith }
 

@@ -1,4 +1,4 @@
-use Rattle.cj_spans.proofs.Common.{◌+◌, ◌∙◌, map, ap, sym, subst, arith, false≢true, are_apart, spans_of, Tree, tree, tree_at, members_left, pairs_of}
+use Rattle.cj_spans.proofs.Common.{◌+◌, ◌∙◌, map, ap, sym, subst, arith, false≢true, are_apart, spans_of, Tree, tree, tree_at, members_left, pairs_of, common_steps}
 use Rattle.cj_spans.specs.inner.Noted.{AreNoted, IsPlace, is_noted, members_from}
 use Rattle.cj_spans.proofs.Noted.{noted_on, apart_on, noted_none}
 use Rattle.cj_spans.proofs.Walks.{at_name, member_on, shown_none, whole_later, number_linked}
@@ -26,13 +26,7 @@ overflow_cast-next c =
     let l = number_linked s c.loop-next.next (omega arith) in omega arith
 
 pub after-next-requires : goal.after-next-requires
-after-next-requires c =
-    let s = c.args.self.source in
-    let i = c.loop-next.invariant in
-    let whole = i.whole.0 in
-    let a = at_name s c.loop-next.next c.args.self.stop i.whole i.named c.loop-next-test.true in
-    let v = a.value in
-    omega arith
+after-next-requires c = grind (arith, common_steps, at_name)
 
 pub loop-next-preserved : goal.loop-next-preserved
 unfolding tree
@@ -55,27 +49,16 @@ loop-next-preserved c =
       whole = whole_later s next r w.stop (omega arith) i.whole;
       named = m.named;
       noted = subst (AreNoted w (members_from w r)) (sym c.note_place.ensures.places)
-          (noted_on member (members_from w r) c.first_code.result noted code i.begun place m.shown_on);
+          (noted_on member (members_from w r) _ noted code i.begun place m.shown_on);
       apart = λ h. elim c.if-not-note_place.branch [
         | then-not-note_place t ↦ absurd (false≢true (sym t.apart-is ∙ h))
         | else-not-note_place t ↦
             i.apart (sym t.apart-is ∙ h) ∙ ap (are_apart (map is_noted ps)) m.shown_on
-            ∙ apart_on member (members_from w r) ps c.first_code.result next noted.count code i.begun
+            ∙ apart_on member (members_from w r) ps _ next noted.count code i.begun
             (sym c.note_place.ensures.free ∙ t.if-not-note_place.false)
             ∙ ap (λ qs. are_apart (map is_noted qs) (members_from w r)) (sym c.note_place.ensures.places)
       ];
     }
 
 pub returns : goal.returns
-returns c = record {
-  noted =
-      let w = c.args.self in
-      let s = w.source in
-      rw (← ap pairs_of (shown_none s c.loop-next.next w.stop (omega arith))) c.loop-next.invariant.noted;
-  apart =
-      λ h.
-      let w = c.args.self in
-      let s = w.source in
-      c.loop-next.invariant.apart h ∙ ap (are_apart (map is_noted c.loop-next.places))
-      (ap pairs_of (shown_none s c.loop-next.next w.stop (omega arith)));
-}
+returns c = grind (arith, common_steps, pairs_of, shown_none)

@@ -1,11 +1,10 @@
-use Rattle.cj_spans.proofs.Common.{◌≡◌, true, refl, sym, subst, ◌∙◌, is_marked_at, tree, line_of, source_of, tokens_in}
+use Rattle.cj_spans.proofs.Common.{◌≡◌, true, refl, sym, subst, ◌∙◌, is_marked_at, tree, line_of, source_of, tokens_in, rules}
 use Rattle.cj_spans.proofs.Marking.{mark_of, marked_within, one_number}
 use Rattle.cj_spans.proofs.node.Node.marked.Goals as goal
 
 -- what is answered is whether the node's own token has a mark
 own : (c : goal.After-has_mark) → c.has_mark.result ≡ is_marked_at c.args.self.source.tokens.now c.args.self.index
-own c = c.has_mark.ensures
-    ∙ mark_of c.args.self.source.tokens.now c.args.self.index c.token_at.result c.token_at.ensures
+own c = search (rules, mark_of)
 
 pub returns : goal.returns
 unfolding tree line_of source_of tokens_in

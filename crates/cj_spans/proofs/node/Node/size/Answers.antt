@@ -4,9 +4,8 @@ use Rattle.cj_spans.proofs.node.Node.size.Goals as goal
 
 pub overflow_cast-result : goal.overflow_cast-result
 overflow_cast-result c = let n = c.args.self in
-    omega (arith, linked_size n.source n.index c.after.result n.known c.after.ensures.link)
+    omega (arith, linked_size n.source n.index _ n.known c.after.ensures.link)
 
 pub returns : goal.returns
 unfolding tree
-returns c = let n = c.args.self in
-    omega (arith, linked_size n.source n.index c.after.result n.known c.after.ensures.link)
+returns c = let n = c.args.self in omega (arith, linked_size n.source n.index _ n.known c.after.ensures.link)

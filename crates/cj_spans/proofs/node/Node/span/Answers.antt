@@ -7,17 +7,17 @@ pub returns : goal.returns
 unfolding tree line_of
 returns c = record {
   order = search rules;
-  within = (c.args.self.source.within c.args.self.index c.token_at-token.result c.token_at-token.ensures).1;
+  within = (c.args.self.source.within _ _ c.token_at-token.ensures).1;
   spelling =
       let s = c.args.self.source in
-      spelling_shown s.line.now s.tokens.now c.args.self.index c.token_at-token.result c.token_at-token.ensures;
+      spelling_shown s.line.now s.tokens.now _ _ c.token_at-token.ensures;
   kind =
       let s = c.args.self.source in
-      kind_shown s.line.now s.tokens.now c.args.self.index c.token_at-token.result c.token_at-token.ensures refl;
+      kind_shown s.line.now s.tokens.now _ _ c.token_at-token.ensures refl;
   number =
       λ is.
       let s = c.args.self.source in
       let token = c.token_at-token.result in
-      told_number _ ((s.spelled c.args.self.index token c.token_at-token.ensures).0
-      (kind_shown s.line.now s.tokens.now c.args.self.index token {r = _} c.token_at-token.ensures refl ∙ is));
+      told_number _ ((s.spelled _ token c.token_at-token.ensures).0
+      (kind_shown s.line.now s.tokens.now _ token {r = _} c.token_at-token.ensures refl ∙ is));
 }

@@ -8,7 +8,7 @@ returns c = record {
   order =
       let s = c.args.self in
       let t = c.token_at.result in
-      let l = s.linked c.args.index t c.token_at.ensures in
+      let l = s.linked _ t c.token_at.ensures in
       let d = drop (c.args.index + 1) s.tokens.now in
       let e = before_length t.stop d in
       let f = length-drop (c.args.index + 1) s.tokens.now in
@@ -17,7 +17,7 @@ returns c = record {
       λ t h.
       let s = c.args.self in
       let u = c.token_at.result in
-      let l = s.linked c.args.index u c.token_at.ensures in
+      let l = s.linked _ u c.token_at.ensures in
       l ∙ ap (λ (v : Token). c.args.index + 1 + before v.stop (drop (c.args.index + 1) s.tokens.now))
       (some_same u t (sym c.token_at.ensures ∙ h));
 }

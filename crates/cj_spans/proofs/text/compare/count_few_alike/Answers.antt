@@ -4,7 +4,7 @@ use Rattle.cj_spans.proofs.text.compare.count_few_alike.Goals as goal
 
 pub returns-in-Some-find_unlike_of_few : goal.returns-in-Some-find_unlike_of_few
 returns-in-Some-find_unlike_of_few c =
-    let first = alike_first c.args.bytes.now c.args.place c.args.others.now c.args.other_place 8 (omega arith)
+    let first = alike_first _ _ _ _ 8 (omega arith)
     (omega arith) c.in_default.ensures.none in
     let few = c.in-Some-find_unlike_of_few.ensures.found.0 in
     alike_more (c.args.room - 8) c.in-Some-find_unlike_of_few.more first (omega arith) refl (omega arith)
@@ -12,6 +12,6 @@ returns-in-Some-find_unlike_of_few c =
 
 pub returns-in-None : goal.returns-in-None
 returns-in-None c =
-    let first = alike_first c.args.bytes.now c.args.place c.args.others.now c.args.other_place 8 (omega arith)
+    let first = alike_first _ _ _ _ 8 (omega arith)
     (omega arith) c.in_default.ensures.none in
     alike_more (c.args.room - 8) 8 first (omega arith) (omega arith) (omega arith) (omega arith) c.in-None.ensures.none
