@@ -1,5 +1,5 @@
 -- The maps that a header shows are of numbers that it has, and so are the numbers of a feature's vertices.
-use Rattle.cj_feature.proofs.Common.{Bool, IfSome, List, None, Number, Option, Some, Tree, [], and_parts, ap, arith, begins_whole, chars, codes, drop, false, is_vertex, length, list_all, map, number_on, option_map, refl, subst, suc, sym, true, units_of, vertex_of, zero, ℕ, ℤ, ◌<◌, ◌∙◌, ◌∷◌, ◌≡◌}
+use Rattle.cj_feature.proofs.Common.{Bool, IfSome, List, None, Number, Option, Some, Tree, [], and_parts, arith, begins_whole, chars, codes, drop, false, is_vertex, length, list_all, map, number_on, option_map, refl, suc, true, units_of, vertex_of, zero, ℕ, ℤ, ◌<◌, ◌∷◌, ◌≡◌}
 use Rattle.std.proofs.Common.{get_or}
 use Rattle.cj_decimal.specs.Meaning.Affine.{AffineMap}
 use Rattle.cj_feature.specs.declared.header.reading.HeaderParts.{HeaderParts}
@@ -25,10 +25,7 @@ first-there (a ∷ b ∷ ns) (c ∷ e ∷ ms) (suc (suc axis)) d h = absurd (ome
 
 of-lists : (t : Tree) (ns ms : List Number) → transform_values (chars (codes "scale")) t ≡ map Some ns
     → transform_values (chars (codes "translate")) t ≡ map Some ms → AreThere t (maps_of t)
-of-lists t ns ms e f = record {
-  scale = λ axis d h. rw (e, f) ((first-there ns ms axis d (rw (e, f) at h)).0);
-  shift = λ axis d h. rw (e, f) ((first-there ns ms axis d (rw (e, f) at h)).1);
-}
+of-lists t ns ms e f = search (arith, first-there)
 
 shown : (b : Bool) (t : Tree) (maps : List AffineMap) → maps_if b t ≡ Some maps → maps_of t ≡ maps
 shown true t maps h = cc
@@ -36,13 +33,7 @@ shown false t maps h = absurd (cc h)
 
 -- the maps of a header's parts, if it was judged for a box
 pub if-there : (t : Tree) (parts : HeaderParts) → ArePartsOf t parts → IfSome parts.maps (λ maps. AreThere t maps)
-if-there t parts are = go parts.maps refl
-  where
-    go : (o : Option (List AffineMap)) → parts.maps ≡ o → IfSome o (λ maps. AreThere t maps)
-    go None e = tt
-    go (Some maps) e =
-        let same = shown parts.with_box t maps (sym are.maps ∙ e) in
-        subst (λ ms. AreThere t ms) same (of-lists t parts.scale parts.translate are.scale are.translate)
+if-there t parts are = search (arith, shown, of-lists)
 
 -- ---- numbers of vertices
 
@@ -59,7 +50,4 @@ pub numbers-there : (axis : ℕ) → axis < 3 → (ts : List Tree) → list_all 
     → map Some (map (number_on axis) (map vertex_of ts)) ≡ map (λ v. get_or v axis None) (map vertex_of ts)
 numbers-there axis within [] h = refl
 numbers-there axis within (t ∷ ts) h =
-    let all = and_parts (is_vertex t) (list_all is_vertex ts) h in
-    let first = number-there axis (vertex_of t) (three-begin axis (vertex_of t) all.0 within) in
-    ap (λ o. o ∷ map Some (map (number_on axis) (map vertex_of ts))) first
-    ∙ ap (λ os. get_or (vertex_of t) axis None ∷ os) (numbers-there axis within ts all.1)
+    search (arith, and_parts, number-there, three-begin, numbers-there axis within ts)

@@ -60,3 +60,7 @@ pub use Rattle.std.specs.List.{list_all, list_any}
 pub use Rattle.std.specs.Result.{result_ok}
 unfoldable pub use Rattle.std.specs.Str.{chars}
 pub use Rattle.std.specs.declared.cmp.Ordering.TheVariants.{Equal, Greater, Less}
+
+-- what was found, with the findings of those that are left, is what was found before with those of all
+abbrev pub FindsAll : {A : Type 0} → (A → List Finding) → Option Finding → List A → Option Finding → List A → Type 0
+FindsAll rule found left before all = least found (flat_map rule left) ≡ least before (flat_map rule all)

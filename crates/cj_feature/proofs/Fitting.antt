@@ -1,5 +1,5 @@
 -- Marks that fit: those of the city objects that are reached, seen from a node of the line and from its tokens.
-use Rattle.cj_feature.proofs.Common.{All-contains, AreValuesInOrder, Contains, HaveMarks, IsBeside, IsMarkedBy, IsReached, IsReachedObject, IsToMark, List, Node, Reached, Some, Tree, [], ap, arith, chars, child, codes, contains_cases, contains_none, false, false_from_ne_true, feature, inl, inr, is_reached, itself, length, line_of, member_of, members_of, refl, source_of, start_of, subst, sym, text_of, tokens_in, tree, true, ℕ, ◌<◌, ◌∙◌, ◌∷◌, ◌≡◌}
+use Rattle.cj_feature.proofs.Common.{All-contains, AreValuesInOrder, Contains, HaveMarks, IsBeside, IsMarkedBy, IsReached, IsReachedObject, IsToMark, List, Node, Reached, Some, Tree, [], ap, arith, chars, child, codes, contains_cases, contains_none, false, false_from_ne_true, feature, inl, inr, is_reached, itself, line_of, member_of, members_of, refl, source_of, start_of, subst, sym, text_of, tokens_in, tree, true, ℕ, ◌<◌, ◌∙◌, ◌∷◌, ◌≡◌}
 use Rattle.cj_feature.specs.inner.Marking.{ListMarks, MarksFit, IsUnmarked, IsNext}
 use Rattle.cj_feature.specs.ReachedMarks.{AreMarks}
 use Rattle.cj_feature.proofs.LinkFaults.{from-texts, to-listed, to-texts}
@@ -42,35 +42,20 @@ module _ (feature id objects : Tree) (i : member_of (chars (codes "id")) feature
     (o : member_of (chars (codes "CityObjects")) feature ≡ Some objects) where
   pub reached-in : (t : Tree) → IsReachedObject feature t → (name : Tree) × Contains (members_of objects) (name, t)
       × IsReached (members_of objects) id name
-  reached-in t r =
-      let same_id : r.id ≡ id = cc (r.has_id, i) in
-      let same : r.objects ≡ objects = cc (r.has_objects, o) in (
-        r.name,
-        subst (λ u. Contains (members_of u) (r.name, t)) same r.held,
-        subst (λ u. IsReached (members_of u) id r.name) same
-            (subst (λ u. IsReached (members_of r.objects) u r.name) same_id r.reached),
-      )
+  reached-in t r = search arith
 
   pub reached-out : (name t : Tree) → Contains (members_of objects) (name, t)
       → IsReached (members_of objects) id name → IsReachedObject feature t
-  reached-out name t held reached = record {
-    id = id;
-    has_id = i;
-    objects = objects;
-    has_objects = o;
-    name = name;
-    held = held;
-    reached = reached;
-  }
+  reached-out name t held reached = search arith
 
 -- the marks of a feature fit its city objects
 pub fit : (f n : Node) (id : Tree) → member_of (chars (codes "id")) (tree f) ≡ Some id
     → member_of (chars (codes "CityObjects")) (tree f) ≡ Some (tree n) → IsBeside f n
     → AreMarks (tree f) (line_of f) (tokens_in (source_of f)) → MarksFit n id
 fit f n id i o b marks = λ t. (
-  λ h. reached-in (tree f) id (tree n) i o t ((marks t).0 (marked-beside f n b t h)),
+  λ h. reached-in _ id _ i o t ((marks t).0 (marked-beside f n b t h)),
   λ name held reached.
-      marked-back f n b t ((marks t).1 (reached-out (tree f) id (tree n) i o name t held reached)),
+      marked-back f n b t ((marks t).1 (reached-out _ id _ i o _ t held reached)),
 )
 
 -- where all of the id's name have marks, and with each one that has a mark all that it lists, all that are reached have
@@ -80,12 +65,9 @@ pub all-marked : (objects : Node) (id : Tree) (main : List ℕ) → text_of id �
     → (x : List ℕ) → Reached (members_of (tree objects)) main x → (m : Tree × Tree)
     → Contains (members_of (tree objects)) m → text_of m.0 ≡ Some x → IsMarkedBy objects m.1
 all-marked objects id main t first listed x (itself i) m held named =
-    first m held (to-texts (text_of m.0) (text_of id) main named t)
+    first m held (to-texts _ _ _ named t)
 all-marked objects id main t first listed x (child a b r c i) m held named =
-    let parent = all-marked objects id main t first listed a r c.object c.held c.named in
-    listed c.object c.held parent c.item
-    (to-listed (chars (codes "children")) c.object.1 c.item c.listed) m held
-    (to-texts (text_of m.0) (text_of c.item) b named c.text)
+    search (arith, to-listed, to-texts, all-marked _ id _ t first listed a r _ c.held c.named)
 
 -- ---- the next city object to mark, among those of a feature: a node of it, and that of its city objects beside it
 module _ (f n : Node) (id : Tree) (i : member_of (chars (codes "id")) (tree f) ≡ Some id)
@@ -93,35 +75,28 @@ module _ (f n : Node) (id : Tree) (i : member_of (chars (codes "id")) (tree f) �
   to-mark : (item : Tree) (number : ℕ) (u : IsUnmarked n item number)
       → (((t : Tree) → IsMarkedBy f t → IsReachedObject (tree f) t) → IsReached (members_of (tree n)) id u.name)
       → IsToMark (tree f) (line_of f) (tokens_in (source_of f)) number
-  to-mark item number u reached =
-      let shown = shown-beside f n b number u.object u.shown in
-      record {
-        within = subst (λ s. number < length (tokens_in s)) b.1 u.within;
-        unmarked = λ h. u.unmarked (marked-back f n b u.object (subst (IsMarkedBy f) shown h));
-        reached = λ sound. subst (IsReachedObject (tree f)) (sym shown)
-            (reached-out (tree f) id (tree n) i o u.name u.object u.held (reached sound));
-      }
+  to-mark item number u reached = search (arith, shown-beside, marked-back, reached-out)
 
   pub first-to-mark : (number : ℕ) → IsUnmarked n id number
       → IsToMark (tree f) (line_of f) (tokens_in (source_of f)) number
   first-to-mark number u =
-      to-mark id number u (λ sound. own-reached (members_of (tree n)) id (u.name, u.object) u.held u.named)
+      to-mark id _ u (λ sound. own-reached _ id (u.name, u.object) u.held u.named)
 
   pub next-to-mark : (number : ℕ) → IsNext n number → IsToMark (tree f) (line_of f) (tokens_in (source_of f)) number
   next-to-mark number x =
       let u = x.listed.unmarked in
       let item = x.listed.item in
-      let text = from-texts (text_of u.name) (text_of item) u.named in
-      to-mark item number u (λ sound.
-      let r = reached-in (tree f) id (tree n) i o x.parent.1
-      (sound x.parent.1 (marked-beside f n b x.parent.1 x.marked)) in
-      child-reached (members_of (tree n)) id (r.0, x.parent.1) (u.name, u.object) item text.0 r.2 r.1 x.listed.held
+      let text = from-texts _ _ u.named in
+      to-mark _ _ u (λ sound.
+      let r = reached-in _ id _ i o _
+      (sound _ (marked-beside f n b _ x.marked)) in
+      child-reached _ id (r.0, x.parent.1) (u.name, u.object) _ _ r.2 r.1 x.listed.held
       u.held text.1 text.2)
 
   pub all-are-marked : HaveMarks n (members_of (tree n)) id → ListMarks n (members_of (tree n)) → (t : Tree)
       → IsReachedObject (tree f) t → IsMarkedBy f t
   all-are-marked first listed t r =
-      let there = reached-in (tree f) id (tree n) i o t r in
+      let there = reached-in _ id _ i o t r in
       let from = there.2 in
       marked-beside f n b t
-      (all-marked n id from.main from.from first listed from.own from.reached (there.0, t) there.1 from.named)
+      (all-marked n id _ from.from first listed _ from.reached (there.0, t) there.1 from.named)

@@ -1,16 +1,12 @@
 -- Arrays whose items are gone over before they are counted.
-use Rattle.cj_feature.proofs.Common.{Bool, Finding, List, Option, Reason, Tree, [], cond, eqb-true, false, flat_map, has_length, is_array, items_of, kind_of, least, length, nat_eq, nothing, of_kind, of_length, one, refl, true, ℕ, ◌++◌, ◌∙◌, ◌≡◌}
+use Rattle.cj_feature.proofs.Common.{Finding, List, Option, Reason, Tree, arith, eqb-true, flat_map, has_length, is_array, items_of, kind_of, least, length, nothing, of_kind, of_length, one, true, ℕ, ◌≡◌}
 use Rattle.cj_spans.proofs.Findings.{least-two, least-swap}
 use Rattle.cj_geometry.proofs.OfKind.{of_kind-then}
 
 -- another length has its reason
 other-length : (reason : Reason) (n : ℕ) (t : Tree) → (length (items_of t) ≡ n → ⊥)
     → has_length reason n t ≡ one reason t
-other-length reason n t other = go (nat_eq (length (items_of t)) n) refl
-  where
-    go : (b : Bool) → nat_eq (length (items_of t)) n ≡ b → cond b [] (one reason t) ≡ one reason t
-    go true e = absurd (other (eqb-true (length (items_of t)) n e))
-    go false e = refl
+other-length reason n t other = search (arith, eqb-true)
 
 -- the kind, then the items, and then the length
 pub of_length-late : (reason : Reason) (n : ℕ) (rule : Tree → List Finding) (t : Tree) (o p q r : Option Finding)
@@ -18,7 +14,4 @@ pub of_length-late : (reason : Reason) (n : ℕ) (rule : Tree → List Finding) 
     → q ≡ least p (flat_map rule (items_of t)) → (length (items_of t) ≡ n → ⊥) → r ≡ least q (one reason t)
     → r ≡ least o (of_length reason n rule t)
 of_length-late reason n rule t o p q r kind h k other l =
-    let late : r ≡ least q (has_length reason n t) = rw (other-length reason n t other) l in
-    of_kind-then is_array (λ u. has_length reason n u ++ flat_map rule (items_of u)) t o p r kind h
-    (least-two p q r (flat_map rule (items_of t)) (has_length reason n t) k late
-    ∙ least-swap p (flat_map rule (items_of t)) (has_length reason n t))
+    search (arith, other-length, of_kind-then, least-two, least-swap)

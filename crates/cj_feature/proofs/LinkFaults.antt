@@ -1,10 +1,10 @@
 -- Links told by tests on members, and by relations between ids: the findings are the same.
-use Rattle.cj_feature.proofs.Common.{Bool, ChildNotFound, Contains, Contains-append_cases, Contains-append_left, Contains-append_right, Finding, IsIn, Kind, LinkNotMutual, List, NoParent, None, Option, Reason, Some, Tree, [], and_parts, ap, are_same_texts, array, at_second_level, both_ways, chars, children, codes, cond, contains_cases, contains_first, contains_later, contains_none, false, false_from_ne_true, flat_map, found_at, has_item, inl, inr, is_array, is_known, is_text, items_of, kind_of, links, list_any, list_members, listed_in, lists, member, member_of, members_of, no_members, not, object, object_links, one, parent, parents, part, refl, same_text, scalar, start_of, subst, sym, text_of, true, ℕ, ◌&&◌, ◌++◌, ◌∙◌, ◌∷◌, ◌≡◌, ◌⊎◌}
+use Rattle.cj_feature.proofs.Common.{Bool, ChildNotFound, Contains, Contains-append_cases, Contains-append_left, Contains-append_right, Finding, IsIn, Kind, LinkNotMutual, List, NoParent, None, Option, Reason, Some, Tree, [], and_parts, ap, are_same_texts, arith, array, both_ways, chars, children, codes, cond, contains_cases, contains_first, contains_later, contains_none, false, false_from_ne_true, flat_map, found_at, inl, inr, is_array, is_known, is_text, items_of, kind_of, links, list_any, list_members, listed_in, lists, member, members_of, no_members, object, object_links, one, parent, parents, part, refl, same_text, scalar, start_of, sym, text_of, true, ℕ, ◌++◌, ◌∙◌, ◌∷◌, ◌≡◌, ◌⊎◌}
 use Rattle.std.specs.Cmp.Lexicographic.{bytes_decides}
 use Rattle.cj_spans.specs.declared.token.Kind.TheVariants.{Null, Truth, Number, Text, Array, Object}
 use Rattle.cj_spans.specs.Meaning.Text.{text}
 use Rattle.cj_spans.specs.Meaning.Tree.{Members}
-use Rattle.cj_feature.specs.Meaning.Links.{is_group, child, has_parent}
+use Rattle.cj_feature.specs.Meaning.Links.{is_group, child}
 use Rattle.cj_feature.specs.Meaning.Relations.{IsListed, Lists, IsLinkFault, child_not_found, child_not_mutual, parent_not_mutual, no_parent}
 use Rattle.std.proofs.lemmas.List.Folds.{Any-from_list_any, list_any_at}
 use Rattle.std.proofs.lemmas.Bool.{and_from, not-true}
@@ -13,13 +13,13 @@ use Rattle.std.specs.Option.{option_map_or}
 -- ---- elements
 
 alone : {X : Type 0} (y x : X) → Contains (y ∷ []) x → y ≡ x
-alone y x h = elim (contains_cases y [] x h) [ inl e ↦ e | inr n ↦ absurd (contains_none x n) ]
+alone y x h = search (arith, contains_cases, contains_none)
 
 from-flat_map : {X A : Type 0} (g : X → List A) (xs : List X) (a : A) → Contains (flat_map g xs) a → (x : X)
     × Contains xs x × Contains (g x) a
 from-flat_map g [] a h = absurd (contains_none a h)
 from-flat_map g (y ∷ xs) a h =
-    elim (Contains-append_cases (g y) (flat_map g xs) a h) [
+    elim (Contains-append_cases _ _ a h) [
       | inl k ↦ (y, contains_first y xs, k)
       | inr k ↦ let r = from-flat_map g xs a k in (r.0, contains_later y xs r.0 r.1, r.2)
     ]
@@ -28,10 +28,7 @@ to-flat_map : {X A : Type 0} (g : X → List A) (xs : List X) (a : A) (x : X) �
     → Contains (flat_map g xs) a
 to-flat_map g [] a x h k = absurd (contains_none x h)
 to-flat_map g (y ∷ xs) a x h k =
-    elim (contains_cases y xs x h) [
-      | inl e ↦ Contains-append_left (g y) (flat_map g xs) a (subst (λ z. Contains (g z) a) (sym e) k)
-      | inr r ↦ Contains-append_right (g y) (flat_map g xs) a (to-flat_map g xs a x r k)
-    ]
+    search (arith, contains_cases, Contains-append_left, Contains-append_right, to-flat_map g xs a x)
 
 pub from-any : {X : Type 0} (p : X → Bool) (xs : List X) → list_any p xs ≡ true → (x : X) × Contains xs x × (p x ≡ true)
 from-any p xs h = let a = Any-from_list_any p xs h in (a.1, (a.0, a.2, a.3), a.4)
@@ -46,10 +43,10 @@ by-test true xs ys x h = inl (refl, h)
 by-test false xs ys x h = inr (refl, h)
 
 when : {A : Type 0} (b : Bool) (xs : List A) (x : A) → Contains (cond b xs []) x → (b ≡ true) × Contains xs x
-when b xs x h = elim (by-test b xs [] x h) [ inl y ↦ y | inr n ↦ absurd (contains_none x n.1) ]
+when b xs x h = search (arith, by-test, contains_none)
 
 unless : {A : Type 0} (b : Bool) (xs : List A) (x : A) → Contains (cond b [] xs) x → (b ≡ false) × Contains xs x
-unless b xs x h = elim (by-test b [] xs x h) [ inl y ↦ absurd (contains_none x y.1) | inr n ↦ n ]
+unless b xs x h = search (arith, by-test, contains_none)
 
 -- and where there is a value
 where-there : {A : Type 0} (rule : Tree → List A) (o : Option Tree) (x : A) → Contains (option_map_or rule o []) x
@@ -69,7 +66,7 @@ to-texts o p t h k = rw (h, k) ((bytes_decides t t).1 refl)
 
 -- a text of the one is the text of the other
 carried : (t u : Tree) (b : List ℕ) → same_text t u ≡ true → text_of u ≡ Some b → text_of t ≡ Some b
-carried t u b h k = let r = from-texts (text_of t) (text_of u) h in r.1 ∙ (sym r.2 ∙ k)
+carried t u b h k = search (arith, from-texts)
 
 -- what is no text has none
 pub text-cases : (t : Tree) → ((kind_of t ≡ Text) × (b : List ℕ) × (text_of t ≡ Some b))
@@ -77,7 +74,7 @@ pub text-cases : (t : Tree) → ((kind_of t ≡ Text) × (b : List ℕ) × (text
 text-cases (scalar Null a) = inr (refl, refl)
 text-cases (scalar Truth a) = inr (refl, refl)
 text-cases (scalar Number a) = inr (refl, refl)
-text-cases (scalar Text a) = inl (refl, text a.spelling, refl)
+text-cases (scalar Text a) = inl (refl, text _, refl)
 text-cases (scalar Array a) = inr (refl, refl)
 text-cases (scalar Object a) = inr (refl, refl)
 text-cases (array i j ts) = inr (refl, refl)
@@ -93,8 +90,8 @@ kind-text t h = elim (text-cases t) [ inl y ↦ (y.1, y.2) | inr n ↦ absurd (c
 member-text : (ms : Members) (m : Tree × Tree) → Contains (list_members ms) m → (x : List ℕ) × (text_of m.0 ≡ Some x)
 member-text no_members m h = absurd (contains_none m h)
 member-text (member n u ms) m h =
-    elim (contains_cases (scalar Text n, u) (list_members ms) m h) [
-      | inl e ↦ (text n.spelling, ap (λ z. text_of z.0) (sym e))
+    elim (contains_cases (scalar _ n, u) _ m h) [
+      | inl e ↦ (text _, ap (λ z. text_of z.0) (sym e))
       | inr k ↦ member-text ms m k
     ]
 
@@ -114,14 +111,12 @@ array-kind Array h = refl
 array-kind Object h = cc
 
 items-kind : (t item : Tree) → Contains (items_of t) item → kind_of t ≡ Array
-items-kind (scalar k a) item h = absurd (contains_none item h)
+items-kind (scalar k a) item h = absurd (contains_none _ h)
 items-kind (array i j ts) item h = refl
-items-kind (object i j ms) item h = absurd (contains_none item h)
+items-kind (object i j ms) item h = absurd (contains_none _ h)
 
 pub from-listed : (list : List ℕ) (o item : Tree) → Contains (listed_in list o) item → IsListed list o item
-from-listed list o item h =
-    let u = where-there items_of (member_of list o) item h in
-    record { array = u.0; member = u.1; kind = items-kind u.0 item u.2; held = u.2 }
+from-listed list o item h = search (arith, where-there, items-kind)
 
 pub to-listed : (list : List ℕ) (o item : Tree) → IsListed list o item → Contains (listed_in list o) item
 to-listed list o item h = rw h.member h.held
@@ -129,44 +124,25 @@ to-listed list o item h = rw h.member h.held
 -- what is no text is no id
 pub known-text : (objects : List (Tree × Tree)) (id : Tree) → is_known objects id ≡ true → (b : List ℕ)
     × (text_of id ≡ Some b) × IsIn objects b
-known-text objects id h =
-    let r = from-any (λ m. same_text m.0 id) objects h in
-    let t = from-texts (text_of r.0.0) (text_of id) r.2 in
-    (t.0, t.2, record { object = r.0; held = r.1; named = t.1 })
+known-text objects id h = search (arith, from-any, from-texts)
 
 module _ (objects : List (Tree × Tree)) where
   to-known : (id : Tree) (b : List ℕ) → text_of id ≡ Some b → IsIn objects b → is_known objects id ≡ true
-  to-known id b t h =
-      to-any (λ m. same_text m.0 id) objects h.object h.held (to-texts (text_of h.object.0) (text_of id) b h.named t)
+  to-known id b t h = search (arith, to-any, to-texts)
 
   from-lists : (list : List ℕ) (from to : Tree) (a b : List ℕ) → text_of from ≡ Some a → text_of to ≡ Some b
       → lists list objects from to ≡ true → Lists list objects a b
-  from-lists list from to a b s t h =
-      let r = from-any (λ m. same_text m.0 from && has_item (listed_in list m.1) to) objects h in
-      let both = and_parts _ _ r.2 in
-      let i = from-any (λ x. same_text x to) (listed_in list r.0.1) both.1 in
-      record {
-        object = r.0;
-        held = r.1;
-        named = carried r.0.0 from a both.0 s;
-        item = i.0;
-        listed = from-listed list r.0.1 i.0 i.1;
-        text = carried i.0 to b i.2 t;
-      }
+  from-lists list from to a b s t h = search (arith, from-any, and_parts, carried, from-listed)
 
   to-lists : (list : List ℕ) (from to : Tree) (a b : List ℕ) → text_of from ≡ Some a → text_of to ≡ Some b
       → Lists list objects a b → lists list objects from to ≡ true
-  to-lists list from to a b s t h =
-      to-any (λ m. same_text m.0 from && has_item (listed_in list m.1) to) objects h.object h.held
-      (and_from _ _ (to-texts (text_of h.object.0) (text_of from) a h.named s)
-      (to-any (λ x. same_text x to) (listed_in list h.object.1) h.item (to-listed list h.object.1 h.item h.listed)
-      (to-texts (text_of h.item) (text_of to) b h.text t)))
+  to-lists list from to a b s t h = search (arith, to-any, and_from, to-texts, to-listed)
 
 -- ---- each finding of the list is a fault by the relations
 
 told : (objects : List (Tree × Tree)) (r : Reason) (t : Tree) (f : Finding) → Contains (one r t) f
     → IsLinkFault objects (found_at (start_of t) r) → IsLinkFault objects f
-told objects r t f h fault = subst (IsLinkFault objects) (alone (found_at (start_of t) r) f h) fault
+told objects r t f h fault = search (arith, alone)
 
 module _ (t : Tree) (m : Tree × Tree) (f : Finding) (held : Contains (members_of t) m) where
   from-child : (item : Tree) → is_group m.1 ≡ false → IsListed (chars (codes "children")) m.1 item
@@ -193,25 +169,25 @@ module _ (t : Tree) (m : Tree × Tree) (f : Finding) (held : Contains (members_o
       → Contains (parent (members_of t) m.0 item) f → IsLinkFault (members_of t) f
   from-parent item listed h =
       let objects = members_of t in
-      let known = when (is_known objects item) _ f h in
-      let is = known-text objects item known.0 in
+      let known = when _ _ f h in
+      let is = known-text _ _ known.0 in
       let name = names-text t m held in
-      let back = unless (lists (chars (codes "children")) objects item m.0) _ f known.1 in
-      told objects LinkNotMutual item f back.1
-      (parent_not_mutual m item is.0 name.0 held listed name.1 is.1 is.2
-      (λ p. both_ways _ back.0 (to-lists objects (chars (codes "children")) item m.0 is.0 name.0 is.1 name.1 p)))
+      let back = unless _ _ f known.1 in
+      told _ _ item f back.1
+      (parent_not_mutual m _ _ _ held listed name.1 is.1 is.2
+      (λ p. both_ways _ back.0 (to-lists _ _ _ m.0 _ _ is.1 name.1 p)))
 
   from-part : Contains (part (members_of t) m) f → IsLinkFault (members_of t) f
   from-part h =
       let objects = members_of t in
-      let at = when (at_second_level m.1) _ f h in
-      let u = where-there (has_parent objects m.1) (member_of (chars (codes "parents")) m.1) f at.1 in
-      let none = when (is_array (kind_of u.0) && not (list_any (is_known objects) (items_of u.0))) _ f u.2 in
+      let at = when _ _ f h in
+      let u = where-there _ _ f at.1 in
+      let none = when _ _ f u.2 in
       let both = and_parts _ _ none.0 in
-      told objects NoParent m.1 f none.1
-      (no_parent m u.0 held at.0 u.1 (array-kind (kind_of u.0) both.0)
+      told _ _ m.1 f none.1
+      (no_parent m u.0 held at.0 u.1 (array-kind _ both.0)
       (λ item a k s is. both_ways _ (not-true _ both.1)
-      (to-any (is_known objects) (items_of u.0) item k (to-known objects item a s is))))
+      (to-any _ _ _ k (to-known _ _ a s is))))
 
   from-object : Contains (object_links (members_of t) m) f → IsLinkFault (members_of t) f
   from-object h =
@@ -234,7 +210,7 @@ module _ (t : Tree) (m : Tree × Tree) (f : Finding) (held : Contains (members_o
 module _ (t : Tree) where
   pub from-links : (f : Finding) → Contains (links (Some t)) f → IsLinkFault (members_of t) f
   from-links f h =
-      let r = from-flat_map (object_links (members_of t)) (members_of t) f h in
+      let r = from-flat_map _ _ f h in
       from-object t r.0 f r.1 r.2
 
   to-children : (f : Finding) (m : Tree × Tree) (item : Tree) → Contains (members_of t) m → is_group m.1 ≡ false
@@ -242,60 +218,54 @@ module _ (t : Tree) where
       → Contains (child (members_of t) m.0 item) f → Contains (links (Some t)) f
   to-children f m item held other listed h =
       let objects = members_of t in
-      let all = to-flat_map (child objects m.0) (listed_in (chars (codes "children")) m.1) f item
-      (to-listed (chars (codes "children")) m.1 item listed) h in
+      let all = to-flat_map _ _ f _
+      (to-listed _ m.1 _ listed) h in
       let mine : Contains (children objects m) f = rw other all in
-      to-flat_map (object_links objects) objects f m held
-      (Contains-append_left (children objects m ++ parents objects m) (part objects m) f
-      (Contains-append_left (children objects m) (parents objects m) f mine))
+      to-flat_map _ _ f m held
+      (Contains-append_left _ _ f
+      (Contains-append_left _ _ f mine))
 
   to-parents : (f : Finding) (m : Tree × Tree) (item : Tree) → Contains (members_of t) m
       → IsListed (chars (codes "parents")) m.1 item
       → Contains (parent (members_of t) m.0 item) f → Contains (links (Some t)) f
   to-parents f m item held listed h =
-      let objects = members_of t in
-      let mine = to-flat_map (parent objects m.0) (listed_in (chars (codes "parents")) m.1) f item
-      (to-listed (chars (codes "parents")) m.1 item listed) h in
-      to-flat_map (object_links objects) objects f m held
-      (Contains-append_left (children objects m ++ parents objects m) (part objects m) f
-      (Contains-append_right (children objects m) (parents objects m) f mine))
+      search (arith, to-flat_map, to-listed, Contains-append_left, Contains-append_right)
 
   unlisted : (list : List ℕ) (from to : Tree) (a b : List ℕ) → text_of from ≡ Some a → text_of to ≡ Some b
       → (Lists list (members_of t) a b → ⊥) → lists list (members_of t) from to ≡ false
-  unlisted list from to a b s k never =
-      false_from_ne_true _ (λ yes. never (from-lists (members_of t) list from to a b s k yes))
+  unlisted list from to a b s k never = search (arith, false_from_ne_true, from-lists)
 
   unknown : (id : Tree) (b : List ℕ) → text_of id ≡ Some b → (IsIn (members_of t) b → ⊥)
       → is_known (members_of t) id ≡ false
-  unknown id b s never = false_from_ne_true _ (λ yes.
-      let is = known-text (members_of t) id yes in
-      let same : is.0 ≡ b = cc (is.1, s) in
-      never (subst (IsIn (members_of t)) same is.2))
+  unknown id b s never = search (arith, false_from_ne_true, known-text)
 
   no-parent : (u : Tree) → ((item : Tree) (a : List ℕ) → Contains (items_of u) item → text_of item ≡ Some a
       → IsIn (members_of t) a → ⊥) → list_any (is_known (members_of t)) (items_of u) ≡ false
   no-parent u never = false_from_ne_true _ (λ yes.
-      let r = from-any (is_known (members_of t)) (items_of u) yes in
-      let is = known-text (members_of t) r.0 r.2 in
-      never r.0 is.0 r.1 is.1 is.2)
+      let r = from-any _ _ yes in
+      let is = known-text _ r.0 r.2 in
+      never r.0 _ r.1 is.1 is.2)
 
   pub to-links : (f : Finding) → IsLinkFault (members_of t) f → Contains (links (Some t)) f
   to-links f (child_not_found a item b held other listed s never) =
-      to-children _ a item held other listed (rw (text-kind item b s, unknown item b s never) (contains_first _ []))
+      to-children _ a _ held other listed (rw (text-kind _ b s, unknown _ b s never) (contains_first _ []))
   to-links f (child_not_mutual a item x b held other listed s k is never) =
-      to-children _ a item held other listed
+      to-children _ a _ held other listed
       (rw (
-        text-kind item b k,
-        to-known (members_of t) item b k is,
-        unlisted (chars (codes "parents")) item a.0 b x k s never,
+        text-kind _ b k,
+        to-known _ _ b k is,
+        unlisted _ _ a.0 b x k s never,
       ) (contains_first _ []))
   to-links f (parent_not_mutual b item a x held listed s k is never) =
-      to-parents _ b item held listed
-      (rw (to-known (members_of t) item a k is, unlisted (chars (codes "children")) item b.0 a x k s never)
+      to-parents _ b _ held listed
+      (rw (to-known _ _ a k is, unlisted _ _ b.0 a x k s never)
       (contains_first _ []))
   to-links f (no_parent b u held is at kind never) =
       let objects = members_of t in
       let mine : Contains (part objects b) (found_at (start_of b.1) NoParent) =
       rw (is, at, kind, no-parent u never) (contains_first _ []) in
-      to-flat_map (object_links objects) objects _ b held
-      (Contains-append_right (children objects b ++ parents objects b) (part objects b) _ mine)
+      to-flat_map _ _ _ b held
+      (Contains-append_right _ _ _ mine)
+
+-- told by tests, and by relations
+pub ruleset links_both_ways = (from-links, to-links)

@@ -1,5 +1,5 @@
 -- Marks set one after another.
-use Rattle.cj_feature.proofs.Common.{IsMarked, List, Token, Tree, [], ap, arith, cases_eq, cond, false, has_mark, inl, inr, is_marked_at, length, refl, spans_of, subst, suc, sym, tree_at, true, zero, ℕ, ◌+◌, ◌<◌, ◌∙◌, ◌∷◌, ◌≡◌, ◌≢◌, ◌⊎◌}
+use Rattle.cj_feature.proofs.Common.{IsMarked, List, Token, Tree, [], ap, arith, cases_eq, cond, false, has_mark, is_marked_at, length, refl, spans_of, suc, tree_at, true, zero, ℕ, ◌+◌, ◌<◌, ◌∙◌, ◌∷◌, ◌≡◌, ◌≢◌, ◌⊎◌}
 
 -- how many have no mark
 abbrev pub unmarked_count : List Token → ℕ
@@ -12,7 +12,7 @@ count-same [] [] l h = refl
 count-same [] (u ∷ us) l h = absurd (omega arith)
 count-same (t ∷ ts) [] l h = absurd (omega arith)
 count-same (t ∷ ts) (u ∷ us) l h =
-    let here : has_mark u ≡ has_mark t = h 0 in
+    let here = h 0 in
     let later = count-same ts us (omega arith) (λ k. h (suc k)) in
     ap (λ b. cond b 0 1 + unmarked_count us) here ∙ ap (λ n. cond (has_mark t) 0 1 + n) later
 
@@ -26,15 +26,15 @@ count-less (t ∷ ts) (u ∷ us) zero l w h g o =
     let later = count-same ts us (omega arith) (λ k. o (suc k) (λ e. absurd (omega arith))) in
     let a = ap (λ b. cond b 0 1 + unmarked_count us) g in
     let b = ap (λ b. cond b 0 1 + unmarked_count ts) h in
-    less (cond (has_mark u) 0 1 + unmarked_count us) (cond (has_mark t) 0 1 + unmarked_count ts) (unmarked_count us)
-    (unmarked_count ts) a b later
+    less _ _ _
+    _ a b later
   where
     less : (x y m n : ℕ) → x ≡ 0 + m → y ≡ 1 + n → m ≡ n → x < y
     less x y m n a b c = omega arith
 count-less (t ∷ ts) (u ∷ us) (suc n) l w h g o =
-    let here : has_mark u ≡ has_mark t = o 0 (λ e. absurd (omega arith)) in
+    let here = o 0 (λ e. absurd (omega arith)) in
     let later = count-less ts us n (omega arith) (omega arith) h g (λ k ne. o (suc k) (λ e. ne (omega arith))) in
-    more (cond (has_mark u) 0 1) (cond (has_mark t) 0 1) (unmarked_count us) (unmarked_count ts)
+    more _ _ _ _
     (ap (λ b. cond b 0 1) here) later
   where
     more : (x y m n : ℕ) → x ≡ y → m < n → x + m < y + n
@@ -44,9 +44,4 @@ count-less (t ∷ ts) (u ∷ us) (suc n) l w h g o =
 pub marked-more : (line : List ℕ) (ts us : List Token) (n : ℕ) (t : Tree) → spans_of us ≡ spans_of ts
     → ((k : ℕ) → k ≢ n → is_marked_at us k ≡ is_marked_at ts k) → IsMarked line us t
     → (tree_at line (spans_of ts) n ≡ t) ⊎ IsMarked line ts t
-marked-more line ts us n t s o m =
-    let shown = subst (λ ss. tree_at line ss m.number ≡ t) s m.shown in
-    elim (cases_eq m.number n) [
-      | inl e ↦ inl (subst (λ k. tree_at line (spans_of ts) k ≡ t) e shown)
-      | inr ne ↦ inr (record { number = m.number; marked = sym (o m.number ne) ∙ m.marked; shown = shown })
-    ]
+marked-more line ts us n t s o m = search (arith, cases_eq)

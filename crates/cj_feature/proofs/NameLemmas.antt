@@ -1,5 +1,5 @@
 -- Names that are noted in order.
-use Rattle.cj_feature.proofs.Common.{AreInNameOrder, Contains, Contains-append_left, Contains-permutation, Equal, Err, IsNoted, IsSought, List, Node, Noted, Ok, Result, Side, Tree, [], ap, arith, cases_lt, compare_sides, false, inl, inr, length, same_text, searchable_from_sorted, side_in, side_of, slice_set, subst, sym, take, text_of, true, ℕ, ◌+◌, ◌<◌, ◌∙◌, ◌∷◌, ◌≡◌}
+use Rattle.cj_feature.proofs.Common.{AreInNameOrder, Contains, Contains-append_left, Contains-permutation, Equal, Err, IsNoted, IsSought, List, Node, Noted, Ok, Result, Side, Tree, [], arith, cases_lt, compare_sides, false, inl, inr, length, same_text, searchable_from_sorted, side_in, side_of, slice_set, subst, sym, take, text_of, true, ℕ, ◌+◌, ◌<◌, ◌∙◌, ◌≡◌}
 use Rattle.std.proofs.Common.{get_or, is_ok, IsPermutation}
 use Rattle.std.specs.Cmp.{tied_itself}
 use Rattle.std.specs.List.Sorted.{IsBinarySearchResult}
@@ -13,11 +13,11 @@ use Rattle.cj_feature.proofs.Questions.{sides_total}
 module _ {X : Type 0} (xs : List X) (c : ℕ) (v : X) (below : c < length xs) where
   -- what is among the first ones is so with one more
   pub kept-first : (x : X) → Contains (take c xs) x → Contains (take (c + 1) (slice_set xs c v)) x
-  kept-first x h = rw (take_more_set xs c v below) (Contains-append_left (take c xs) (v ∷ []) x h)
+  kept-first x h = rw (take_more_set xs c v below) (Contains-append_left _ _ x h)
 
   -- and so is that one
   pub last-first : Contains (take (c + 1) (slice_set xs c v)) v
-  last-first = rw (take_more_set xs c v below) (Contains-push (take c xs) v)
+  last-first = rw (take_more_set xs c v below) (Contains-push _ v)
 
 module _ (objects : Node) where
   -- names in another order are the same
@@ -27,14 +27,12 @@ module _ (objects : Node) where
   -- what has the text of a noted name is noted
   noted-same : (names : List Noted) (t u : Tree) → same_text t u ≡ true → IsNoted objects names t
       → IsNoted objects names u
-  noted-same names t u same n =
-      let both = from-texts (text_of t) (text_of u) same in
-      (n.0, n.1, n.2 ∙ ap side_of (both.1 ∙ sym both.2))
+  noted-same names t u same n = search (arith, from-texts)
 
   pub sought-same : (names : Names) (t u : Tree) → same_text t u ≡ true → IsSought objects names t
       → IsSought objects names u
   sought-same Every t u same n = tt
-  sought-same (These names) t u same n = noted-same names.now t u same n
+  sought-same (These names) t u same n = noted-same _ t u same n
 
   -- no name is noted where there is none
   pub none-noted : (t : Tree) → IsNoted objects [] t → ⊥

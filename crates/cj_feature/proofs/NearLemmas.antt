@@ -1,5 +1,5 @@
 -- City objects at hand, and those that wait, told by their numbers.
-use Rattle.cj_feature.proofs.Common.{AddsNone, AreNamed, BoundedList, Contains, Contains-permutation, IsGuide, IsPermutation-sym, IsReachedObject, IsReady, Json, KeepsTokens, Knows, List, Node, ReachesName, SlotHolds, Some, Span, Token, Tree, WaitsFor, [], ap, arith, chars, codes, document_line, document_source, inl, inr, is_marked_at, length, line_of, listed_in, member_of, members_of, refl, slice_get_within, slice_set, source_of, spans_by, spans_of, subst, suc, sym, text_of, tokens_in, tree, tree_at, zero, ℕ, ◌+◌, ◌<◌, ◌∷◌, ◌≡◌, ◌≢◌, ◌⊎◌}
+use Rattle.cj_feature.proofs.Common.{AddsNone, AreNamed, BoundedList, Contains, Contains-permutation, IsGuide, IsPermutation-sym, IsReachedObject, IsReady, Json, KeepsTokens, Knows, List, Node, ReachesName, SlotHolds, Some, Span, Token, Tree, WaitsFor, [], arith, chars, codes, document_line, document_source, inl, inr, is_marked_at, line_of, listed_in, member_of, members_of, refl, slice_get_within, slice_set, source_of, spans_by, spans_of, suc, sym, text_of, tokens_in, tree, tree_at, zero, ℕ, ◌+◌, ◌<◌, ◌∷◌, ◌≡◌, ◌≢◌, ◌⊎◌, IsPermutation-put_mid}
 use Rattle.std.proofs.Common.{slice_get, replicate, IsPermutation}
 use Rattle.std.proofs.lemmas.Option.{get_or_from_slice_get, slice_get_read}
 use Rattle.cj_spans.specs.declared.node.Doc.{Doc}
@@ -23,27 +23,22 @@ set-cases [] i k v n h = absurd (cc h)
 set-cases (x ∷ xs) zero zero v n h = inl (refl, cc h)
 set-cases (x ∷ xs) zero (suc k) v n h = inr (λ e. absurd (omega arith), h)
 set-cases (x ∷ xs) (suc i) zero v n h = inr (λ e. absurd (omega arith), h)
-set-cases (x ∷ xs) (suc i) (suc k) v n h =
-    elim (set-cases xs i k v n h) [
-      | inl e ↦ inl (ap suc e.0, e.1)
-      | inr g ↦ inr (λ e. g.0 (omega arith), g.1)
-    ]
+set-cases (x ∷ xs) (suc i) (suc k) v n h = search (arith, set-cases xs i k v n h)
 
 -- what holds of each city object at hand, holds with another in one slot
 pub each-set : (P : ℕ → Type 0) (xs : List Slot) (i : ℕ) (v : Slot)
     → ((k n : ℕ) (s : Slot) → slice_get xs k ≡ Some s → IsReady s n → P n) → ((n : ℕ) → IsReady v n → P n)
     → (k n : ℕ) (s : Slot) → slice_get (slice_set xs i v) k ≡ Some s → IsReady s n → P n
-each-set P xs i v all here k n s h r =
-    elim (set-cases xs i k v s h) [ inl e ↦ here n (subst (λ t. IsReady t n) (sym e.1) r) | inr g ↦ all k n s g.1 r ]
+each-set P xs i v all here k n s h r = search (arith, set-cases)
 
 -- slots in another order are the same
 pub among-moved : {X : Type 0} (xs ys : List X) (k : ℕ) (n : X) → IsPermutation xs ys → slice_get ys k ≡ Some n
     → (j : ℕ) × (slice_get xs j ≡ Some n)
 among-moved xs ys k n moved at =
-    let there : Contains xs n =
+    let there =
     Contains-permutation ys xs n (IsPermutation-sym xs ys moved)
     (k, slice_get_within ys k n at, get_or_from_slice_get ys k n n at) in
-    (there.0, slice_get_read xs (length xs) there.0 n refl there.1 (sym there.2))
+    (there.0, slice_get_read xs _ _ n refl there.1 (sym there.2))
 
 same-one : {X : Type 0} (n : ℕ) (v : X) (k : ℕ) (x : X) → slice_get (replicate n v) k ≡ Some x → x ≡ v
 same-one zero v k x h = absurd (cc h)
@@ -53,17 +48,12 @@ same-one (suc n) v (suc k) x h = same-one n v k x h
 -- where each slot holds nothing, none holds a city object
 pub none-held : (n : ℕ) (v : Slot) → SlotHolds v Nothing → (k m : ℕ) (s : Slot) → slice_get (replicate n v) k ≡ Some s
     → IsReady s m → ⊥
-none-held n v empty k m s h r = let same : s.packed ≡ v.packed = ap (λ (t : Slot). t.packed) (same-one n v k s h) in
-    omega (arith, same, empty, r.packed, r.above)
+none-held n v empty k m s h r = search (arith, same-one)
 
 -- what holds of each of the first numbers, holds with one more
 pub each-added : (P : ℕ → Type 0) (xs : List ℕ) (count v : ℕ) → ((k n : ℕ) → k < count → slice_get xs k ≡ Some n → P n)
     → P v → (k n : ℕ) → k < count + 1 → slice_get (slice_set xs count v) k ≡ Some n → P n
-each-added P xs count v all here k n l h =
-    elim (set-cases xs count k v n h) [
-      | inl e ↦ subst P e.1 here
-      | inr g ↦ all k n (omega (arith, g.0)) g.1
-    ]
+each-added P xs count v all here k n l h = search (arith, set-cases)
 
 -- ---- what is reached
 
@@ -82,7 +72,7 @@ lists-reached feature object item objects o r held = λ name t at same.
 pub id-reached : (feature id : Tree) (objects : Node) → member_of (chars (codes "id")) feature ≡ Some id
     → member_of (chars (codes "CityObjects")) feature ≡ Some (tree objects) → ReachesName feature objects id
 id-reached feature id objects i o = λ name t at same.
-    reached-out feature id (tree objects) i o name t at (own-reached (members_of (tree objects)) id (name, t) at same)
+    reached-out _ id _ i o _ t at (own-reached _ id (name, t) at same)
 
 -- ---- steps of the guide
 
@@ -91,27 +81,22 @@ same-hand = record { slots = λ k n s at ready. (k, at) }
 
 pub more-hand : {O L : ℕ} {a b c : Lists O L} → AddsNone a b → AddsNone b c → AddsNone a c
 more-hand h k =
-    record { slots = λ i n s at ready. let from = k.slots i n s at ready in h.slots from.0 n s from.1 ready }
+    record { slots = λ i n s at ready. let from = k.slots i n s at ready in h.slots _ n s from.1 ready }
 
 pub named-kept : {O L : ℕ} (objects : List (Tree × Tree)) (line : List ℕ) (spans : List Span) {a b : Lists O L}
     → AddsNone a b → AreNamed objects line spans a.slots → AreNamed objects line spans b.slots
 named-kept objects line spans h named = λ k n s at ready. let from = h.slots k n s at ready in
-    named from.0 n s from.1 ready
+    named _ n s from.1 ready
 
 pub known-kept : {O L : ℕ} (n : Node) {a b : Lists O L} → AddsNone a b → Knows n a → Knows n b
-known-kept n h k = named-kept (members_of (tree n)) (line_of n) (spans_by n) h k
+known-kept n h k = named-kept _ _ _ h k
 
 -- the guide stands, with none come to hand and others that wait
 pub guide-on : {O L P : ℕ} {line : List ℕ} {tokens : List Token} {a b : Near O L P} → IsGuide line tokens a
     → AddsNone a.lists b.lists
     → ((f : Tree) → Json line f → WaitsFor f line (spans_of tokens) a.pending
     → WaitsFor f line (spans_of tokens) b.pending) → IsGuide line tokens b
-guide-on {line = line} {tokens = tokens} g h w = record {
-  of = g.of;
-  known = λ f o j e. named-kept (members_of o) line (spans_of tokens) h (g.known f o j e);
-  waiting = λ f j. w f j (g.waiting f j);
-  sound = g.sound;
-}
+guide-on {line = line} {tokens = tokens} g h w = search (arith, named-kept, w, g.waiting, g.known, g.sound)
 
 -- what waits beside a node, told by its document
 module _ {P : ℕ} (n : Node) (d : Doc) (source : source_of n ≡ document_source d) (f : Tree) (near : Pending P) where
@@ -140,12 +125,12 @@ pub guide-marked : {O L P : ℕ} {line : List ℕ} {old new : BoundedList Token}
     → ((f : Tree) → Json line f → IsReachedObject f (tree_at line (spans_of old.elements) n))
     → IsGuide line new.elements near
 guide-marked {line = line} {old = old} {new = new} n g kept others reached = record {
-  of = kept.of line g.of;
+  of = kept.of _ g.of;
   known = λ f o j e. rw kept.spans (g.known f o j e);
   waiting = λ f j. rw kept.spans (g.waiting f j);
   sound = λ f j t h.
-      elim (marked-more line old.elements new.elements n t kept.spans others h) [
-        | inl e ↦ subst (IsReachedObject f) e (reached f j)
+      elim (marked-more _ _ _ n t kept.spans others h) [
+        | inl e ↦ rw e at (reached f j)
         | inr m ↦ g.sound f j t m
       ];
 }
@@ -155,3 +140,8 @@ pub guide-at : {O L P : ℕ} {line l : List ℕ} {ts us : List Token} {a b : Nea
     → AddsNone a.lists b.lists → b.pending.numbers ≡ a.pending.numbers → b.pending.count ≡ a.pending.count
     → IsGuide line ts a → IsGuide l us b
 guide-at e q h p w g = rw (e, q) (guide-on g h (λ f j waits. rw (p, w) waits))
+
+-- slots in the middle in another order
+pub ruleset slots_moved = (IsPermutation-put_mid)
+
+pub ruleset none_at_hand = (none-held)

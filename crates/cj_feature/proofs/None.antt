@@ -1,5 +1,5 @@
 -- What follows where a rule finds nothing.
-use Rattle.cj_feature.proofs.Common.{Bool, Finding, List, None, Option, Reason, Some, Tree, WrongKind, [], cond, false, flat_map, if_there, list_all, member_of, missing, needs, one, refl, true, ℕ, ◌++◌, ◌∷◌, ◌≡◌}
+use Rattle.cj_feature.proofs.Common.{Bool, Finding, List, None, Option, Reason, Some, Tree, WrongKind, [], arith, cond, false, flat_map, if_there, list_all, member_of, missing, needs, one, refl, true, ℕ, ◌++◌, ◌∷◌, ◌≡◌}
 
 -- neither of two lists has one
 pub none-both : (fs gs : List Finding) → fs ++ gs ≡ [] → (fs ≡ []) × (gs ≡ [])
@@ -39,8 +39,4 @@ holds false r t h = absurd (cc h)
 pub none-each : {A : Type 0} (rule : A → List Finding) (test : A → Bool) → ((x : A) → rule x ≡ [] → test x ≡ true)
     → (xs : List A) → flat_map rule xs ≡ [] → list_all test xs ≡ true
 none-each rule test decides [] h = refl
-none-each rule test decides (x ∷ xs) h =
-    let both = none-both (rule x) (flat_map rule xs) h in
-    let here : test x ≡ true = decides x both.0 in
-    let later : list_all test xs ≡ true = none-each rule test decides xs both.1 in
-    rw (here, later) refl
+none-each rule test decides (x ∷ xs) h = search (arith, none-both, none-each rule test decides xs)

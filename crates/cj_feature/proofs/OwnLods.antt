@@ -1,5 +1,5 @@
 -- The LoDs of a valid feature beside a header without templates: no geometry is an instance.
-use Rattle.cj_feature.proofs.Common.{BadInstance, Bool, DecimalFault, Err, List, None, Number, Ok, Option, Result, Some, TemplateIndex, TemplateSource, Tree, [], ap, arith, as_whole, chars, city_object, city_objects, codes, cond, count_of, decimal_of, false, feature, flat_map, geometries, geometry, has_text, if_there, index, is_outside, is_text, items_if, items_of, map, map-append, member_of, members_if, members_of, nat_lt, nat_tests, negsuc, not, object_geometries, of_kind, one, pos, refl, spelling, subst, sym, template_count, templates_of, true, value_findings, whole_findings, ℕ, ℤ, ◌++◌, ◌∙◌, ◌∷◌, ◌≡◌}
+use Rattle.cj_feature.proofs.Common.{BadInstance, Bool, DecimalFault, Err, List, None, Number, Ok, Option, Result, Some, TemplateIndex, TemplateSource, Tree, [], arith, as_whole, chars, city_object, city_objects, codes, cond, count_of, false, feature, flat_map, geometries, geometry, has_text, if_there, is_outside, is_text, items_if, map, map-append, member_of, members_if, members_of, nat_lt, nat_tests, object_geometries, of_kind, one, refl, subst, template_count, templates_of, true, value_findings, whole_findings, ℕ, ◌∷◌, ◌≡◌}
 use Rattle.cj_geometry.specs.Meaning.Geometry.{form_rules, instance_rules, is_itself}
 use Rattle.cj_geometry.specs.Meaning.Lod.{is_instance, lod}
 use Rattle.cj_geometry.specs.Meaning.Table.{form_of, instance}
@@ -11,7 +11,7 @@ use Rattle.cj_feature.proofs.Valid.{has-objects}
 instance-form : (t : Tree) → has_text (chars (codes "GeometryInstance")) t ≡ true → form_of t ≡ Some instance
 unfolding chars
 instance-form t h =
-    let no = λ (s : List ℕ). other_text (chars (codes "GeometryInstance")) s t h in
+    let no = λ (s : List ℕ). other_text _ s t h in
     rw (
       no (chars (codes "MultiPoint")),
       no (chars (codes "MultiLineString")),
@@ -31,23 +31,13 @@ no-index : (t : Tree) (r : Result Number DecimalFault)
     → value_findings (λ v. whole_findings (λ w. cond (is_outside (Some 0) w) (one TemplateIndex t) []) t (as_whole v))
     t r
     ≡ [] → ⊥
-no-index t (Ok v) h = go (as_whole v) h
-  where
-    go : (o : Option ℤ) → whole_findings (λ w. cond (is_outside (Some 0) w) (one TemplateIndex t) []) t o ≡ [] → ⊥
-    go None h = cc h
-    go (Some (pos k)) h = let b = below-none k in cc (subst (λ b. cond (not b) (one TemplateIndex t) [] ≡ []) b h)
-    go (Some (negsuc k)) h = cc h
+no-index t (Ok v) h = search (arith, below-none)
 no-index t (Err e) h = cc h
 
 module _ (vertices : Option ℕ) (templates : TemplateSource) (empty : template_count templates ≡ 0) where
   -- so no instance is valid
   no-rules : (g : Tree) → instance_rules vertices (template_count templates) g ≡ [] → ⊥
-  no-rules g h =
-      let none = subst (λ n. instance_rules vertices n g ≡ []) empty h in
-      let found = by-member (index TemplateIndex (Some 0)) g (member_of (chars (codes "template")) g)
-      (none-both _ _ (none-both _ _ none).0).0 in
-      no-index found.0 (decimal_of (spelling found.0))
-      (kind-none _ _ found.0 found.2).1
+  no-rules g h = search (arith, by-member, none-both, no-index, kind-none)
 
   no-form : (b : Bool) (g t : Tree) → cond b (one BadInstance t) (instance_rules vertices (template_count templates) g)
       ≡ [] → ⊥
@@ -75,37 +65,24 @@ module _ (vertices : Option ℕ) (templates : TemplateSource) (empty : template_
   own-lods : (gs : List Tree) → flat_map (geometry vertices templates) gs ≡ []
       → map (lod templates) gs ≡ map (member_of (chars (codes "lod"))) gs
   own-lods [] h = refl
-  own-lods (g ∷ gs) h =
-      let both = none-both (geometry vertices templates g) (flat_map (geometry vertices templates) gs) h in
-      ap (λ o. o ∷ map (lod templates) gs) (own-lod g both.0)
-      ∙ ap (λ os. member_of (chars (codes "lod")) g ∷ os) (own-lods gs both.1)
+  own-lods (g ∷ gs) h = search (arith, none-both, own-lod, own-lods gs)
 
   of-member : (o : Option Tree) → if_there (geometries vertices templates) o ≡ []
       → map (lod templates) (items_if o) ≡ map (member_of (chars (codes "lod"))) (items_if o)
   of-member None h = refl
   of-member (Some t) h =
-      own-lods (items_of t)
+      own-lods _
       (kind-none _ _ t h).1
 
   of-object : (m : Tree × Tree) → city_object true vertices templates m.1 ≡ []
       → map (lod templates) (object_geometries m) ≡ map (member_of (chars (codes "lod"))) (object_geometries m)
-  of-object m h =
-      let o = m.1 in
-      let rules = (kind-none _ _ o h).1 in
-      of-member (member_of (chars (codes "geometry")) o)
-      (none-both _ _ (none-both _ _ (none-both _ _ (none-both _ _ rules).0).0).0).1
+  of-object m h = search (arith, kind-none, of-member, none-both)
 
   of-objects : (ms : List (Tree × Tree)) → flat_map (λ m. city_object true vertices templates m.1) ms ≡ []
       → map (lod templates) (flat_map object_geometries ms)
       ≡ map (member_of (chars (codes "lod"))) (flat_map object_geometries ms)
   of-objects [] h = refl
-  of-objects (m ∷ ms) h =
-      let own = member_of (chars (codes "lod")) in
-      let both = none-both (city_object true vertices templates m.1)
-      (flat_map (λ n. city_object true vertices templates n.1) ms) h in
-      let first = object_geometries m in let rest = flat_map object_geometries ms in
-      map-append (lod templates) first rest ∙ ap (λ os. os ++ map (lod templates) rest) (of-object m both.0)
-      ∙ ap (λ os. map own first ++ os) (of-objects ms both.1) ∙ sym (map-append own first rest)
+  of-objects (m ∷ ms) h = search (arith, none-both, map-append, of-object, of-objects ms)
 
 -- those of a valid feature
 pub valid-lods : (header t : Tree) → feature header t false true ≡ [] → template_count (templates_of header) ≡ 0

@@ -1,5 +1,5 @@
 -- Links in two walks: the children of all city objects, then their parents.
-use Rattle.cj_feature.proofs.Common.{Bool, ChildNotFound, Finding, LinkNotMutual, List, NoParent, None, Option, Reason, Some, Tree, [], and_parts, answered, ap, at_second_level, back_of, chars, children, codes, cond, false, flat_map, has_item, is_array, is_known, is_text, items_if, kind_of, least, linked, list_any, listed_in, lists, member_of, not, object_links, one, parents, part, part_of, refl, same_text, sym, true, ℕ, ◌&&◌, ◌++◌, ◌∙◌, ◌∷◌, ◌≡◌}
+use Rattle.cj_feature.proofs.Common.{Bool, Finding, LinkNotMutual, List, NoParent, None, Option, Reason, Some, Tree, [], and_parts, answered, ap, arith, back_of, chars, children, codes, cond, false, flat_map, has_item, is_array, is_known, is_text, items_if, kind_of, least, linked, list_any, listed_in, lists, not, object_links, one, parents, part, part_of, refl, same_text, sym, true, ℕ, ◌&&◌, ◌++◌, ◌∙◌, ◌∷◌, ◌≡◌}
 use Rattle.cj_spans.proofs.Findings.{least-append, least-swap}
 use Rattle.cj_feature.specs.declared.feature.search.link.Link.{Link}
 use Rattle.cj_feature.specs.declared.feature.search.link.Link.TheVariants.{Child, Parent}
@@ -42,12 +42,8 @@ listed_linked k objects name item o h = ap (least o) (sym (go k h))
 -- and what comes behind a finding has none that counts
 pub told_linked : (k : Link) (objects : List (Tree × Tree)) (name item : Tree) (o : Option Finding)
     → ((r : Reason) → least o (one r item) ≡ o) → o ≡ least o (linked k objects name item)
-told_linked Child objects name item o told =
-    told_on (is_text (kind_of item)) (is_known objects item) (lists (chars (codes "parents")) objects item name) item
-    (one ChildNotFound item) o (told LinkNotMutual) (sym (told ChildNotFound))
-told_linked Parent objects name item o told =
-    told_on true (is_known objects item) (lists (chars (codes "children")) objects item name) item [] o
-    (told LinkNotMutual) refl
+told_linked Child objects name item o told = search (arith, told_on)
+told_linked Parent objects name item o told = search (arith, told_on)
 
 -- ---- a part with a parent that is in the feature
 
@@ -63,13 +59,11 @@ known_parent : (objects : List (Tree × Tree)) (o : Tree) (w : Option Tree)
     → list_any (is_known objects) (items_if w) ≡ true → part_of objects o w ≡ []
 known_parent objects o None h = refl
 known_parent objects o (Some t) h = ap (λ b. cond (is_array (kind_of t) && not b) (one NoParent o) []) h
-    ∙ closed (is_array (kind_of t)) (one NoParent o)
+    ∙ closed _ _
 
 pub known_part : (objects : List (Tree × Tree)) (m : Tree × Tree)
     → list_any (is_known objects) (listed_in (chars (codes "parents")) m.1) ≡ true → part objects m ≡ []
-known_part objects m h =
-    either_none (at_second_level m.1) (part_of objects m.1 (member_of (chars (codes "parents")) m.1))
-    (known_parent objects m.1 (member_of (chars (codes "parents")) m.1) h)
+known_part objects m h = search (arith, either_none, known_parent)
 
 -- ---- two walks
 
@@ -89,13 +83,13 @@ walks objects (m ∷ ms) o =
     let c = children objects m in
     let p = parents objects m in
     let q = part objects m in
-    let cs = flat_map (children objects) ms in
-    let ps = flat_map (parents_and_part objects) ms in
-    let all = flat_map (object_links objects) ms in
+    let cs = flat_map _ ms in
+    let ps = flat_map _ ms in
+    let all = flat_map _ ms in
     ap (λ x. least x ((p ++ q) ++ ps)) (least-append o c cs)
-    ∙ least-append (least (least o c) cs) (p ++ q) ps
-    ∙ ap (λ x. least x ps) (comm (least o c) cs (p ++ q))
-    ∙ walks objects ms (least (least o c) (p ++ q))
-    ∙ ap (λ x. least x all) (least-append (least o c) p q ∙ ap (λ x. least x q) (sym (least-append o c p))
+    ∙ least-append _ (p ++ q) ps
+    ∙ ap (λ x. least x ps) (comm _ cs (p ++ q))
+    ∙ walks objects ms _
+    ∙ ap (λ x. least x all) (least-append _ p q ∙ ap (λ x. least x q) (sym (least-append o c p))
     ∙ sym (least-append o (c ++ p) q))
     ∙ sym (least-append o (c ++ p ++ q) all)

@@ -1,5 +1,5 @@
 -- Questions on links, in order.
-use Rattle.cj_feature.proofs.Common.{AreLeft, AreListed, AreQuestionsInOrder, Bool, Equal, Greater, IsFirstOn, Less, List, Node, None, Option, Question, Side, Some, Tree, [], always_returns_same, ap, append_assoc, are_same_texts, arith, cases_Bool, cases_eq, cases_lt, compare_keys, compare_sides, drop, false, false_from_ne_true, from_in, inl, inr, is_known, is_lt, key_in, kind_of, length, lists, members_of, ranks_by, refl, same_text, searchable_from_sorted, slice_get_within, slice_set, sorted_far, subst, suc, sym, tag_of, take, text_of, text_side, tree, true, ℕ, ◌++◌, ◌+◌, ◌-◌, ◌<◌, ◌||◌, ◌∙◌, ◌∷◌, ◌≡◌, ◌≤◌}
+use Rattle.cj_feature.proofs.Common.{AreLeft, AreListed, AreQuestionsInOrder, Bool, Equal, Greater, IsFirstOn, Less, List, Node, None, Option, Question, Side, Some, Tree, [], always_returns_same, ap, append_assoc, arith, cases_Bool, cases_eq, cases_lt, compare_keys, compare_sides, drop, false, false_from_ne_true, from_in, inl, inr, is_known, is_lt, key_in, kind_of, length, lists, members_of, ranks_by, refl, same_text, searchable_from_sorted, slice_get_within, slice_set, sorted_far, subst, suc, sym, tag_of, take, text_of, text_side, tree, true, ℕ, ◌++◌, ◌+◌, ◌-◌, ◌<◌, ◌||◌, ◌∙◌, ◌∷◌, ◌≡◌, ◌≤◌}
 use Rattle.std.proofs.Common.{get_or, slice_get, slice_index_or, IsSortedBy, drop-set-lt, length-append, get_or-set_other}
 use Rattle.std.specs.Cmp.{IsStrictWeakOrder, IsTotalOrder, nat_cmp_total, on_total, then_total, tied_itself}
 use Rattle.std.specs.Cmp.Lexicographic.{nat_list_cmp_total, options_total}
@@ -14,7 +14,7 @@ use Rattle.cj_spans.specs.declared.token.Kind.TheVariants.{Text}
 use Rattle.cj_feature.specs.declared.feature.search.tagged.Text.{Text as Tagged}
 use Rattle.cj_spans.specs.Order.{compare_texts}
 use Rattle.cj_geometry.proofs.Initials.{still_free}
-use Rattle.cj_feature.specs.inner.Questions.{Key, key_of, to_in, IsPlaceOf, IsQuestion}
+use Rattle.cj_feature.specs.inner.Questions.{Key, key_of, IsPlaceOf, IsQuestion}
 use Rattle.cj_feature.proofs.LinkFaults.{from-texts, known-text, text-cases}
 
 -- ---- a list in order
@@ -24,15 +24,15 @@ module _ {X : Type 0} (lt : X → X → Bool) (o : IsStrictWeakOrder lt) where
   beside : (a : List X) (x : X) (b : List X) (d : X) (k : ℕ) → (j : ℕ) × (k ≤ j) × (j ≤ k + 1)
       × (get_or (a ++ x ∷ b) j d ≡ get_or (a ++ b) k d)
   beside a x b d k =
-      elim (cases_lt k (length a)) [
-        | inl l ↦ (k, omega arith, omega arith, get_or_append_left a (x ∷ b) d k l ∙ sym (get_or_append_left a b d k l))
+      elim (cases_lt k _) [
+        | inl l ↦ (k, omega arith, omega arith, get_or_append_left a _ d k l ∙ sym (get_or_append_left a b d k l))
         | inr ge ↦
             let later : k + 1 - length a ≡ suc (k - length a) = omega arith in (
               k + 1,
               omega arith,
               omega arith,
-              get_or-append_right a (x ∷ b) (length a) (k + 1) d refl (omega arith) ∙ ap (λ n. get_or (x ∷ b) n d) later
-                  ∙ sym (get_or-append_right a b (length a) k d refl ge),
+              get_or-append_right a _ _ _ d refl (omega arith) ∙ ap (λ n. get_or (x ∷ b) n d) later
+                  ∙ sym (get_or-append_right a b _ k d refl ge),
             )
       ]
 
@@ -48,24 +48,19 @@ module _ {X : Type 0} (lt : X → X → Bool) (o : IsStrictWeakOrder lt) where
 
 pub next_one : {X : Type 0} (xs : List X) (i : ℕ) → i < length xs → (x : X) × (drop i xs ≡ x ∷ drop (i + 1) xs)
 next_one [] i below = absurd (omega (arith, below))
-next_one (x ∷ xs) i below = (get_or (x ∷ xs) i x, drop_more (x ∷ xs) i x below)
+next_one (x ∷ xs) i below = (get_or (x ∷ xs) i x, drop_more _ i x below)
 
 -- the one at i moves to the end of the first ones
 pub one_more : {X : Type 0} (xs : List X) (kept i : ℕ) (d : X) → kept ≤ i → i < length xs
     → take (kept + 1) (slice_set xs kept (get_or xs i d)) ++ drop (i + 1) (slice_set xs kept (get_or xs i d))
     ≡ take kept xs ++ drop i xs
-one_more xs kept i d le below =
-    let y = get_or xs i d in
-    ap (λ l. l ++ drop (i + 1) (slice_set xs kept y)) (take_more_set xs kept y (omega arith))
-    ∙ ap (λ l. (take kept xs ++ y ∷ []) ++ l) (drop-set-lt (i + 1) xs kept y (omega arith))
-    ∙ append_assoc (take kept xs) (y ∷ []) (drop (i + 1) xs)
-    ∙ ap (λ l. take kept xs ++ l) (sym (drop_more xs i d below))
+one_more xs kept i d le below = search (arith, take_more_set, drop-set-lt, append_assoc, drop_more)
 
 same_texts : (t u : Tree) → same_text t u ≡ true → text_of t ≡ text_of u
-same_texts t u h = let texts = from-texts (text_of t) (text_of u) h in texts.1 ∙ sym texts.2
+same_texts t u h = search (arith, from-texts)
 
 shared : (a b c : Tree) → same_text a b ≡ true → same_text a c ≡ true → same_text b c ≡ true
-shared a b c e f = subst (λ o. are_same_texts o (text_of c) ≡ true) (same_texts a b e) f
+shared a b c e f = search (arith, same_texts)
 
 -- ---- the order
 
@@ -80,7 +75,7 @@ keys_total = then_total (on_total (λ (k : Key). k.0) sides_total) (on_total (λ
 
 -- one node has one text
 pub one_text : (o p : Option (List ℕ)) → o ≡ p → compare_texts o p ≡ Equal
-one_text o p e = subst (λ u. compare_texts o u ≡ Equal) e (tied_itself texts_total o)
+one_text o p e = search (arith, tied_itself, texts_total)
 
 -- from the clause `sorted` of the sort, where each call of the closure compares keys
 pub in_order : (objects : Node) {F : Type 0} {g : Mut F (Bor Question × (Bor Question × Unit {0})) Ordering} {f : F}
@@ -90,9 +85,9 @@ pub in_order : (objects : Node) {F : Type 0} {g : Mut F (Bor Question × (Bor Qu
     → (r ≡ compare_keys (key_in objects a.0.now) (key_in objects a.1.0.now)) × (f' ≡ f))
     → AreQuestionsInOrder objects qs
 in_order objects {g = g} {f = f} qs sorted each =
-    let key = key_in objects in
-    sorted (λ x y. is_lt (compare_keys (key x) (key y))) (ranks_by keys_total key)
-    (always_returns_same g (λ a r. is_lt r ≡ is_lt (compare_keys (key a.0.now) (key a.1.0.now))) f
+    let key = key_in _ in
+    sorted (λ x y. is_lt _) (ranks_by keys_total key)
+    (always_returns_same g (λ a r. is_lt r ≡ is_lt _) f
     (λ a r f' k. (ap is_lt (each a r f' k).0, (each a r f' k).1)))
 
 no_later : (r s : Ordering) → ordering_index r ≤ ordering_index s → is_lt s ≡ true → is_lt r ≡ true
@@ -108,9 +103,9 @@ no_later Greater Greater h e = e
 pub parted : (objects : Node) (qs : List Question) (k : Key) → AreQuestionsInOrder objects qs
     → IsPartitionedBy (λ q. is_lt (compare_keys (key_in objects q) k)) qs
 parted objects qs k h =
-    let rises = searchable_from_sorted keys_total (key_in objects) qs k h in
-    λ i j d le below e. no_later (compare_keys (key_in objects (get_or qs i d)) k)
-    (compare_keys (key_in objects (get_or qs j d)) k) (rises i j d le below) e
+    let rises = searchable_from_sorted keys_total (key_in _) qs k h in
+    λ i j d le below e. no_later _
+    _ (rises i j d le below) e
 
 -- a key has one place below the end
 one_place : {X : Type 0} (p : X → Bool) (xs : List X) (d : X) (i j : ℕ) → i < length xs
@@ -118,12 +113,12 @@ one_place : {X : Type 0} (p : X → Bool) (xs : List X) (d : X) (i j : ℕ) → 
     → IsPartitionPoint (λ y. p y ≡ true) (λ y. p y ≡ false) xs j → i ≡ j
 one_place p xs d i j below h k =
     let no_less : i < j → ⊥ = λ lt.
-    let a : p (get_or xs i d) ≡ true = k.0 i d (omega arith) lt in
-    let b : p (get_or xs i d) ≡ false = h.1 i d (omega arith) below in
+    let a = k.0 i d (omega arith) lt in
+    let b = h.1 i d (omega arith) below in
     cc in
     let no_more : j < i → ⊥ = λ lt.
-    let a : p (get_or xs j d) ≡ true = h.0 j d (omega arith) lt in
-    let b : p (get_or xs j d) ≡ false = k.1 j d (omega arith) (omega arith) in
+    let a = h.0 j d (omega arith) lt in
+    let b = k.1 j d (omega arith) (omega arith) in
     cc in
     omega arith
 
@@ -137,28 +132,20 @@ module _ (objects : Node) (qs : List Question) where
   -- the first question on a text stands where its key has its place
   pub only_here : (t : Tree) (p i : ℕ) → IsPlaceOf objects (key_of (text_of t) (text_of (tree objects))) qs p
       → IsFirstOn objects qs t i → i ≡ p
-  only_here t p i h f =
-      one_place (λ w. is_lt (compare_keys (key_in objects w) (key_of (text_of t) (text_of (tree objects))))) qs
-      f.question i p (slice_get_within qs i f.question f.stands) f.place h
+  only_here t p i h f = search (arith, one_place, slice_get_within)
 
   -- so there is none, where another stands there
   pub none_here : (t : Tree) (p i : ℕ) → IsPlaceOf objects (key_of (text_of t) (text_of (tree objects))) qs p
       → ((q : Question) → slice_get qs p ≡ Some q → q.from.tag ≡ tag_of (text_of t)
       → same_text (from_in objects q) t ≡ false) → IsFirstOn objects qs t i → ⊥
   none_here t p i h other f =
-      let no : same_text (from_in objects f.question) t ≡ false =
-      other f.question (ap (slice_get qs) (sym (only_here t p i h f)) ∙ f.stands) f.tagged in
-      let yes : same_text (from_in objects f.question) t ≡ true = f.same in
+      let no =
+      other _ (ap (slice_get qs) (sym (only_here t p i h f)) ∙ f.stands) f.tagged in
+      let yes = f.same in
       cc
 
   moved : (n t : Tree) (i : ℕ) → text_of n ≡ text_of t → IsFirstOn objects qs t i → IsFirstOn objects qs n i
-  moved n t i e f = record {
-    place = rw e f.place;
-    question = f.question;
-    stands = f.stands;
-    tagged = f.tagged ∙ ap tag_of (sym e);
-    same = rw e f.same;
-  }
+  moved n t i e f = search arith
 
   -- ---- one city object less is left
 
@@ -167,8 +154,8 @@ module _ (objects : Node) (qs : List Question) where
     -- whose name is not asked about
     pub left_unasked : ((i : ℕ) → IsFirstOn objects qs m.0 i → None ≡ Some i) → AreLeft objects qs flags rest
     left_unasked none = λ t i f clear.
-        elim (cases_Bool (same_text m.0 t)) [
-          | inl e ↦ let no : None ≡ Some i = none i (moved m.0 t i (same_texts m.0 t e) f) in absurd (cc)
+        elim (cases_Bool _) [
+          | inl e ↦ let no = none i (moved m.0 t i (same_texts m.0 t e) f) in absurd (cc)
           | inr e ↦ left t i f clear ∙ ap (λ v. v || is_known rest t) e
         ]
 
@@ -176,12 +163,12 @@ module _ (objects : Node) (qs : List Question) where
     pub left_flagged : (p : ℕ) → p < length flags → ((i : ℕ) → IsFirstOn objects qs m.0 i → Some p ≡ Some i)
         → AreLeft objects qs (slice_set flags p true) rest
     left_flagged p below is = λ t i f clear.
-        elim (cases_Bool (same_text m.0 t)) [
+        elim (cases_Bool _) [
           | inl e ↦
-              let same : Some p ≡ Some i = is i (moved m.0 t i (same_texts m.0 t e) f) in
+              let same = is i (moved m.0 t i (same_texts m.0 t e) f) in
               let at : p ≡ i = cc in
-              absurd ((still_free flags p i below clear).0 (sym at))
-          | inr e ↦ left t i f (still_free flags p i below clear).1 ∙ ap (λ v. v || is_known rest t) e
+              absurd ((still_free _ p i below clear).0 (sym at))
+          | inr e ↦ left t i f (still_free _ p i below clear).1 ∙ ap (λ v. v || is_known rest t) e
         ]
 
   -- ---- what is listed
@@ -190,28 +177,15 @@ module _ (objects : Node) (qs : List Question) where
       → IsQuestion objects qs from to p
       → ((f t : Tree) → same_text from f ≡ true → same_text to t ≡ true
       → lists list (members_of (tree objects)) f t ≡ true) → AreListed list objects qs (slice_set flags p true)
-  listed_on list flags from to p old here has = λ i q stands flagged.
-      elim (cases_eq i p) [
-        | inl e ↦
-            let other : slice_get qs i ≡ Some here.question = ap (slice_get qs) e ∙ here.stands in
-            let same : q ≡ here.question = cc in
-            λ f t h k. has f t (shared (from_in objects here.question) from f here.first
-            (subst (λ w. same_text (from_in objects w) f ≡ true) same h))
-            (shared (to_in objects here.question) to t here.second
-            (subst (λ w. same_text (to_in objects w) t ≡ true) same k))
-        | inr n ↦ old i q stands (sym (get_or-set_other flags p i true false n) ∙ flagged)
-      ]
+  listed_on list flags from to p old here has = search (arith, cases_eq, shared, get_or-set_other)
 
   -- ---- no questions
 
   pub none_listed : (list : List ℕ) (flags : List Bool) → ((i : ℕ) → slice_index_or flags i false ≡ false)
       → AreListed list objects qs flags
-  none_listed list flags none = λ i q stands flagged. let no : slice_index_or flags i false ≡ false = none i in
-      absurd (cc)
+  none_listed list flags none = search arith
 
 -- ---- what is no text is the name of nothing
 
 pub unknown : (objects : List (Tree × Tree)) (t : Tree) → (kind_of t ≡ Text → ⊥) → is_known objects t ≡ false
-unknown objects t h = false_from_ne_true _ (λ yes.
-    let is = known-text objects t yes in
-    elim (text-cases t) [ inl y ↦ h y.0 | inr n ↦ cc (n.1, is.1) ])
+unknown objects t h = search (arith, false_from_ne_true, known-text, text-cases)

@@ -11,8 +11,8 @@ use Rattle.cj_feature.proofs.LinkFaults.{from-any, from-listed, from-texts, to-a
 from-filter : {X : Type 0} (p : X → Bool) (xs : List X) (x : X) → Contains (filter p xs) x → Contains xs x
     × (p x ≡ true)
 from-filter p xs x h = (
-  All-contains (Contains xs) (filter p xs) x (All-filter p (Contains xs) xs (All-contains_itself xs)) h,
-  All-contains (λ y. p y ≡ true) (filter p xs) x (filter_passes p xs) h,
+  All-contains (Contains xs) _ x (All-filter p (Contains xs) xs (All-contains_itself xs)) h,
+  All-contains (λ y. p y ≡ true) _ x (filter_passes p xs) h,
 )
 
 to-filter : {X : Type 0} (p : X → Bool) (xs : List X) (x : X) → Contains xs x → p x ≡ true → Contains (filter p xs) x
@@ -32,9 +32,9 @@ to-filter p (y ∷ xs) x h e =
 parted : {X : Type 0} (p : X → Bool) (xs : List X) (x : X) → Contains xs x → Contains (filter p xs) x
     ⊎ Contains (filter (λ y. not (p y)) xs) x
 parted p xs x h =
-    elim (cases_Bool (p x)) [
+    elim (cases_Bool _) [
       | inl e ↦ inl (to-filter p xs x h e)
-      | inr e ↦ inr (to-filter (λ y. not (p y)) xs x h (ap not e))
+      | inr e ↦ inr (to-filter (λ y. not _) xs x h (ap not e))
     ]
 
 -- ---- rounds
@@ -47,7 +47,7 @@ none-listed (x ∷ ms) = none-listed ms
 none-taken : (n : ℕ) (others : List (Tree × Tree)) (m : Tree × Tree) → Contains (reached_from n [] others) m → ⊥
 unfolding reached_from
 none-taken zero others m h = contains_none m h
-none-taken (suc n) others m h = none-taken n _ m (rw (none-listed others) at h)
+none-taken (suc n) others m h = none-taken n _ m (rw (none-listed _) at h)
 
 -- one is taken, and fewer are left
 fewer : (next rest : List (Tree × Tree)) (n : ℕ) → length next + length rest ≤ suc n → (next ≡ []) ⊎ (length rest ≤ n)
@@ -59,7 +59,7 @@ taken-reached : (n : ℕ) (taken others : List (Tree × Tree)) (m : Tree × Tree
     → Contains (reached_from n taken others) m
 unfolding reached_from
 taken-reached zero taken others m h = h
-taken-reached (suc n) taken others m h = Contains-append_left taken _ m h
+taken-reached (suc n) taken others m h = Contains-append_left _ _ m h
 
 -- another that one of what is reached lists is reached too, where there are rounds enough
 closed : (n : ℕ) (taken others : List (Tree × Tree)) → length others ≤ n → (a b : Tree × Tree)
@@ -97,34 +97,13 @@ in-feature objects main x (child a b r c i) = i
 module _ (objects : List (Tree × Tree)) (id : Tree) where
   -- what has the name of the id is reached
   pub own-reached : (m : Tree × Tree) → Contains objects m → same_text m.0 id ≡ true → IsReached objects id m.0
-  own-reached m held same =
-      let t = from-texts (text_of m.0) (text_of id) same in
-      record {
-        main = t.0;
-        from = t.2;
-        own = t.0;
-        named = t.1;
-        reached = itself (record { object = m; held = held; named = t.1 });
-      }
+  own-reached m held same = search (arith, from-texts, itself)
 
   -- and so is what one of those lists
   pub child-reached : (p m : Tree × Tree) (item : Tree) (t : List ℕ) → IsReached objects id p.0 → Contains objects p
       → Contains (listed_in (chars (codes "children")) p.1) item → Contains objects m → text_of m.0 ≡ Some t
       → text_of item ≡ Some t → IsReached objects id m.0
-  child-reached p m item t r held listed there named text = record {
-    main = r.main;
-    from = r.from;
-    own = t;
-    named = named;
-    reached = child r.own t r.reached (record {
-      object = p;
-      held = held;
-      named = r.named;
-      item = item;
-      listed = from-listed (chars (codes "children")) p.1 item listed;
-      text = text;
-    }) (record { object = m; held = there; named = named });
-  }
+  child-reached p m item t r held listed there named text = search (arith, child, from-listed)
 
   rounds : (n : ℕ) (taken others : List (Tree × Tree))
       → ((m : Tree × Tree) → Contains taken m → Contains objects m × IsReached objects id m.0)
@@ -162,9 +141,7 @@ module _ (objects : List (Tree × Tree)) (id : Tree) where
 
   taken : (main : List ℕ) → text_of id ≡ Some main → (x : List ℕ) → Reached objects main x → (m : Tree × Tree)
       → Contains objects m → text_of m.0 ≡ Some x → Contains (reached_of objects id) m
-  taken main from x (itself i) m held t =
-      taken-reached (length objects) _ _ m
-      (to-filter (λ m. same_text m.0 id) objects m held (to-texts (text_of m.0) (text_of id) main t from))
+  taken main from x (itself i) m held t = search (arith, taken-reached, to-filter, to-texts)
   taken main from x (child a b r c i) m held t =
       let o = c.object in
       let item = to-any (λ y. same_text y m.0) (listed_in (chars (codes "children")) o.1) c.item
@@ -185,3 +162,5 @@ module _ (objects : List (Tree × Tree)) (id : Tree) where
       to-any (λ m. same_text m.0 name) (reached_of objects id) i.object
       (taken r.main r.from r.own r.reached i.object i.held i.named)
       (to-texts (text_of i.object.0) (text_of name) r.own i.named r.named)
+
+pub ruleset reached_both_ways = (is-reached, to-reached)

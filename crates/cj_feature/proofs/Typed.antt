@@ -1,5 +1,5 @@
 -- Where the rules on vertices find nothing, vertices have three whole numbers.
-use Rattle.cj_feature.proofs.Common.{DecimalFault, Err, IfSome, IsWordOf, List, None, NotThree, Number, Ok, Option, Result, Some, Tree, [], ap, are_one, are_three, are_two, arith, as_whole, begins_whole, cases_lt, decimal_of, drop, drop-map, drop_all, eqb-true, flat_map, inl, inr, is_number, is_vertex, items_of, kind_of, length, list_all, map, nat_eq, number_on, of_length, one, option_and_then, pos, refl, result_ok, spelling, suc, sym, take, true, value_findings, vertex_list, vertex_of, whole_findings, whole_number, whole_of, zero, ℕ, ℤ, ◌<◌, ◌∙◌, ◌∷◌, ◌≡◌, ◌≤◌}
+use Rattle.cj_feature.proofs.Common.{DecimalFault, Err, IfSome, IsWordOf, List, None, NotThree, Number, Ok, Option, Result, Some, Tree, [], ap, are_one, are_three, are_two, arith, as_whole, begins_whole, cases_lt, decimal_of, drop, drop-map, drop_all, eqb-true, flat_map, is_number, is_vertex, items_of, kind_of, length, list_all, map, nat_eq, number_on, of_length, one, option_and_then, pos, refl, result_ok, spelling, suc, sym, take, true, value_findings, vertex_list, vertex_of, whole_findings, whole_number, whole_of, zero, ℕ, ℤ, ◌<◌, ◌∙◌, ◌∷◌, ◌≡◌, ◌≤◌}
 use Rattle.cj_spans.specs.Forest.{total_size}
 use Rattle.cj_geometry.proofs.Lone.{whole-size}
 use Rattle.cj_feature.proofs.None.{holds, kind-none, none-both, none-each}
@@ -13,14 +13,14 @@ whole-there t (Some w) h = (w, refl)
 by-value : (t : Tree) (r : Result Number DecimalFault)
     → value_findings (λ v. whole_findings (λ w. []) t (as_whole v)) t r ≡ []
     → (w : ℤ) × (option_and_then as_whole (result_ok r) ≡ Some w)
-by-value t (Ok v) h = whole-there t (as_whole v) h
+by-value t (Ok v) h = whole-there t _ h
 by-value t (Err f) h = absurd (cc h)
 
 whole-value : (t : Tree) → whole_number t ≡ [] → (w : ℤ) × (whole_of t ≡ Some w)
 whole-value t h =
-    let parts = kind-none (is_number (kind_of t)) (value_findings (λ v. whole_findings (λ w. []) t (as_whole v)) t
-    (decimal_of (spelling t))) t h in
-    from parts.0 (by-value t (decimal_of (spelling t)) parts.1)
+    let parts = kind-none _ (value_findings (λ v. whole_findings (λ w. []) t _) t
+    (decimal_of _)) t h in
+    from parts.0 (by-value t (decimal_of _) parts.1)
   where
     from : is_number (kind_of t) ≡ true → (w : ℤ) × (option_and_then as_whole (result_ok (decimal_of (spelling t)))
         ≡ Some w) → (w : ℤ) × (whole_of t ≡ Some w)
@@ -31,22 +31,14 @@ three : (ts : List Tree) → nat_eq (length ts) 3 ≡ true → flat_map whole_nu
 three [] n h = absurd (cc n)
 three (x ∷ []) n h = absurd (cc n)
 three (x ∷ y ∷ []) n h = absurd (cc n)
-three (x ∷ y ∷ z ∷ []) n h =
-    let first = none-both (whole_number x) (flat_map whole_number (y ∷ z ∷ [])) h in
-    let second = none-both (whole_number y) (flat_map whole_number (z ∷ [])) first.1 in
-    let third = none-both (whole_number z) [] second.1 in
-    rw ((whole-value x first.0).1, (whole-value y second.0).1, (whole-value z third.0).1) refl
-three (x ∷ y ∷ z ∷ w ∷ ts) n h = let e : length (x ∷ y ∷ z ∷ w ∷ ts) ≡ 3 = eqb-true (length (x ∷ y ∷ z ∷ w ∷ ts)) 3 n in
-    absurd (omega arith)
+three (x ∷ y ∷ z ∷ []) n h = search (arith, none-both, whole-value)
+three (x ∷ y ∷ z ∷ w ∷ ts) n h = search (arith, eqb-true)
 
 vertex : (t : Tree) → of_length NotThree 3 whole_number t ≡ [] → is_vertex t ≡ true
-vertex t h =
-    let both = none-both _ _ (kind-none _ _ t h).1 in
-    three (items_of t) (holds _ NotThree t both.0) both.1
+vertex t h = search (arith, none-both, kind-none, three, holds)
 
 pub all-vertices : (t : Tree) → vertex_list t ≡ [] → list_all is_vertex (items_of t) ≡ true
-all-vertices t h =
-    none-each (of_length NotThree 3 whole_number) is_vertex vertex (items_of t) (kind-none _ _ t h).1
+all-vertices t h = search (arith, none-each, vertex, kind-none)
 
 -- ---- the numbers of a vertex
 
@@ -60,7 +52,7 @@ two-begin : (axis : ℕ) (ws : List (Option ℤ)) → are_two ws ≡ true → ax
 two-begin axis [] h within = absurd (cc h)
 two-begin axis (None ∷ ws) h within = absurd (cc h)
 two-begin zero (Some x ∷ ws) h within = refl
-two-begin (suc axis) (Some x ∷ ws) h within = one-begins axis ws h (omega arith)
+two-begin (suc axis) (Some x ∷ ws) h within = one-begins _ ws h (omega arith)
 
 -- from each of its three axes on a vertex begins with a whole number
 pub three-begin : (axis : ℕ) (ws : List (Option ℤ)) → are_three ws ≡ true → axis < 3
@@ -68,14 +60,14 @@ pub three-begin : (axis : ℕ) (ws : List (Option ℤ)) → are_three ws ≡ tru
 three-begin axis [] h within = absurd (cc h)
 three-begin axis (None ∷ ws) h within = absurd (cc h)
 three-begin zero (Some x ∷ ws) h within = refl
-three-begin (suc axis) (Some x ∷ ws) h within = two-begin axis ws h (omega arith)
+three-begin (suc axis) (Some x ∷ ws) h within = two-begin _ ws h (omega arith)
 
 -- and that is its number on the axis
 pub number-begins : (axis : ℕ) (ws rest : List (Option ℤ)) (n : ℤ) → drop axis ws ≡ Some n ∷ rest
     → number_on axis ws ≡ n
 number-begins zero ws rest n e = rw e refl
 number-begins (suc axis) [] rest n e = absurd (cc e)
-number-begins (suc axis) (w ∷ ws) rest n e = number-begins axis ws rest n e
+number-begins (suc axis) (w ∷ ws) rest n e = number-begins _ ws _ n e
 
 -- ---- the items of a vertex
 
@@ -88,8 +80,8 @@ lone : (axis : ℕ) (ts : List Tree) → ((k : ℕ) → k < axis → begins_whol
 lone zero ts h = (omega arith, refl)
 lone (suc axis) [] h = absurd (cc (h 0 (omega arith)))
 lone (suc axis) (x ∷ ts) h =
-    let first = begins-there (whole_of x) (map whole_of ts) (h 0 (omega arith)) in
-    let one = whole-size x first.0 first.1 in
+    let first = begins-there _ _ (h 0 (omega arith)) in
+    let one = whole-size x _ first.1 in
     let rest = lone axis ts (λ k l. h (suc k) (omega arith)) in
     let count = rest.0 in let sizes = rest.1 in
     (omega (arith, count), omega (arith, one, sizes))
@@ -97,7 +89,7 @@ lone (suc axis) (x ∷ ts) h =
 module _ (axis : ℕ) (t : Tree) (is : is_vertex t ≡ true) (within : axis < 3) where
   -- those before one are of one token each
   pub lone-before : (axis ≤ length (items_of t)) × (total_size (take axis (items_of t)) ≡ axis)
-  lone-before = lone axis (items_of t) (λ k l. three-begin k (map whole_of (items_of t)) is (omega arith))
+  lone-before = lone _ _ (λ k l. three-begin k _ is (omega arith))
 
   not-past : drop axis (items_of t) ≡ [] → ⊥
   not-past none =
@@ -105,10 +97,7 @@ module _ (axis : ℕ) (t : Tree) (is : is_vertex t ≡ true) (within : axis < 3)
       ∙ three-begin axis (map whole_of (items_of t)) is within))
 
   pub within-items : axis < length (items_of t)
-  within-items = elim (cases_lt axis (length (items_of t))) [
-    | inl low ↦ low
-    | inr high ↦ absurd (not-past (drop_all axis (items_of t) high))
-  ]
+  within-items = search (arith, cases_lt, not-past, drop_all)
 
   module _ (x : Tree) (rest : List Tree) (e : drop axis (items_of t) ≡ x ∷ rest) where
     pub whole-on : (w : ℤ) × (whole_of x ≡ Some w)
@@ -119,9 +108,4 @@ module _ (axis : ℕ) (t : Tree) (is : is_vertex t ≡ true) (within : axis < 3)
     pub word-on-if : (o : Option ℕ) → IfSome o (λ w. (n : ℕ) × IsWordOf w n × (whole_of x ≡ Some (pos n)))
         → IfSome o (λ w. (n : ℕ) × IsWordOf w n × (number_on axis (vertex_of t) ≡ pos n))
     word-on-if None read = read
-    word-on-if (Some w) read = (
-      read.0,
-      read.1,
-      number-begins axis (map whole_of (items_of t)) (map whole_of rest) (pos read.0)
-          (drop-map whole_of axis (items_of t) ∙ ap (map whole_of) e ∙ ap (λ o. o ∷ map whole_of rest) read.2),
-    )
+    word-on-if (Some w) read = search (arith, number-begins, drop-map)

@@ -1,5 +1,5 @@
 -- The values of numbers that rules have read.
-use Rattle.cj_feature.proofs.Common.{Bool, DecimalFault, Err, IsInRange, IsNumberInRange, IsValue, IsWhole, Kind, List, None, Number, Ok, Option, Result, Some, Tree, [], ap, array, as_whole, cond, decimal_of, false, is_number, kind_of, number, object, option_and_then, refl, result_ok, scalar, spelling, spelling_of, true, value_findings, value_of, whole_of, ℕ, ℤ, ◌≡◌}
+use Rattle.cj_feature.proofs.Common.{Bool, DecimalFault, Err, IsInRange, IsNumberInRange, IsValue, IsWhole, Kind, List, None, Number, Ok, Option, Result, Some, Tree, [], ap, arith, array, as_whole, cond, decimal_of, false, is_number, kind_of, number, object, option_and_then, refl, result_ok, scalar, spelling, spelling_of, true, value_findings, value_of, whole_of, ℕ, ℤ, ◌≡◌}
 use Rattle.cj_spans.specs.declared.token.Kind.TheVariants.{Null, Truth, Number as NumberKind, Text, Array, Object}
 use Rattle.cj_decimal.proofs.Decimals.{decimal_is, decimal_has, is_whole}
 use Rattle.cj_feature.proofs.None.{kind-none}
@@ -32,7 +32,7 @@ module _ (line : List ℕ) (t : Tree) (none : number t ≡ []) where
 
   -- it is one in range
   pub read-in-range : IsNumberInRange (spelling_of line t)
-  read-in-range = rw spelled (in-range (spelling t) t (decimal_of (spelling t)) refl parts.1)
+  read-in-range = search (arith, spelled, in-range)
 
   -- and its value is the one that is read
   pub read-value : (u : Number) → IsValue (spelling_of line t) u → IsInRange u → value_of t ≡ Some u
@@ -50,9 +50,7 @@ if-number true o x h = h
 if-number false o x h = absurd (cc h)
 
 pub its-value : (t : Tree) (v : Number) → value_of t ≡ Some v → IsValue (spelling t) v
-its-value t v h =
-    let there = if-number (is_number (kind_of t)) (result_ok (decimal_of (spelling t))) v h in
-    (decimal_has (spelling t) v (read-there (decimal_of (spelling t)) v there)).0
+its-value t v h = search (arith, if-number, decimal_has, read-there)
 
 whole-value : (o : Option Number) (w : ℤ) → option_and_then as_whole o ≡ Some w → (v : Number) × (o ≡ Some v)
     × (as_whole v ≡ Some w)
@@ -60,7 +58,6 @@ whole-value None w h = absurd (cc h)
 whole-value (Some v) w h = (v, refl, h)
 
 pub its-whole : (t : Tree) (w : ℤ) → whole_of t ≡ Some w → (v : Number) × IsValue (spelling t) v × IsWhole v w
-its-whole t w h =
-    let v = whole-value (value_of t) w h in
-    let is = its-value t v.0 v.1 in
-    (v.0, is, is_whole v.0 is.normal w v.2)
+its-whole t w h = search (arith, whole-value, its-value, is_whole)
+
+pub ruleset number_values = (its-value, its-whole)

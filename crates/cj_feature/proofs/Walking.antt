@@ -1,5 +1,5 @@
 -- A walk over the city objects of a feature: what is left of it.
-use Rattle.cj_feature.proofs.Common.{Contains, IfNone, IsBeside, IsMarkedBy, List, Node, None, Option, Some, Tree, contains_cases, contains_first, contains_later, inl, inr, line_of, members_left, members_line, members_of, members_source, source_of, spans_of, subst, sym, tokens_in, tree, tree_at, trees, ℕ, ◌∙◌, ◌∷◌, ◌≡◌, ◌⊎◌}
+use Rattle.cj_feature.proofs.Common.{Contains, IfNone, IsBeside, IsMarkedBy, List, Node, None, Option, Some, Tree, arith, contains_cases, contains_first, contains_later, line_of, members_left, members_line, members_of, members_source, source_of, spans_of, subst, sym, tokens_in, tree, tree_at, trees, ℕ, ◌∙◌, ◌∷◌, ◌≡◌, ◌⊎◌}
 use Rattle.cj_spans.specs.View.{YieldsMember}
 use Rattle.cj_spans.specs.declared.node.Members.{Members}
 
@@ -23,8 +23,7 @@ next-or xs x ys y e h = contains_cases x ys y (subst (λ zs. Contains zs y) e h)
 -- what holds of the next one and of each of the rest, holds of each
 pub each-more : {X : Type 0} (P : X → Type 0) (xs : List X) (x : X) (ys : List X) → xs ≡ x ∷ ys → P x
     → ((y : X) → Contains ys y → P y) → (y : X) → Contains xs y → P y
-each-more P xs x ys e first later y h =
-    elim (next-or xs x ys y e h) [ inl same ↦ subst P same first | inr k ↦ later y k ]
+each-more P xs x ys e first later y h = search (arith, next-or)
 
 -- the walk goes over some of these city objects, in their line
 pub record Among (objects : Node) (w : Members) : Type 0 where
@@ -36,7 +35,7 @@ pub record Among (objects : Node) (w : Members) : Type 0 where
 module _ {objects : Node} {w : Members} (a : Among objects w) (p : Node × Node) (v : Members)
     (s : YieldsMember w (Some p) v) where
   pub first-among : Contains (members_of (tree objects)) (trees p)
-  first-among = a.among (trees p) (subst (λ ms. Contains ms (trees p)) (sym s.0) (contains_first (trees p) _))
+  first-among = search (arith, contains_first)
 
   pub later-among : Among objects v
   later-among = record {
@@ -64,3 +63,9 @@ later-left {P} {objects} {w} l p v s here = record {
 pub if-none : {P Q : Type 0} (o : Option ℕ) → (P → Q) → IfNone o P → IfNone o Q
 if-none None f h = f h
 if-none (Some n) f h = tt
+
+-- steps of such a walk
+pub ruleset walk_steps = (first-among, later-among)
+
+-- what a walk shows of its next one
+pub ruleset next_steps = (later-left, first-among, later-among, beside, marked-beside, marked-back)

@@ -15,12 +15,14 @@ ghost use Rattle.cj_feature.specs.Meaning.Relations.{IsLinkFault};
 
 /// There are two definitions of what is wrong with the links of city objects. One is tests on their
 /// members, which compute. The other is relations between ids. Both give the same findings.
+#[tactic(auto, using(crate::proofs::LinkFaults::links_both_ways))]
 pub fn links_are_the_links()
     ensures { (t : Tree) (f : Finding) → Contains (links (Some t)) f ↔ IsLinkFault (members_of t) f }
 {}
 
 /// There are two definitions of what is reached from an id. One is rounds over the city objects,
 /// which compute. The other is the least set of ids. Both give the same result for each name.
+#[tactic(auto, using(crate::proofs::Reaching::reached_both_ways))]
 pub fn reached_is_the_least_set()
     ensures { (objects : List (Tree × Tree)) (id name : Tree)
         → (is_reached objects id name ≡ true) ↔ IsReached objects id name }
@@ -35,6 +37,7 @@ pub fn fixed_numbers_are_fixed()
 {}
 
 /// The numbers that headers and features show are the values of their spellings.
+#[tactic(auto, using(crate::proofs::Values::number_values))]
 pub fn numbers_have_their_values()
     ensures value { (t : Tree) (v : Number) → value_of t ≡ Some v → IsValue (spelling t) v }
     ensures whole { (t : Tree) (w : ℤ) → whole_of t ≡ Some w

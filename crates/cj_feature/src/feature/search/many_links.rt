@@ -51,6 +51,7 @@ struct Current<'a> {
 
 /// Checks an item of the list of the current city object. Returns whether it is known to be an id
 /// in the feature.
+#[tactic(auto, using(crate::proofs::Passes::lists_known, crate::proofs::Passes::told_linked, crate::proofs::Passes::listed_linked))]
 fn check_item<'a, const ROOM: usize, const KEPT: usize>(
     objects: Node<'a>,
     item: Node<'a>,
@@ -148,6 +149,7 @@ fn check_list<'a, const ROOM: usize, const KEPT: usize>(
 }
 
 /// The children of all city objects.
+#[tactic(auto, using(crate::proofs::Verdict::finding_steps))]
 fn check_all_children<'a, const ROOM: usize, const KEPT: usize>(
     objects: Node<'a>,
     questions: &mut Questions<ROOM, KEPT>,
@@ -168,6 +170,7 @@ fn check_all_children<'a, const ROOM: usize, const KEPT: usize>(
 }
 
 /// Returns whether a parent of the current city object is an id in the feature.
+#[tactic(auto, using(crate::proofs::Passes::lists_known))]
 fn is_known_parent<'a, const ROOM: usize, const KEPT: usize>(
     objects: Node<'a>,
     item: Node<'a>,
@@ -240,6 +243,7 @@ fn check_part<'a, const ROOM: usize, const KEPT: usize>(
 }
 
 /// The parents of all city objects.
+#[tactic(auto, using(crate::proofs::Verdict::finding_steps, crate::proofs::Passes::known_part))]
 fn check_all_parents<'a, const ROOM: usize, const KEPT: usize>(
     objects: Node<'a>,
     questions: &mut Questions<ROOM, KEPT>,

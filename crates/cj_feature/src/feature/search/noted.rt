@@ -85,6 +85,7 @@ impl Noted {
 }
 
 /// Compares the texts of two nodes by code points. One node has one text.
+#[tactic(auto, using(crate::proofs::Questions::one_text))]
 fn compare_numbered(objects: Node, first: u32, second: u32) -> Ordering
     ensures { result ≡ compare_texts (text_of (tree_in (source_of objects.entry) first))
         (text_of (tree_in (source_of objects.entry) second)) }

@@ -116,6 +116,7 @@ impl<const ROOM: usize, const KEPT: usize> Questions<ROOM, KEPT> {
     /// lists the second. Returns whether there was one without a flag.
     ///
     /// It takes the texts and the run one by one, since only the questions change.
+    #[tactic(auto, using(crate::proofs::Questions::listed_on))]
     fn answer_item(
         &mut self,
         list: &str,
@@ -265,6 +266,7 @@ impl<const ROOM: usize, const KEPT: usize> Questions<ROOM, KEPT> {
 
     /// Returns whether a city object that an item names lists the current one. If the question is
     /// not noted, it is noted with the next ones and answered.
+    #[tactic(auto, using(crate::proofs::Questions::unknown))]
     pub fn answer(&mut self, objects: Node, item: Node, ahead: Ahead) -> LinkAnswer
         requires { AreAnswered (back_of ahead.link) objects [] self.old }
         ensures answer { IsAnswer (back_of ahead.entry.link) objects.entry (tree item.entry)

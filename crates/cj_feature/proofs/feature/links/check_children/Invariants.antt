@@ -1,9 +1,8 @@
-use Rattle.cj_feature.proofs.Common.{flat_map, items_left, least, members_of, tree, ◌≡◌}
+use Rattle.cj_feature.proofs.Common.{FindsAll, items_left, members_of, tree}
 use Rattle.cj_feature.specs.Meaning.Links.{child}
 use Rattle.cj_feature.proofs.feature.links.check_children.Given as goal
 
 abbrev pub invariant-loop-item : goal.invariant-loop-item
 invariant-loop-item l =
-    least l.found (flat_map (child (members_of (tree l.objects)) (tree l.name)) (items_left l.item-iterator))
-    ≡ least l.initial.found (flat_map (child (members_of (tree l.objects)) (tree l.name))
-    (items_left l.initial.item-iterator))
+    FindsAll (child (members_of (tree l.objects)) (tree l.name)) l.found (items_left l.item-iterator) l.initial.found
+    (items_left l.initial.item-iterator)

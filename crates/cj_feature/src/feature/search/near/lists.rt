@@ -60,6 +60,7 @@ fn is_behind(objects: Node, slot: Slot, text: Node) -> bool {
 }
 
 /// Sorts the slots between two places by the names of their city objects.
+#[tactic(auto, using(crate::proofs::NearLemmas::slots_moved))]
 fn sort(objects: Node, slots: &mut [Slot], start: usize, end: usize)
     requires within { start ≤ end × end ≤ length slots.old }
     ensures { IsPermutation slots.old slots.new }
@@ -94,6 +95,7 @@ impl<const OBJECTS: usize, const LISTS: usize> Lists<OBJECTS, LISTS> {
     ghost use Rattle.cj_feature.specs.inner.Marking.{Knows, AddsNone, IsBeside};
 
     /// Returns lists that hold no city object.
+    #[tactic(auto, using(crate::proofs::NearLemmas::none_at_hand))]
     pub fn new() -> Self
         requires { 0 < LISTS }
         ensures { (k n : ℕ) (s : Slot) → slice_get result.slots k ≡ Some s → IsReady s n → ⊥ }
@@ -200,6 +202,7 @@ impl<const OBJECTS: usize, const LISTS: usize> Lists<OBJECTS, LISTS> {
     }
 
     /// Adds the city objects after the first `skip` to their lists, as many as were counted.
+    #[tactic(auto, using(crate::proofs::Walking::walk_steps))]
     fn fill_lists(&mut self, objects: Node, skip: usize)
         requires { Knows objects self.old }
         ensures { Knows objects.entry self.new }

@@ -1,10 +1,10 @@
-use Rattle.cj_feature.proofs.Common.{AreAnswered, [], chars, children, codes, flat_map, least, length, members_left, members_of, members_source, source_of, tree, ◌≡◌}
+use Rattle.cj_feature.proofs.Common.{AreAnswered, FindsAll, [], chars, children, codes, length, members_left, members_of, members_source, source_of, tree, ◌≡◌}
 use Rattle.cj_feature.proofs.feature.search.many_links.check_all_children.Given as goal
 
 abbrev pub invariant-loop-name : goal.invariant-loop-name
 invariant-loop-name g l = record {
-  found : least l.found (flat_map (children (members_of (tree l.objects))) (members_left l.later))
-      ≡ least l.initial.found (flat_map (children (members_of (tree l.objects))) (members_of (tree l.objects)));
+  found : FindsAll (children (members_of (tree l.objects))) l.found (members_left l.later) l.initial.found
+      (members_of (tree l.objects));
   answered : AreAnswered (chars (codes "parents")) l.objects [] l.questions;
   source : members_source l.later ≡ source_of l.objects;
 }

@@ -1,4 +1,4 @@
-use Rattle.cj_feature.proofs.Common.{IsNoted, drop, inl, inr, length, rules, subst, sym, take, take_at, ◌++◌, ◌≡◌}
+use Rattle.cj_feature.proofs.Common.{drop, inl, inr, length, rules, take, take_at, ◌≡◌}
 use Rattle.cj_feature.proofs.NameLemmas.{noted-moved}
 use Rattle.cj_feature.proofs.feature.search.unmarked.gather_next.Goals as goal
 
@@ -9,12 +9,12 @@ returns-clause-passed c = λ m h.
     let sorted = c.sort.new.names in
     let rest = drop count c.note_next-count.new.names in
     let long : length sorted ≡ count = search rules in
-    let e : take count (sorted ++ rest) ≡ sorted = take_at sorted rest count long in
+    let e = take_at sorted rest count long in
     elim (c.note_next-count.ensures.passed m h) [
       | inl k ↦ inl k
       | inr k ↦ inr (elim k [
         | inl marked ↦ inl marked
-        | inr n ↦ inr (subst (λ xs. IsNoted objects xs m.0) (sym e)
+        | inr n ↦ inr (rw e
             (noted-moved objects (take count c.note_next-count.new.names) sorted m.0 c.sort.ensures.moved n))
       ])
     ]

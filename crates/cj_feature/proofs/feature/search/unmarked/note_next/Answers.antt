@@ -1,4 +1,4 @@
-use Rattle.cj_feature.proofs.Common.{Contains, IsNoted, Noted, Tree, ap, arith, inl, inr, length, length-set, members_left, side_in, side_of, slice_set, source_of, subst, sym, tag_of, take, text_of, tree, tree_in, ◌+◌, ◌<◌, ◌∙◌, ◌≡◌}
+use Rattle.cj_feature.proofs.Common.{IsNoted, Tree, ap, arith, inl, inr, length, length-set, members_left, side_in, side_of, source_of, subst, tag_of, take, text_of, tree, tree_in, ◌+◌, ◌∙◌, ◌≡◌}
 use Rattle.cj_feature.proofs.NameLemmas.{kept-first, last-first}
 use Rattle.cj_feature.proofs.Walking.{next-or}
 use Rattle.cj_feature.proofs.feature.search.unmarked.note_next.Goals as goal
@@ -11,13 +11,11 @@ loop-count-preserved-then-not-marked c =
     let inv = c.loop-count.invariant in
     let steps = c.in-Some.ensures.steps in
     let name = tree c.in-Some.name in
-    let v : Noted = c.of.result in
-    let below : count < length names = c.loop-count-test.true in
-    let e : c.note.new.names ≡ slice_set names count v = c.note.ensures in
+    let v = c.of.result in
+    let below = c.loop-count-test.true in
+    let e = c.note.ensures in
     let long : length c.note.new.names ≡ length names = ap length e ∙ length-set names count v in
-    let source : source_of c.in-Some.name ≡ source_of objects = steps.4.0 ∙ inv.source in
-    let node : tree_in (source_of objects) v.number ≡ name =
-    subst (λ s. tree_in s v.number ≡ name) source c.of.ensures.node in
+    let node = rw (steps.4.0 ∙ inv.source) at c.of.ensures.node in
     let side : side_in objects v ≡ side_of (text_of name) =
     ap (λ n. (n, text_of (tree_in (source_of objects) v.number))) c.of.ensures.tag
     ∙ ap (λ t. (tag_of (text_of name), text_of t)) node in
@@ -25,11 +23,11 @@ loop-count-preserved-then-not-marked c =
     → IsNoted objects (take (count + 1) c.note.new.names) t =
     λ t n. (
       n.0,
-      subst (λ xs. Contains (take (count + 1) xs) n.0) (sym e) (kept-first names count v below n.0 n.1),
+      rw e (kept-first names count v below n.0 n.1),
       n.2,
     ) in
     let here : IsNoted objects (take (count + 1) c.note.new.names) name =
-    (v, subst (λ xs. Contains (take (count + 1) xs) v) (sym e) (last-first names count v below), side) in
+    (v, rw e (last-first names count v below), side) in
     record {
       few = omega (arith, below, long);
       same = long ∙ inv.same;

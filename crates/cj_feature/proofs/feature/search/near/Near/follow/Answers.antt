@@ -5,8 +5,7 @@ use Rattle.cj_feature.proofs.feature.search.near.Near.follow.Goals as goal
 
 pub returns-in_default-clause-guide : goal.returns-in_default-clause-guide
 returns-in_default-clause-guide g c =
-    guide-on c.loop.invariant.guide same-hand
-    (λ f j waits. c.pop.ensures.pending f c.args.line.now (spans_of c.loop.tokens.elements) waits)
+    search (rules, guide-on, same-hand, c.loop.invariant.guide, c.pop.ensures.pending)
 
 pub mark-requires : goal.mark-requires
 mark-requires g c =

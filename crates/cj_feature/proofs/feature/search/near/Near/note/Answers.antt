@@ -1,3 +1,4 @@
+use Rattle.cj_feature.proofs.Common.{rules}
 use Rattle.cj_feature.proofs.NearLemmas.{known-kept, more-hand}
 use Rattle.cj_feature.proofs.feature.search.near.Near.note.Goals as goal
 
@@ -11,8 +12,8 @@ loop-place-preserved g c =
     }
 
 pub returns-then-is_sorted-clause-hand : goal.returns-then-is_sorted-clause-hand
-returns-then-is_sorted-clause-hand g c = more-hand c.loop-place.invariant.hand c.note_one.ensures.hand
+returns-then-is_sorted-clause-hand g c = search (rules, more-hand)
 
 pub returns-then-is_sorted-clause-pending : goal.returns-then-is_sorted-clause-pending
 returns-then-is_sorted-clause-pending g c =
-    λ f reaches waits. c.note_one.ensures.pending f reaches (c.loop-place.invariant.pending f reaches waits)
+    search (rules, c.note_one.ensures.pending, c.loop-place.invariant.pending)

@@ -1,4 +1,4 @@
-use Rattle.cj_feature.proofs.Common.{Contains, contains_first, contains_later, subst, sym, tree}
+use Rattle.cj_feature.proofs.Common.{contains_first, contains_later, tree}
 use Rattle.cj_feature.proofs.NearLemmas.{known-kept, lists-reached, more-hand}
 use Rattle.cj_feature.proofs.feature.search.near.Near.note_children.Goals as goal
 
@@ -8,21 +8,20 @@ loop-item-preserved g c =
     let e = c.in-Some-item.ensures.steps.0 in
     let item = tree c.in-Some-item.item in
     record {
-      among = λ t h. inv.among t (subst (λ ts. Contains ts t) (sym e) (contains_later item _ t h));
+      among = λ t h. inv.among t (rw e (contains_later item _ t h));
       hand = more-hand inv.hand c.note.ensures.hand;
       known = known-kept c.args.objects c.note.ensures.hand inv.known;
       pending = λ f o r waits.
           c.note.ensures.pending f
           (lists-reached f (tree c.args.object) item c.args.objects o r
-          (inv.among item (subst (λ ts. Contains ts item) (sym e) (contains_first item _)))) (inv.pending f o r waits);
+          (inv.among item (rw e (contains_first item _)))) (inv.pending f o r waits);
     }
 
 pub loop-item-preserved-then-gone-skip : goal.loop-item-preserved-then-gone-skip
 loop-item-preserved-then-gone-skip g c =
     let inv = c.loop-item.invariant in
     record {
-      among = λ t h. inv.among t
-          (subst (λ ts. Contains ts t) (sym c.in-Some-item.ensures.steps.0) (contains_later _ _ t h));
+      among = λ t h. inv.among t (rw c.in-Some-item.ensures.steps.0 (contains_later _ _ t h));
       hand = inv.hand;
       known = inv.known;
       pending = inv.pending;
@@ -37,5 +36,5 @@ returns-then-is_full-clause-pending g c = λ f o r waits.
     let item = tree c.in-Some-item.item in
     c.note.ensures.pending f
     (lists-reached f (tree c.args.object) item c.args.objects o r
-    (inv.among item (subst (λ ts. Contains ts item) (sym c.in-Some-item.ensures.steps.0) (contains_first item _))))
+    (inv.among item (rw c.in-Some-item.ensures.steps.0 (contains_first item _))))
     (inv.pending f o r waits)

@@ -1,4 +1,4 @@
-use Rattle.cj_feature.proofs.Common.{AreLeft, IsFirstOn, arith, common_steps, length, members_left, noted, rules, same_text, slice_get_within, subst, sym, trees, true, ◌<◌, ◌∙◌, ◌≡◌}
+use Rattle.cj_feature.proofs.Common.{arith, common_steps, length, members_left, noted, rules, slice_get_within, sym, trees, ◌<◌, ◌∙◌}
 use Rattle.cj_feature.proofs.Questions.{left_unasked, left_flagged}
 use Rattle.cj_feature.proofs.feature.search.questions.Questions.answer_object.Goals as goal
 
@@ -12,7 +12,7 @@ returns-in_default g c =
       known = left_unasked c.args.objects (noted a) a.known (trees (c.args.name, c.args.object))
           (members_left c.args.later) c.requires.answered.known
           (λ i f. sym c.in_default.is
-          ∙ c.first_on.ensures.only i (subst (λ t. IsFirstOn c.args.objects (noted a) t i) (sym c.of-from.ensures) f));
+          ∙ c.first_on.ensures.only i (rw c.of-from.ensures f));
     }
 
 pub answer_items-requires : goal.answer_items-requires
@@ -27,13 +27,13 @@ answer_items-requires g c =
           few = c.requires.answered.few;
           order = c.requires.answered.order;
           listed = c.requires.answered.listed;
-          known = subst (λ flags. AreLeft c.args.objects (noted a) flags rest) (sym c.set_flag.ensures)
+          known = rw c.set_flag.ensures
               (left_flagged c.args.objects (noted a) a.known (trees (c.args.name, c.args.object)) rest
               c.requires.answered.known c.in-Some.place (grind (arith, common_steps))
               (λ i f. sym c.in-Some.is
               ∙ c.first_on.ensures.only i
-              (subst (λ t. IsFirstOn c.args.objects (noted a) t i) (sym c.of-from.ensures) f)));
+              (rw c.of-from.ensures f)));
         },
-        λ f t h k. c.requires.listed f t (subst (λ u. same_text u f ≡ true) c.of-from.ensures h) k,
+        λ f t h k. c.requires.listed f t (rw c.of-from.ensures at h) k,
       ),
     )

@@ -3,10 +3,7 @@ use Rattle.cj_feature.proofs.NearLemmas.{known-kept, more-hand}
 use Rattle.cj_feature.proofs.feature.search.near.lists.Lists.gather.Goals as goal
 
 pub fill_lists-requires : goal.fill_lists-requires
-fill_lists-requires g c = (
-  search rules,
-  known-kept c.args.objects (more-hand c.count_lists.ensures c.start_lists.ensures) c.requires,
-)
+fill_lists-requires g c = search (rules, known-kept, more-hand)
 
 pub returns : goal.returns
-returns g c = known-kept c.args.objects c.sort_lists.ensures c.fill_lists.ensures
+returns g c = search (rules, known-kept)

@@ -1,4 +1,4 @@
-use Rattle.cj_feature.proofs.Common.{Contains, ap, arith, inl, inr, length, line_of, members_of, source_of, spans_by, subst, tokens_in, tree, tree_at, ◌-◌, ◌<◌, ◌∙◌, ◌≡◌}
+use Rattle.cj_feature.proofs.Common.{Contains, ap, arith, inl, inr, length, line_of, members_of, source_of, spans_by, tokens_in, tree, tree_at, ◌-◌, ◌<◌, ◌∙◌, ◌≡◌}
 use Rattle.cj_spans.proofs.Scanned.{length-spans_of}
 use Rattle.cj_feature.proofs.NearLemmas.{each-set}
 use Rattle.cj_feature.proofs.Walking.{shown-beside}
@@ -9,7 +9,7 @@ returns-then-place g c =
     let o = c.args.objects in
     let n = c.number-number.result in
     let spans = spans_by o in
-    let inside = subst (λ s. n < length (tokens_in s)) c.requires.object.1 c.number-number.ensures.within in
+    let inside = rw c.requires.object.1 at c.number-number.ensures.within in
     let same_length = length-spans_of (tokens_in (source_of o)) in
     let before : n - 1 ≡ c.number.result = omega arith in
     let name = ap (tree_at (line_of o) spans) before
