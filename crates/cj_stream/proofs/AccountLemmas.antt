@@ -1,5 +1,5 @@
 -- The account of a run over a stream, from those of runs over its parts.
-use Rattle.cj_stream.proofs.Common.{Account, AreCounted, Complete, Counts, End, Ends, IsBounded, IsCut, IsExact, IsUnread, Kept, LimitPair, Line, List, Memory, NoLf, None, Outcome, Peaks, ReadFault, ReadLimit, Refused, Rules, Run, Some, WriteFault, [], ap, append-nil, append_assoc, arith, begun, both_outcomes, bytes_bound, closed, contents, ended_line, ending, ending_of, exact_peaks, filter, filter-append, good, greater_peaks, headed, inl, inr, is_feature, is_readable, judged, kept_from, later_of, length, length-append, length-map, lines, list_all, list_all-append, long_line, map, max, min, moved_end, moved_report, nat_tests, option_map, refl, refusal_in, reported_from, rulings, rulings_first, subst, suc, sym, take, take-append-add, take-append-le, true, verdict, whole, zero, ℕ, ◌&&◌, ◌++◌, ◌+◌, ◌-◌, ◌/◌, ◌∙◌, ◌∷◌, ◌≡◌, ◌≤◌, ◌⊎◌}
+use Rattle.cj_stream.proofs.Common.{Account, AreCounted, Complete, Counts, End, Ends, IsBounded, IsCut, IsExact, IsUnread, Kept, LimitPair, Line, List, Memory, NoLf, None, Outcome, Peaks, ReadFault, ReadLimit, Refused, Rules, Run, Some, WriteFault, [], ap, append-nil, append_assoc, arith, begun, both_outcomes, bytes_bound, closed, contents, ended_line, ending, ending_of, exact_peaks, filter, filter-append, good, greater_peaks, headed, inl, inr, is_feature, is_readable, judged, kept_from, later_of, length, length-append, length-map, lines, list_all, list_all-append, long_line, map, max, min, moved_end, moved_report, nat_tests, option_map, refl, refusal_in, reported_from, rulings, subst, suc, sym, take, take-append-add, take-append-le, true, verdict, whole, zero, ℕ, ◌++◌, ◌+◌, ◌-◌, ◌/◌, ◌∙◌, ◌∷◌, ◌≡◌, ◌≤◌, ◌⊎◌}
 use Rattle.cj_stream.specs.Meaning.Bound.{tokens_bound, of_first as first_measure}
 use Rattle.cj_stream.specs.Bound.{are_legible}
 use Rattle.cj_stream.proofs.FirstLemmas.{first-good}
@@ -20,15 +20,15 @@ begun-parts : (a b : List ℕ) → whole a ≡ a → begun (a ++ b) ≡ begun b
 begun-parts a b w = begun-then a b ∙ ap (λ z. begun (z ++ b)) (none-begun a w)
 
 lines-ended : (a : List ℕ) → whole a ≡ a → lines a ≡ map ended_line (closed a)
-lines-ended a w = let none = none-begun a w in lines-cut a ∙ rw (none, append-nil (map ended_line (closed a))) refl
+lines-ended a w = lines-cut a ∙ rw (none-begun a w, append-nil (map ended_line (closed a)))
 
 judged-headed : (limits : LimitPair) (h s : List ℕ) → NoLf h
     → judged limits (headed h s) ≡ ended_line h ∷ judged limits s
-judged-headed limits h s free = rw (closed-ended h s free, begun-ended h s free) refl
+judged-headed limits h s free = rw (closed-ended, begun-ended)
 
 judged-parts : (limits : LimitPair) (a b : List ℕ) → whole a ≡ a → judged limits (a ++ b) ≡ lines a ++ judged limits b
 judged-parts limits a b w =
-    rw (closed-parts a b w, begun-parts a b w, lines-ended a w, map_lines-append (closed a) (closed b))
+    rw (closed-parts, begun-parts, lines-ended, map_lines-append)
     (append_assoc (map ended_line (closed a)) (map ended_line (closed b)) (long_line limits (begun b)))
 
 whole-headed : (h s : List ℕ) → NoLf h → lines (whole (headed h s)) ≡ ended_line h ∷ map ended_line (closed s)
@@ -40,10 +40,10 @@ whole-parts h a b cut =
     grind (
       arith,
       nat_tests,
-      whole-headed h (a ++ b) cut.header,
-      closed-parts a b cut.lines,
-      map_lines-append (closed a) (closed b),
-      lines-ended a cut.lines,
+      whole-headed,
+      closed-parts,
+      map_lines-append,
+      lines-ended,
     )
 
 -- ---- counts
@@ -90,22 +90,21 @@ module _ (rules : Rules) (l : Line) (valid : verdict rules [] l.content ≡ Kept
 module _ (rules : Rules) (h a : List ℕ) (cut : IsCut h a) (done : ending rules (headed h a) ≡ Complete) (b : List ℕ)
     (n m : ℕ) (all : n ≡ length (good rules (headed h a))) where
   count : n ≡ length (ended_line h ∷ lines a)
-  count = all ∙ ap length (front-good rules h a cut done)
+  count = all ∙ ap length (front-good _ h a cut done)
 
   before : n - 1 ≡ length (lines a)
   before = omega (arith, count)
 
   taken : take (n + (m - 1)) (lines (headed h (a ++ b))) ≡ ended_line h ∷ lines a ++ take (m - 1) (lines b)
   taken =
-      ap (λ z. take (n + (m - 1)) z) (all-lines rules h a cut b)
-      ∙ (ap (λ k. take (k + (m - 1)) (ended_line h ∷ lines a ++ lines b)) count
-      ∙ take-append-add (ended_line h ∷ lines a) (lines b) (m - 1))
+      ap (take (n + (m - 1))) (all-lines rules h a cut b)
+      ∙ ap (λ k. take (k + (m - 1)) (ended_line h ∷ lines a ++ lines b)) count
+      ∙ take-append-add (ended_line h ∷ lines a) (lines b) (m - 1)
 
   few-joined : m ≤ length (lines (headed h b)) → n + (m - 1) ≤ length (lines (headed h (a ++ b)))
   few-joined few =
       omega (
         arith,
-        few,
         count,
         ap length (all-lines rules h a cut b),
         ap length (back-lines rules h a cut b),
@@ -115,16 +114,14 @@ module _ (rules : Rules) (h a : List ℕ) (cut : IsCut h a) (done : ending rules
   Counts-joined : (f g r s : ℕ) → Counts rules (headed h a) n f r → Counts rules (headed h b) m g s
       → Counts rules (headed h (a ++ b)) (n + (m - 1)) (f + g) (r + s)
   Counts-joined f g r s first second =
-      let front : rulings_first rules n (headed h a) ≡ rulings rules [] (ended_line h ∷ lines a) =
-      first-good rules n (headed h a) all ∙ ap (rulings rules []) (front-good rules h a cut done) in
       let valid = header-valid rules h a cut done in
-      let here = subst (λ rs. AreCounted rs f r) front first.counted in
-      let there = let k = rw (back-lines rules h a cut b) at second.counted in
-      Counted-header rules (ended_line h) valid (lines b) m g s k in
+      let here = subst (λ rs. AreCounted rs f r) (first-good rules n (headed h a) all
+      ∙ ap (rulings rules []) (front-good rules h a cut done)) first.counted in
+      let there = Counted-header _ _ valid _ m g s (rw (back-lines rules h a cut b) at second.counted) in
       record {
         few = few-joined second.few;
         counted = rw taken
-            (Counted-joined rules (ended_line h) valid (lines a) (take (m - 1) (lines b)) f g r s here there);
+            (Counted-joined _ _ valid _ _ f g r s here there);
       }
 
   -- ---- the end
@@ -136,27 +133,24 @@ module _ (rules : Rules) (h a : List ℕ) (cut : IsCut h a) (done : ending rules
       → refusal_in rules (judged rules.limits (headed h (a ++ b))) ≡ Some (moved_end (n - 1) e)
   judged-joined e said =
       let later = judged rules.limits b in
-      let second : refusal_in rules (ended_line h ∷ later) ≡ Some e =
-      ap (refusal_in rules) (sym (judged-headed rules.limits h b cut.header)) ∙ said in
-      let stream : judged rules.limits (headed h (a ++ b)) ≡ ended_line h ∷ lines a ++ later =
-      judged-headed rules.limits h (a ++ b) cut.header
-      ∙ ap (λ z. ended_line h ∷ z) (judged-parts rules.limits a b cut.lines) in
-      ap (refusal_in rules) stream
-      ∙ (refusal-joined rules (ended_line h) (header-valid rules h a cut done) (lines a) (front-none rules h a cut done)
-      later
-      ∙ (ap (option_map (moved_end (length (lines a)))) second ∙ ap (λ k. Some (moved_end k e)) (sym before)))
+      ap (refusal_in rules) (judged-headed rules.limits h (a ++ b) cut.header
+      ∙ ap (λ z. ended_line h ∷ z) (judged-parts rules.limits a b cut.lines))
+      ∙ refusal-joined _ _ (header-valid rules h a cut done) _ (front-none rules h a cut done)
+      _
+      ∙ ap (option_map (moved_end (length (lines a))))
+      (ap (refusal_in rules) (sym (judged-headed rules.limits h b cut.header)) ∙ said) ∙ ap (λ k. Some (moved_end k e))
+      (sym before)
 
   whole-joined : (refusal_in rules (lines (whole (headed h b))) ≡ None) × (m ≡ length (lines (whole (headed h b))))
       → (refusal_in rules (lines (whole (headed h (a ++ b)))) ≡ None)
       × (n + (m - 1) ≡ length (lines (whole (headed h (a ++ b)))))
   whole-joined said =
       let later = map ended_line (closed b) in
-      let second : refusal_in rules (ended_line h ∷ later) ≡ None =
-      ap (refusal_in rules) (sym (whole-headed h b cut.header)) ∙ said.0 in
       let stream = whole-parts h a b cut in (
         ap (refusal_in rules) stream
-            ∙ (refusal-joined rules (ended_line h) (header-valid rules h a cut done) (lines a)
-            (front-none rules h a cut done) later ∙ ap (option_map (moved_end (length (lines a)))) second),
+            ∙ refusal-joined _ _ (header-valid rules h a cut done) (lines a)
+            (front-none rules h a cut done) later ∙ ap (option_map (moved_end (length (lines a))))
+            (ap (refusal_in rules) (sym (whole-headed h b cut.header)) ∙ said.0),
         omega (
           arith,
           said.1,
@@ -170,10 +164,10 @@ module _ (rules : Rules) (h a : List ℕ) (cut : IsCut h a) (done : ending rules
   Ends-joined : (at_end : Type 0) (e : End) → Ends rules (headed h b) m at_end e
       → Ends rules (headed h (a ++ b)) (n + (m - 1)) at_end (moved_end (n - 1) e)
   Ends-joined at_end Complete said =
-      (ending-parts rules h a cut done b ∙ ap (moved_end (length (lines a))) said.0, all-counted said.1, said.2)
+      (ending-parts _ h a cut done b ∙ ap (moved_end (length (lines a))) said.0, all-counted said.1, said.2)
   Ends-joined at_end (Refused number place reason) said = (
-    ending-parts rules h a cut done b
-        ∙ (ap (moved_end (length (lines a))) said.0 ∙ ap (λ k. Refused (number + k) place reason) (sym before)),
+    ending-parts _ h a cut done b
+        ∙ ap (moved_end (length (lines a))) said.0 ∙ ap (λ k. Refused (number + k) place reason) (sym before),
     all-counted said.1,
     seen said.2,
   )
@@ -182,7 +176,7 @@ module _ (rules : Rules) (h a : List ℕ) (cut : IsCut h a) (done : ending rules
           → at_end ⊎ (refusal_in rules (judged rules.limits (headed h (a ++ b)))
           ≡ Some (Refused (number + (n - 1)) place reason))
       seen (inl end) = inl end
-      seen (inr k) = inr (judged-joined (Refused number place reason) k)
+      seen (inr k) = inr (judged-joined _ k)
   Ends-joined at_end ReadFault said = whole-joined said
   Ends-joined at_end ReadLimit said = whole-joined said
   Ends-joined at_end WriteFault said = tt
@@ -196,8 +190,8 @@ module _ (limits : LimitPair) (h a b : List ℕ) (cut : IsCut h a) where
       ≡ first_measure (λ (l : Line). length l.content) (lines (headed h t))
   same-first s t =
       first-length (headed h s)
-      ∙ (ap length (first-headed h s cut.header ∙ sym (first-headed h t cut.header))
-      ∙ sym (first-length (headed h t)))
+      ∙ ap length (first-headed h s cut.header ∙ sym (first-headed h t cut.header))
+      ∙ sym (first-length (headed h t))
 
   same-bytes : (s t : List ℕ) → bytes_bound limits (headed h s) ≡ bytes_bound limits (headed h t)
   same-bytes s t = ap (λ n. min n limits.line + limits.line) (same-first s t)
@@ -207,24 +201,24 @@ module _ (limits : LimitPair) (h a b : List ℕ) (cut : IsCut h a) where
 
   Bounded-stays : (p : Peaks) → IsBounded limits (headed h a) p → IsBounded limits (headed h (a ++ b)) p
   Bounded-stays p first = record {
-    bytes = subst (λ (n : ℕ). p.bytes ≤ n) (same-bytes a (a ++ b)) first.bytes;
-    tokens = subst (λ (n : ℕ). p.tokens ≤ n) (same-tokens a (a ++ b)) first.tokens;
+    bytes = rw (same-bytes a (a ++ b)) at first.bytes;
+    tokens = rw (same-tokens a (a ++ b)) at first.tokens;
     depth = first.depth;
   }
 
   two-below : (x y n : ℕ) → x ≤ n → y ≤ n → max x y ≤ n
-  two-below x y n p q = omega (arith, p, q)
+  two-below x y n p q = omega arith
 
   Bounded-joined : (p q : Peaks) → IsBounded limits (headed h a) p → IsBounded limits (headed h b) q
       → IsBounded limits (headed h (a ++ b)) (greater_peaks p q)
   Bounded-joined p q first second =
       let x = Bounded-stays p first in
       record {
-        bytes = two-below p.bytes q.bytes _ x.bytes
-            (subst (λ (n : ℕ). q.bytes ≤ n) (same-bytes b (a ++ b)) second.bytes);
-        tokens = two-below p.tokens q.tokens _ x.tokens
-            (subst (λ (n : ℕ). q.tokens ≤ n) (same-tokens b (a ++ b)) second.tokens);
-        depth = two-below p.depth q.depth _ first.depth second.depth;
+        bytes = two-below _ _ _ x.bytes
+            (rw (same-bytes b (a ++ b)) at second.bytes);
+        tokens = two-below _ _ _ x.tokens
+            (rw (same-tokens b (a ++ b)) at second.tokens);
+        depth = two-below _ _ _ first.depth second.depth;
       }
 
   legible-headed : (s : List ℕ) → are_legible limits (headed h s) ≡ list_all (is_readable limits) (contents s)
@@ -233,29 +227,27 @@ module _ (limits : LimitPair) (h a b : List ℕ) (cut : IsCut h a) where
   legible-parts : are_legible limits (headed h (a ++ b)) ≡ true → (are_legible limits (headed h a) ≡ true)
       × (are_legible limits (headed h b) ≡ true)
   legible-parts h_ab =
-      let all : list_all (is_readable limits) (contents a) && list_all (is_readable limits) (contents b) ≡ true =
-      sym (legible-headed (a ++ b)
-      ∙ (ap (list_all (is_readable limits)) (contents-parts a b cut.lines)
-      ∙ list_all-append (is_readable limits) (contents a) (contents b))) ∙ h_ab in
-      let both = and-both (list_all (is_readable limits) (contents a)) (list_all (is_readable limits) (contents b))
-      all in
+      let both = and-both _ _
+      (sym (legible-headed (a ++ b)
+      ∙ ap (list_all (is_readable limits)) (contents-parts a b cut.lines)
+      ∙ list_all-append (is_readable limits) (contents a) (contents b)) ∙ h_ab) in
       (legible-headed a ∙ both.0, legible-headed b ∙ both.1)
 
   Exact-joined : (p q : Peaks) → IsExact limits (headed h a) p → IsExact limits (headed h b) q
       → IsExact limits (headed h (a ++ b)) (greater_peaks p q)
   Exact-joined p q first second =
-      let stream = exact-parts limits h a b cut in
+      let stream = exact-parts _ h a b cut in
       record {
-        bytes = omega (arith, first.bytes, second.bytes, ap (λ z. z.bytes) stream);
+        bytes = omega (arith, ap (λ z. z.bytes) stream);
         least = record {
-          bytes = omega (arith, first.least.bytes, second.least.bytes, ap (λ z. z.bytes) stream);
-          tokens = omega (arith, first.least.tokens, second.least.tokens, ap (λ z. z.tokens) stream);
-          depth = omega (arith, first.least.depth, second.least.depth, ap (λ z. z.depth) stream);
+          bytes = omega (arith, ap (λ z. z.bytes) stream);
+          tokens = omega (arith, ap (λ z. z.tokens) stream);
+          depth = omega (arith, ap (λ z. z.depth) stream);
         };
         legible = λ all.
             let both = legible-parts all in
             ap (λ z. greater_peaks z q) (first.legible both.0)
-            ∙ (ap (λ z. greater_peaks (exact_peaks limits (headed h a)) z) (second.legible both.1) ∙ sym stream);
+            ∙ ap (greater_peaks (exact_peaks limits (headed h a))) (second.legible both.1) ∙ sym stream;
       }
 
 -- ---- the account
@@ -270,15 +262,15 @@ module _ (rules : Rules) (h a b : List ℕ) (cut : IsCut h a) (first second : Ou
       → Account (run_over rules (headed h b) second) at_last
       → Account (run_over rules (headed h (a ++ b)) (both_outcomes first second)) at_last
   Account-joined is x y =
-      let said : Ends rules (headed h a) first.lines at_end Complete =
-      subst (λ (e : End). Ends rules (headed h a) first.lines at_end e) is x.ends in
+      let said =
+      rw is at x.ends in
       record {
-        bounded = Bounded-joined rules.limits h a b cut first.peaks second.peaks x.bounded y.bounded;
-        exact = λ done. Exact-joined rules.limits h a b cut first.peaks second.peaks (x.exact is)
+        bounded = Bounded-joined _ h a b cut _ _ x.bounded y.bounded;
+        exact = λ done. Exact-joined _ h a b cut _ _ (x.exact is)
             (y.exact (was_complete second.ended done));
-        counts = Counts-joined rules h a cut said.0 b first.lines second.lines said.1 first.kept second.kept
-            first.refused second.refused x.counts y.counts;
-        ends = Ends-joined rules h a cut said.0 b first.lines second.lines said.1 at_last second.ended y.ends;
+        counts = Counts-joined _ h a cut said.0 b _ _ said.1 _ _
+            _ _ x.counts y.counts;
+        ends = Ends-joined _ h a cut said.0 b _ _ said.1 _ _ y.ends;
       }
     where
       was_complete : (e : End) → moved_end (first.lines - 1) e ≡ Complete → e ≡ Complete
@@ -294,18 +286,15 @@ module _ (rules : Rules) (h a b : List ℕ) (cut : IsCut h a) (first second : Ou
       → Ends rules (headed h (a ++ b)) n at_last e
   Ends-stays n Complete other unread said = absurd (other refl)
   Ends-stays n (Refused number place reason) other unread said =
-      let e = Refused number place reason in
-      let stays = refused-stays rules h a cut b (λ k. other (sym said.0 ∙ k)) in
-      let front : refusal_in rules (ended_line h ∷ lines a) ≡ Some (Refused number place reason) =
-      some_of (refusal_in rules (ended_line h ∷ lines a)) number place reason
-      (ap (λ z. ending_of rules z) (sym (front-lines rules h a cut)) ∙ said.0) in
-      let later = judged rules.limits b in
-      let stream : judged rules.limits (headed h (a ++ b)) ≡ ended_line h ∷ lines a ++ later =
-      judged-headed rules.limits h (a ++ b) cut.header
-      ∙ ap (λ z. ended_line h ∷ z) (judged-parts rules.limits a b cut.lines) in (
+      let stays = refused-stays _ h a cut b (λ k. other (sym said.0 ∙ k)) in
+      let later = judged rules.limits b in (
         stays.0 ∙ said.0,
         said.1 ∙ sym (ap length stays.1),
-        inr (ap (refusal_in rules) stream ∙ refusal-stays rules [] (ended_line h ∷ lines a) later e front),
+        inr (ap (refusal_in rules) (judged-headed rules.limits h (a ++ b) cut.header
+            ∙ ap (λ z. ended_line h ∷ z) (judged-parts rules.limits a b cut.lines))
+            ∙ refusal-stays rules [] (ended_line h ∷ lines a) later (Refused number place reason)
+            (some_of (refusal_in rules (ended_line h ∷ lines a)) number place reason
+            (ap (λ z. ending_of rules z) (sym (front-lines rules h a cut)) ∙ said.0))),
       )
   Ends-stays n WriteFault other unread said = tt
   Ends-stays n Memory other unread said = tt
@@ -316,18 +305,17 @@ module _ (rules : Rules) (h a b : List ℕ) (cut : IsCut h a) (first second : Ou
 
   Counts-stays : (n f r : ℕ) → Counts rules (headed h a) n f r → Counts rules (headed h (a ++ b)) n f r
   Counts-stays n f r x =
-      let same : take n (lines (headed h (a ++ b))) ≡ take n (lines (headed h a)) = ap (λ z. take n z) stream-lines
-      ∙ take-append-le n (lines (headed h a)) (lines b) x.few in
       record {
         few = omega (arith, x.few, ap length stream-lines, length-append (lines (headed h a)) (lines b));
-        counted = rw same x.counted;
+        counted = rw (ap (λ z. take n z) stream-lines
+            ∙ take-append-le n (lines (headed h a)) (lines b) x.few) x.counted;
       }
 
   pub Account-stays : ¬ (first.ended ≡ Complete) → IsUnread first.ended
       → Account (run_over rules (headed h a) first) at_end → Account (run_over rules (headed h (a ++ b)) first) at_last
   Account-stays other unread x = record {
-    bounded = Bounded-stays rules.limits h a b cut first.peaks x.bounded;
+    bounded = Bounded-stays _ h a b cut _ x.bounded;
     exact = λ done. absurd (other done);
-    counts = Counts-stays first.lines first.kept first.refused x.counts;
-    ends = Ends-stays first.lines first.ended other unread x.ends;
+    counts = Counts-stays _ _ _ x.counts;
+    ends = Ends-stays _ _ other unread x.ends;
   }

@@ -1,10 +1,10 @@
 -- The list of judged lines says what the lines one after another say.
-use Rattle.cj_stream.proofs.Common.{Bool, Complete, Invalid, IsVerdict, Item, Json, Judgement, Kept, Line, List, None, Option, Report, Rules, Ruling, Some, Tree, Verdict, [], ap, arith, broken, cond, cons_option, ending, ending_of, false, first_end, flat_map, good, good_from, is_kept, is_some, item_after, item_by, item_of, judged_at, judged_behind, judged_later, judged_lines, judged_list, judged_tree, kept, kept_in, kept_of, length, length-append, lines, lines_before, map, nat_tests, nest, not, option_map, output, raw, raw_item, refl, refusal_from, refusal_of, reported, reported_of, reports_of, ruling_after, rulings, spelled, subst, sunk, sym, tree_of, true, unwrap_or, verdict, verdict_at, ℕ, ◌&&◌, ◌++◌, ◌+◌, ◌<◌, ◌∙◌, ◌∷◌, ◌≡◌, ◌≤◌}
+use Rattle.cj_stream.proofs.Common.{Bool, Complete, Invalid, IsVerdict, Item, Json, Judgement, Kept, Line, List, None, Option, Report, Rules, Ruling, Some, Tree, Verdict, [], ap, arith, broken, cond, cons_option, ending, ending_of, false, first_end, flat_map, good, good_from, is_kept, is_some, item_after, item_by, item_of, judged_at, judged_later, judged_lines, judged_list, judged_tree, kept, kept_in, kept_of, length, length-append, lines, lines_before, map, nat_tests, nest, not, option_map, output, raw, raw_item, refl, refusal_from, refusal_of, reported, reported_of, reports_of, ruling_after, rulings, spelled, subst, sunk, sym, tree_of, true, unwrap_or, verdict, verdict_at, ℕ, ◌&&◌, ◌++◌, ◌+◌, ◌<◌, ◌∙◌, ◌∷◌, ◌≡◌, ◌≤◌}
 use Rattle.std.proofs.Common.{eqb, ◌||◌, filter_map, option_and_then, find}
 use Rattle.std.proofs.lemmas.List.Sums.{take_while-cons}
 use Rattle.cj_spans.proofs.Judgements.{judgement, say_same}
 use Rattle.cj_stream.specs.Meaning.Judged.{JudgedLine, ends, handled, is_invalid, report_by, report_of, output_in, reported_in, end_of_report, ending_in, written_by}
-use Rattle.cj_stream.proofs.JudgedLemmas.{first-is, kept-tree, later-fits, behind-some, no_tree, verdict-is}
+use Rattle.cj_stream.proofs.JudgedLemmas.{first-is, kept-tree, later-fits, behind-some, verdict-is}
 use Rattle.cj_stream.proofs.VerdictLemmas.{valid-first, verdict-first}
 
 item-none : (line : Line) (header tree : Option Tree) (v : Verdict) → is_kept v ≡ false
@@ -111,9 +111,9 @@ module _ (rules : Rules) where
       → item_by l header t v
       ≡ Some (record { line = l; tree = tree_of rules.limits.depth l.content; header = header })
   same-item header l t v is e =
-      let k = kept-tree rules header l.content t v is e in
-      let same = same-tree l.content k.0 k.2.json k.2.shallow in
-      rw (e, k.1) (ap (λ z. Some (record { line = l; tree = z; header = header })) same)
+      let k = kept-tree _ _ _ t v is e in
+      rw (e, k.1) (ap (λ z. Some (record { line = l; tree = z; header = header })) (same-tree l.content k.0 k.2.json
+      k.2.shallow))
 
   -- the ruling on a line, and the line with the verdict that it has there
   same : (before : List Line) (l : Line) (j : JudgedLine) → j.line ≡ l → j.number ≡ length before + 1
@@ -138,10 +138,9 @@ module _ (rules : Rules) where
   later-agrees first xs n e [] = record { good = refl; kept = refl; written = refl; reported = refl; refusal = refl }
   later-agrees first xs n e (l ∷ ls) =
       let h = tree_of rules.limits.depth first.content in
-      let later : 1 < n = omega (arith, e) in
-      let is = verdict-is rules n h (Some h) (later-fits rules n h later) l.content in
-      step (ruling_after rules (first ∷ xs) l) (rulings rules (first ∷ xs ++ l ∷ []) ls)
-      (judged_at rules n (Some h) l) (judged_later rules h (n + 1) ls)
+      let is = verdict-is _ n h _ (later-fits _ n h (omega (arith, e))) _ in
+      step _ _
+      _ _
       (same (first ∷ xs) l (judged_at rules n (Some h) l) refl e (ap (λ m. verdict_at rules m h l.content) e)
       (λ k. rw (other-number (length (first ∷ xs)) (omega arith)) (same-item (Some h) l _ _ is k)))
       (λ on. later-agrees first (xs ++ l ∷ []) (n + 1) (omega (arith, e, length-append xs (l ∷ []))) ls)
@@ -154,34 +153,34 @@ module _ (rules : Rules) where
   list-agrees [] = record { good = refl; kept = refl; written = refl; reported = refl; refusal = refl }
   list-agrees (l ∷ ls) =
       let j = judged_at rules 1 None l in
-      let first = verdict-first rules no_tree (tree_of rules.limits.depth []) l.content in
+      let first = verdict-first _ _ (tree_of rules.limits.depth []) _ in
       let is = same [] l j refl refl first
-      (λ k. same-item None l j.tree j.verdict (first-is rules l).verdict k) in
-      step (ruling_after rules [] l) (rulings rules (l ∷ []) ls) j (judged_behind rules j.verdict j.tree ls) is
+      (same-item None l j.tree j.verdict (first-is rules l).verdict) in
+      step _ _ j _ is
       (λ on.
-      let kept : j.verdict ≡ Kept = first ∙ valid-first rules _ l.content (is.end ∙ rw on refl) in
-      let k = kept-tree rules None l.content j.tree j.verdict (first-is rules l).verdict kept in
-      let behind = behind-some rules j.verdict j.tree k.0 ls kept k.1
-      ∙ ap (λ h. judged_later rules h 2 ls) (same-tree l.content k.0 k.2.json k.2.shallow) in
-      subst (λ js. Agrees (rulings rules (l ∷ []) ls) js) (sym behind) (later-agrees l [] 2 refl ls))
+      let kept = first ∙ valid-first _ _ _ (is.end ∙ rw on) in
+      let k = kept-tree _ _ _ _ _ (first-is _ l).verdict kept in
+      let behind = behind-some _ _ _ _ _ kept k.1
+      ∙ ap (λ h. judged_later rules h 2 ls) (same-tree _ _ k.2.json k.2.shallow) in
+      subst (λ js. Agrees (rulings rules (l ∷ []) ls) js) (sym behind) (later-agrees l _ 2 refl _))
 
   -- ---- of a stream
 
   module _ (s : List ℕ) where
     pub good-in : good rules s ≡ map (λ j. j.line) (handled rules (judged_lines rules s))
-    good-in = (list-agrees (lines s)).good
+    good-in = (list-agrees _).good
 
     pub kept-in : kept rules s ≡ kept_in rules (judged_lines rules s)
-    kept-in = ap kept_of (good-handled [] (lines s)) ∙ (list-agrees (lines s)).kept
+    kept-in = ap kept_of (good-handled _ _) ∙ (list-agrees _).kept
 
     pub output-in : output rules s ≡ output_in rules (judged_lines rules s)
-    output-in = ap (λ rs. flat_map raw_item (kept_of rs)) (good-handled [] (lines s)) ∙ (list-agrees (lines s)).written
+    output-in = ap (λ rs. flat_map raw_item (kept_of rs)) (good-handled _ _) ∙ (list-agrees _).written
 
     pub reported-in : reported rules s ≡ reported_in rules (judged_lines rules s)
-    reported-in = ap reported_of (good-handled [] (lines s)) ∙ (list-agrees (lines s)).reported
+    reported-in = ap reported_of (good-handled _ _) ∙ (list-agrees _).reported
 
     pub ending-in : ending rules s ≡ ending_in rules (judged_lines rules s)
-    ending-in = go (lines s) (list-agrees (lines s)).refusal
+    ending-in = go (lines s) (list-agrees _).refusal
       where
         go : (ls : List Line)
             → refusal_from rules [] ls
@@ -191,6 +190,6 @@ module _ (rules : Rules) where
         go (l ∷ ls) e = ap (λ o. unwrap_or o Complete) e ∙ by (find (ends rules) (judged_list rules (l ∷ ls)))
           where
             by : (o : Option JudgedLine)
-                → unwrap_or (option_map (λ (j : JudgedLine). end_of_report (report_of j)) o) Complete
+                → unwrap_or (option_map (λ j. end_of_report (report_of j)) o) Complete
                 ≡ end_of_report (option_and_then report_of o)
             by o = grind arith

@@ -59,36 +59,34 @@ module _ (test : ℤ → Bool) where
   less_of_two falls x y = by_order (int_lt y x) refl
     where
       by_order : (b : Bool) → int_lt y x ≡ b → test (cond b y x) ≡ (test x || test y)
-      by_order true e = sym (or_right (test x) (test y) (falls y x (omega (arith, ints))))
-      by_order false e = sym (or_left (test x) (test y) (falls x y (omega (arith, ints))))
+      by_order true e = sym (or_right _ _ (falls y x (omega (arith, ints))))
+      by_order false e = sym (or_left _ _ (falls x y (omega (arith, ints))))
 
   greater_of_two : Rises test → (x y : ℤ) → test (int_max x y) ≡ (test x || test y)
   greater_of_two rises x y = by_order (int_lt y x) refl
     where
       by_order : (b : Bool) → int_lt y x ≡ b → test (cond b x y) ≡ (test x || test y)
-      by_order true e = sym (or_left (test x) (test y) (rises y x (omega (arith, ints))))
-      by_order false e = sym (or_right (test x) (test y) (rises x y (omega (arith, ints))))
+      by_order true e = sym (or_left _ _ (rises y x (omega (arith, ints))))
+      by_order false e = sym (or_right _ _ (rises x y (omega (arith, ints))))
 
   least_tells : Falls test → (x : ℤ) (xs : List ℤ) → test (fold int_min x xs) ≡ list_any test (x ∷ xs)
-  least_tells falls x [] = sym (or_false (test x))
+  least_tells falls x [] = sym (or_false _)
   least_tells falls x (y ∷ ys) = least_tells falls (int_min x y) ys
       ∙ ap (λ b. b || list_any test ys) (less_of_two falls x y) ∙ or_assoc (test x) (test y) (list_any test ys)
 
   greatest_tells : Rises test → (x : ℤ) (xs : List ℤ) → test (fold int_max x xs) ≡ list_any test (x ∷ xs)
-  greatest_tells rises x [] = sym (or_false (test x))
+  greatest_tells rises x [] = sym (or_false _)
   greatest_tells rises x (y ∷ ys) = greatest_tells rises (int_max x y) ys
       ∙ ap (λ b. b || list_any test ys) (greater_of_two rises x y) ∙ or_assoc (test x) (test y) (list_any test ys)
 
   in_order : (x : ℤ) (xs : List ℤ) → fold int_min x xs ≤ℤ fold int_max x xs
   in_order x xs =
-      let low = (fold-int_min_bounds x xs _ refl).0 in
-      let high = (fold-int_max_bounds x xs _ refl).0 in
-      omega (arith, ints, low, high)
+      omega (arith, ints, (fold-int_min_bounds x xs _ refl).0, (fold-int_max_bounds x xs _ refl).0)
 
   ends_tell : (Falls test ⊎ Rises test) → (x : ℤ) (xs : List ℤ) → (test (fold int_min x xs) || test (fold int_max x xs))
       ≡ list_any test (x ∷ xs)
-  ends_tell (inl falls) x xs = or_left _ _ (falls _ _ (in_order x xs)) ∙ least_tells falls x xs
-  ends_tell (inr rises) x xs = or_right _ _ (rises _ _ (in_order x xs)) ∙ greatest_tells rises x xs
+  ends_tell (inl falls) x xs = or_left _ _ (falls _ _ (in_order x xs)) ∙ least_tells falls x _
+  ends_tell (inr rises) x xs = or_right _ _ (rises _ _ (in_order x xs)) ∙ greatest_tells rises x _
 
 -- ---- a map brings some number to an end, or past it, where it brings the least or the greatest there
 
@@ -109,37 +107,37 @@ one_way_above m end = by_sign m.scale refl
 pub at_most-ends : (m : AffineMap) (end x : ℤ) (xs : List ℤ)
     → (int_le (image m (fold int_min x xs)) end || int_le (image m (fold int_max x xs)) end)
     ≡ list_any (λ v. int_le (image m v) end) (x ∷ xs)
-at_most-ends m end x xs = ends_tell (λ v. int_le (image m v) end) (one_way_below m end) x xs
+at_most-ends m end x xs = ends_tell _ (one_way_below m _) x _
 
 pub at_least-ends : (m : AffineMap) (end x : ℤ) (xs : List ℤ)
     → (int_le end (image m (fold int_min x xs)) || int_le end (image m (fold int_max x xs)))
     ≡ list_any (λ v. int_le end (image m v)) (x ∷ xs)
-at_least-ends m end x xs = ends_tell (λ v. int_le end (image m v)) (one_way_above m end) x xs
+at_least-ends m end x xs = ends_tell _ (one_way_above m _) x _
 
 -- of any numbers that have a range
 pub at_most-range : (m : AffineMap) (end : ℤ) (r : Range) (ns : List ℤ) → range_of ns ≡ Some r
     → (int_le (image m r.least) end || int_le (image m r.greatest) end) ≡ list_any (λ n. int_le (image m n) end) ns
-at_most-range m end r [] e = absurd (cc e)
+at_most-range m end r [] e = cc
 at_most-range m end r (n ∷ ns) e =
     let same : widened (alone n) ns ≡ r = cc e in
-    rw (← same) (at_most-ends m end n ns)
+    rw (← same) (at_most-ends m _ n _)
 
 pub at_least-range : (m : AffineMap) (end : ℤ) (r : Range) (ns : List ℤ) → range_of ns ≡ Some r
     → (int_le end (image m r.least) || int_le end (image m r.greatest)) ≡ list_any (λ n. int_le end (image m n)) ns
-at_least-range m end r [] e = absurd (cc e)
+at_least-range m end r [] e = cc
 at_least-range m end r (n ∷ ns) e =
     let same : widened (alone n) ns ≡ r = cc e in
-    rw (← same) (at_least-ends m end n ns)
+    rw (← same) (at_least-ends m _ n _)
 
 -- where it brings the first alone to both ends, it does so with all
 or_more : (a b c d : Bool) → ((a || false) && (b || false)) ≡ true → ((a || c) && (b || d)) ≡ true
 or_more true true c d h = refl
-or_more true false c d h = absurd (cc h)
-or_more false b c d h = absurd (cc h)
+or_more true false c d h = cc
+or_more false b c d h = cc
 
 pub first_meets : (m : AffineMap) (low high n : ℤ) (ns : List ℤ) → meets m low high (n ∷ []) ≡ true
     → meets m low high (n ∷ ns) ≡ true
-first_meets m low high n ns h = or_more (int_le (image m n) high) (int_le low (image m n)) _ _ h
+first_meets m low high n ns h = or_more _ _ _ _ h
 
 -- ---- how the code asks whether a number is at most, or at least, at an end
 
@@ -155,14 +153,14 @@ ge_said x y =
 pub at_most_said : (m : AffineMap) (v end : ℤ) (r : Ordering) → unsigned_abs v < 10 ^ 18
     → r ≡ int_cmp (image m (cast_signed w64 (cast_unsigned w64 v))) end → is_le r ≡ int_le (image m v) end
 at_most_said m v end r small e =
-    let same = to_z-of_z w64 v (fits_signed_from_abs w64 v (omega arith)) in
-    ap is_le (e ∙ ap (λ x. int_cmp (image m x) end) same) ∙ le_said (image m v) end
+    ap is_le (e ∙ ap (λ x. int_cmp (image m x) end) (to_z-of_z w64 v (fits_signed_from_abs w64 v (omega arith))))
+    ∙ le_said (image m v) end
 
 pub at_least_said : (m : AffineMap) (v end : ℤ) (r : Ordering) → unsigned_abs v < 10 ^ 18
     → r ≡ int_cmp (image m (cast_signed w64 (cast_unsigned w64 v))) end → is_ge r ≡ int_le end (image m v)
 at_least_said m v end r small e =
-    let same = to_z-of_z w64 v (fits_signed_from_abs w64 v (omega arith)) in
-    ap is_ge (e ∙ ap (λ x. int_cmp (image m x) end) same) ∙ ge_said (image m v) end
+    ap is_ge (e ∙ ap (λ x. int_cmp (image m x) end) (to_z-of_z w64 v (fits_signed_from_abs w64 v (omega arith))))
+    ∙ ge_said (image m v) end
 
 -- the second tells it where the first does not
 pub or_second : (a b c d : Bool) → a ≡ b → b ≡ false → c ≡ d → c ≡ (a || d)
@@ -182,7 +180,7 @@ least_small axis n (t ∷ ts) h =
     least_small axis (int_min n (number_on axis (vertex_of t))) ts (of_two (int_lt (number_on axis (vertex_of t)) n))
   where
     of_two : (less : Bool) → unsigned_abs (cond less (number_on axis (vertex_of t)) n) < 10 ^ 18
-    of_two true = number_small axis (items_of t)
+    of_two true = number_small _ (items_of t)
     of_two false = h
 
 greatest_small : (axis : ℕ) (n : ℤ) (ts : List Tree) → unsigned_abs n < 10 ^ 18
@@ -193,12 +191,12 @@ greatest_small axis n (t ∷ ts) h =
   where
     of_two : (less : Bool) → unsigned_abs (cond less n (number_on axis (vertex_of t))) < 10 ^ 18
     of_two true = h
-    of_two false = number_small axis (items_of t)
+    of_two false = number_small _ (items_of t)
 
 -- so their least and greatest are small
 pub range_small : (axis : ℕ) (r : Range) (ts : List Tree) → range_of (map (number_on axis) (map vertex_of ts)) ≡ Some r
     → IsSmall r
-range_small axis r [] e = absurd (cc e)
+range_small axis r [] e = cc
 range_small axis r (t ∷ ts) e =
     let first = number_on axis (vertex_of t) in
     let same : widened (alone first) (map (number_on axis) (map vertex_of ts)) ≡ r = cc e in
@@ -210,7 +208,7 @@ range_small axis r (t ∷ ts) e =
 -- and so is the first of them alone
 pub first_small : (axis : ℕ) (n : ℤ) (ns : List ℤ) (ts : List Tree) → map (number_on axis) (map vertex_of ts) ≡ n ∷ ns
     → IsSmall (alone n)
-first_small axis n ns [] e = absurd (cc e)
+first_small axis n ns [] e = cc
 first_small axis n ns (t ∷ ts) e =
     let same : number_on axis (vertex_of t) ≡ n = cc e in
     rw (← same) (record { least = number_small axis (items_of t); greatest = number_small axis (items_of t) })
@@ -250,33 +248,33 @@ module _ (header t : Tree) (axis : ℕ) (m : AffineMap) (on : OnAxis header t ax
       rw (on.scale, on.shift)
       (any-map (λ o. there_is test (coordinate_by o (Some m.scale) (Some m.shift))) (λ v. get_or v axis None)
       (vertices_of t)
-      ∙ (ap (list_any (λ o. there_is test (coordinate_by o (Some m.scale) (Some m.shift)))) (sym on.numbers)
-      ∙ any-there test m (numbers_on axis t)))
+      ∙ ap (list_any (λ o. there_is test (coordinate_by o (Some m.scale) (Some m.shift)))) (sym on.numbers)
+      ∙ any-there test m (numbers_on axis t))
 
   axis-meets : (low high : ℤ) → (some_at_most header t axis high && some_at_least header t axis low)
       ≡ meets m low high (numbers_on axis t)
   axis-meets low high =
-      ap (λ b. b && some_at_least header t axis low) (any-on (λ n. int_le n high))
-      ∙ ap (λ b. list_any (λ n. int_le (image m n) high) (numbers_on axis t) && b) (any-on (λ n. int_le low n))
+      ap (λ b. b && some_at_least header t axis low) (any-on _)
+      ∙ ap (λ b. list_any (λ n. int_le (image m n) high) (numbers_on axis t) && b) (any-on _)
 
 -- a box is met if it is met on the first axis, and on the other
 pub box-first : (box : Box) (header t : Tree) (x : AffineMap) → OnAxis header t 0 x
     → is_in box header t ≡ (meets x box.min_x box.max_x (numbers_on 0 t)
     && (some_at_most header t 1 box.max_y && some_at_least header t 1 box.min_y))
 box-first box header t x on =
-    grind (arith, nat_tests, axis-meets header t 0 x on box.min_x box.max_x)
+    grind (arith, nat_tests, axis-meets)
 
 pub box-numbers : (box : Box) (header t : Tree) (x y : AffineMap) → OnAxis header t 0 x → OnAxis header t 1 y
     → is_in box header t ≡ (meets x box.min_x box.max_x (numbers_on 0 t)
     && meets y box.min_y box.max_y (numbers_on 1 t))
 box-numbers box header t x y on_x on_y =
-    box-first box header t x on_x
+    box-first _ _ t x on_x
     ∙ ap (λ b. meets x box.min_x box.max_x (numbers_on 0 t) && b)
-    (axis-meets header t 1 y on_y box.min_y box.max_y)
+    (axis-meets _ t 1 y on_y _ _)
 
 -- two tests, of which the first is known
 pub and_second : (a b c d : Bool) → a ≡ b → a ≡ true → c ≡ d → c ≡ (b && d)
 and_second a b c d e f g = rw (← e, f) g
 
 pub and_first : (a b d : Bool) → a ≡ b → a ≡ false → a ≡ (b && d)
-and_first a b d e f = rw (← e, f) refl
+and_first a b d e f = rw (← e, f)

@@ -1,7 +1,7 @@
 -- What reading a box goes by: the fields that come one after another, the number of each, and the answer.
-use Rattle.cj_stream.proofs.Common.{Bool, Bor, Box, Err, FindsChar, IfSome, IsSome, List, None, Number, Ok, Option, QueryFault, Result, Some, Split, [], ap, append-nil, append_assoc, false, fields, if◌then◌else◌, is_fixed, is_number, refl, sym, true, units_of, ℕ, ℤ, ◌++◌, ◌↔◌, ◌∙◌, ◌∷◌, ◌≡◌}
+use Rattle.cj_stream.proofs.Common.{Bool, Bor, Box, Err, FindsChar, IfSome, IsSome, List, None, Number, Ok, Option, QueryFault, Result, Some, Split, [], ap, append-nil, append_assoc, false, fields, if◌then◌else◌, is_fixed, is_number, refl, sym, true, units_of, ℕ, ℤ, ◌++◌, ◌↔◌, ◌∙◌, ◌∷◌, ◌≡◌, YieldsList-from_str_split, lit<, arith, nat_tests}
 use Rattle.std.specs.Iterator.{AlwaysYields}
-use Rattle.std.specs.Str.Iter.{split_steps}
+use Rattle.std.specs.Str.Iter.{split_steps, split_text, split_has_more, split_pattern}
 use Rattle.cj_decimal.specs.Meaning.Equality.{IsNormal, IsInRange, IsFixed}
 use Rattle.cj_decimal.specs.Meaning.Spelling.{SpellsNumber, IsValue, IsNumberOutOfRange}
 use Rattle.cj_decimal.specs.Meaning.Class.{Class, no_number, out_of_range, not_whole, whole, value_by}
@@ -32,17 +32,31 @@ module _ (s t : Split ℕ) where
   next-none (y ∷ ys) h k = absurd (h.0 t k)
 
 -- of these fields the front ones came, and the iterator gives the rest
-abbrev pub Came : List (List ℕ) → List (List ℕ) → Split ℕ → Type 0
-Came fs front s = (rest : List (List ℕ)) × (fs ≡ front ++ rest) × Gives s rest
+pub record Came (fs front : List (List ℕ)) (s : Split ℕ) : Type 0 where
+  pub rest : List (List ℕ)
+  pub whole : fs ≡ front ++ rest
+  pub gives : Gives s rest
 
-module _ (fs front : List (List ℕ)) (s t : Split ℕ) (came : Came fs front s) where
+pub came-first : (text : List ℕ) (s : Split ℕ) → split_text s ≡ text → split_has_more s ≡ true → split_pattern s ≡ 44
+    → Came (fields text) [] s
+came-first text s is more sign = record {
+  rest = fields text;
+  whole = refl;
+  gives = (YieldsList-from_str_split 44 text (lit< tt) is more sign).runs;
+}
+
+module _ {fs front : List (List ℕ)} {s : Split ℕ} (came : Came fs front s) (t : Split ℕ) where
   pub came-some : (x : Bor (List ℕ)) → steps s (Some x) t → Came fs (front ++ x.now ∷ []) t
   came-some x k =
-      let next = next-some s t came.0 x came.2 k in
-      (next.0, came.1 ∙ ap (λ z. front ++ z) next.1 ∙ sym (append_assoc front (x.now ∷ []) next.0), next.2)
+      let next = next-some s t came.rest x came.gives k in
+      record {
+        rest = next.0;
+        whole = came.whole ∙ ap (λ z. front ++ z) next.1 ∙ sym (append_assoc front (x.now ∷ []) next.0);
+        gives = next.2;
+      }
 
   pub came-none : steps s None t → fs ≡ front
-  came-none k = came.1 ∙ ap (λ z. front ++ z) (next-none s t came.0 came.2 k) ∙ append-nil front
+  came-none k = came.whole ∙ ap (λ z. front ++ z) (next-none s t came.rest came.gives k) ∙ append-nil front
 
 -- ---- the number of a field
 
@@ -55,14 +69,14 @@ module _ (s : List ℕ) where
   in-class u is range (whole v w value inside n) = (refl, ap Some ((has_one_value s).one v u value is))
 
   out-class : IsNumberOutOfRange s → (c : Class s) → (is_number_by c ≡ true) × (value_by c ≡ None)
-  out-class o (no_number n) = absurd (n (value_is_number s o.0 o.1))
+  out-class o (no_number n) = absurd (n (value_is_number s _ o.1))
   out-class o (out_of_range n) = (refl, refl)
   out-class o (not_whole v value inside n) = absurd (not_both s (v, value, inside) o)
   out-class o (whole v w value inside n) = absurd (not_both s (v, value, inside) o)
 
   pub no-class : ¬ SpellsNumber s → (c : Class s) → is_number_by c ≡ false
   no-class none (no_number n) = refl
-  no-class none (out_of_range o) = absurd (none (value_is_number s o.0 o.1))
+  no-class none (out_of_range o) = absurd (none (value_is_number s _ o.1))
   no-class none (not_whole v value inside n) = absurd (none (value_is_number s v value))
   no-class none (whole v w value inside n) = absurd (none (value_is_number s v value))
 
@@ -85,19 +99,19 @@ module _ (s : List ℕ) where
   pub answer-out : IsNumberOutOfRange s → Ok None ≡ answer
   answer-out o =
       let said = out-class o (class s) in
-      rw (said.0, said.1) refl
+      rw (said.0, said.1)
 
   pub answer-none : ¬ SpellsNumber s → Err BadBox ≡ answer
-  answer-none none = rw (no-class none (class s)) refl
+  answer-none none = rw (no-class)
 
   -- what an answer says of the field
   by-number : (b : Bool) (o e : Option ℤ) → is_number s ≡ b → Ok o ≡ (if b then Ok e else Err BadBox)
       → (is_number s ≡ true) × (o ≡ e)
-  by-number true o e t h = (t, cc h)
-  by-number false o e t h = absurd (cc h)
+  by-number true o e t h = (t, cc)
+  by-number false o e t h = cc
 
   answered : (o : Option ℤ) → Ok o ≡ answer → (is_number s ≡ true) × (o ≡ (if is_edge s then Some (edge s) else None))
-  answered o h = by-number (is_number s) o (if is_edge s then Some (edge s) else None) refl h
+  answered o h = by-number _ o _ refl h
 
 -- ---- the box of four fields
 
@@ -116,11 +130,7 @@ module _ (s a b c d : List ℕ) (four : fields s ≡ a ∷ b ∷ c ∷ d ∷ [])
     by-tests : (i j k l : Bool) → is_edge a ≡ i → is_edge b ≡ j → is_edge c ≡ k → is_edge d ≡ l
         → box_text s ≡ by_edges (if i then Some (edge a) else None) (if j then Some (edge b) else None)
         (if k then Some (edge c) else None) (if l then Some (edge d) else None)
-    by-tests true true true true ea eb ec ed = rw (four, na, nb, nc, nd, ea, eb, ec, ed) refl
-    by-tests true true true false ea eb ec ed = rw (four, na, nb, nc, nd, ea, eb, ec, ed) refl
-    by-tests true true false l ea eb ec ed = rw (four, na, nb, nc, nd, ea, eb, ec) refl
-    by-tests true false k l ea eb ec ed = rw (four, na, nb, nc, nd, ea, eb) refl
-    by-tests false j k l ea eb ec ed = rw (four, na, nb, nc, nd, ea) refl
+    by-tests x j k l ea eb ec ed = grind (arith, nat_tests)
 
   pub read-edges : (o p q r : Option ℤ) → Ok o ≡ answer a → Ok p ≡ answer b → Ok q ≡ answer c → Ok r ≡ answer d
       → box_text s ≡ by_edges o p q r
@@ -130,4 +140,4 @@ module _ (s a b c d : List ℕ) (four : fields s ≡ a ∷ b ∷ c ∷ d ∷ [])
       let tc = answered c q hq in
       let td = answered d r hr in
       rw (ta.1, tb.1, tc.1, td.1)
-      (by-tests ta.0 tb.0 tc.0 td.0 (is_edge a) (is_edge b) (is_edge c) (is_edge d) refl refl refl refl)
+      (by-tests ta.0 tb.0 tc.0 td.0 _ _ _ _ refl refl refl refl)

@@ -16,7 +16,7 @@ module _ {S : Type 0} (law : SinkContract S) {f g : SplitterState} {s t : S} {by
   TakesAll-then {more} rest = record {
     advances = λ p reads.
         let a = all.advances p reads in
-        Advances-then law a (rest.advances (p ++ bytes) a.reads);
+        Advances-then _ a (rest.advances (p ++ bytes) a.reads);
     scanned = λ p reads k.
         let z = rest.scanned (p ++ bytes) (all.advances p reads).reads (scanned p reads k) in
         rw (limits p reads, append_assoc p bytes more) at z;
@@ -28,7 +28,7 @@ module _ {S : Type 0} (law : SinkContract S) {f g : SplitterState} {s t : S} {by
   TakesSome-then {more} rest = record {
     stops = λ p reads.
         let a = all.advances p reads in
-        Stops-later law a (rest.stops (p ++ bytes) a.reads);
+        Stops-later _ a (rest.stops (p ++ bytes) a.reads);
     held = λ p reads k.
         let z = rest.held (p ++ bytes) (all.advances p reads).reads (scanned p reads k) in
         rw (limits p reads, append_assoc p bytes more) at z;
@@ -41,7 +41,7 @@ module _ {S : Type 0} (law : SinkContract S) {f g : SplitterState} {s t : S} {by
       → (p : List ℕ) → Reads f.reading p → Scanned f.reading.rules.limits (closed p) f.scanning
       → HeldUntil f.reading.rules.limits p (bytes ++ more) n now
   HeldUntil-then more n now rest p reads k =
-      let x = let z = rest (p ++ bytes) (all.advances p reads).reads (scanned p reads k) in rw (limits p reads) at z in
+      let x = rw (limits p reads) at (rest (p ++ bytes) (all.advances p reads).reads (scanned p reads k)) in
       record {
         done = bytes ++ x.done;
         left = x.left;

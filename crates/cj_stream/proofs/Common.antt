@@ -28,7 +28,6 @@ pub use Rattle.cj_spans.specs.declared.finding.Finding.{Finding}
 pub use Rattle.cj_spans.specs.declared.reason.Reason.{Reason}
 pub use Rattle.cj_spans.specs.declared.reason.Reason.TheVariants.{IdNotFound, LineTooLong, MissingMember, NoHeader, NotReached, NotUtf8, Syntax, TooDeep, UnknownObjectType}
 pub use Rattle.cj_spans.specs.declared.token.Token.{Token}
-pub use Rattle.cj_stream.proofs.Apart.{false-true, none-some, some-none}
 pub use Rattle.cj_stream.specs.Adding.{parted, with_type_in}
 pub use Rattle.cj_stream.specs.Bound.{IsBelow, IsExact, contents, exact_peaks, first_lines, held_length, is_readable, is_spelled, is_text, tree_nest, tree_size}
 pub use Rattle.cj_stream.specs.BoxText.{fields, is_number}

@@ -1,5 +1,5 @@
 -- Small counts, computed.
-use Rattle.cj_stream.proofs.Common.{HasRisen, List, RisesBy, [], arith, chars, code_points_after, first_code_point, first_width, inl, inr, lit<, lod_classes, refl, replicate, suc, text, zero, ℕ, ◌∷◌, ◌≡◌}
+use Rattle.cj_stream.proofs.Common.{HasRisen, List, RisesBy, [], arith, chars, code_points_after, first_code_point, first_width, inl, inr, lit<, lod_classes, refl, replicate, text, ℕ, ◌∷◌, ◌≡◌, nat_tests}
 use lib.Utf8.{encode}
 use Rattle.cj_stream.specs.CountRows.{RiseRows, ClassRows, LodRows, three_classes}
 use Rattle.cj_stream.specs.QueryRows.{plain_header}
@@ -32,13 +32,7 @@ abbrev three_of : List ℕ
 three_of = 0 ∷ 4 ∷ 5 ∷ []
 
 counted : CountsRow three_of (1 ∷ 0 ∷ 0 ∷ 0 ∷ 1 ∷ 1 ∷ [])
-counted zero below = refl
-counted (suc zero) below = refl
-counted (suc (suc zero)) below = refl
-counted (suc (suc (suc zero))) below = refl
-counted (suc (suc (suc (suc zero)))) below = refl
-counted (suc (suc (suc (suc (suc zero))))) below = refl
-counted (suc (suc (suc (suc (suc (suc n)))))) below = absurd (omega arith)
+counted x below = grind (arith, nat_tests)
 
 differ : ◌≡◌ {A = ℕ} 0 1 → ⊥
 differ e = absurd (omega arith)

@@ -1,12 +1,12 @@
 -- A text that comes in pieces.
-use Rattle.cj_stream.proofs.Common.{Complete, Concludes, Copies, Delivers, End, EndsAt, EngineState, IsUnread, LeavesNext, Line, List, Memory, NoLf, None, Option, PutsPieces, ReadFault, ReadLimit, Reads, Refused, Rules, SinkContract, Some, IsEndAfter, TookWhole, WriteFault, [], ap, append-nil, append_assoc, arith, begun, closed, drop, ended_line, ending, given_after, good, good_from, header_of, in_pieces, inl, inr, joined, judged, kept, last_line, length, lines, lines_of, long_line, map, nat_tests, refl, refusal_from, refusal_in, rules_of, stretch, sym, take, whole, writes_law, ℕ, ◌++◌, ◌+◌, ◌<◌, ◌∙◌, ◌∷◌, ◌≡◌, ◌≤◌, ◌⊎◌}
+use Rattle.cj_stream.proofs.Common.{Concludes, Copies, Delivers, End, EndsAt, EngineState, IsUnread, Line, List, NoLf, None, Option, PutsPieces, ReadFault, ReadLimit, Reads, Refused, Rules, SinkContract, Some, IsEndAfter, TookWhole, [], ap, append-nil, append_assoc, arith, begun, closed, drop, ended_line, ending, given_after, good, good_from, header_of, in_pieces, inl, inr, joined, judged, last_line, length, lines, lines_of, long_line, map, nat_tests, refl, refusal_from, refusal_in, rules_of, stretch, sym, take, writes_law, ℕ, ◌++◌, ◌+◌, ◌<◌, ◌∙◌, ◌∷◌, ◌≡◌, ◌≤◌, ◌⊎◌}
 use Rattle.cj_stream.proofs.JoinedLemmas.{joined-cut}
 use Rattle.cj_stream.proofs.LineLemmas.{closed-then, begun-then, lines-cut, NoLf-begun, first_content-long}
 use Rattle.cj_stream.proofs.VerdictLemmas.{verdict-long}
 use Rattle.cj_stream.proofs.ReadingLemmas.{map_lines-append}
 use Rattle.cj_stream.proofs.GoodLemmas.{ending-refused}
 use Rattle.cj_stream.proofs.RunLemmas.{whole-good}
-use Rattle.cj_stream.proofs.OutputLemmas.{Took-appends, writes_part, front-bytes, next-bytes, no-bytes}
+use Rattle.cj_stream.proofs.OutputLemmas.{Took-appends, front-bytes, next-bytes, no-bytes}
 use Rattle.cj_stream.proofs.RulingLemmas.{good-all, good-append, good-stays, refusal-append, refusal-stays}
 
 -- a text that goes on: the lines that LF ended, and those of what had begun
@@ -18,7 +18,7 @@ lines-more q more =
     (append_assoc (map ended_line (closed q)) (map ended_line (closed (begun q ++ more)))
     (last_line (begun (begun q ++ more)))) in
     lines-cut (q ++ more)
-    ∙ (now ∙ ap (λ z. map ended_line (closed q) ++ z) (sym (lines-cut (begun q ++ more))))
+    ∙ now ∙ ap (λ z. map ended_line (closed q) ++ z) (sym (lines-cut (begun q ++ more)))
 
 -- the first line of some begun bytes is as long as they are
 first-line : (c t : List ℕ) → NoLf c → 0 < length c → (l : Line) × (rest : List Line) × (lines (c ++ t) ≡ l ∷ rest)
@@ -43,7 +43,7 @@ long-stays rules before (b ∷ c) more e free h =
 judged-stays : (rules : Rules) (q more : List ℕ) (e : End) → refusal_in rules (judged rules.limits q) ≡ Some e
     → (refusal_in rules (lines (q ++ more)) ≡ Some e)
     × (good_from rules [] (lines (q ++ more)) ≡ good_from rules [] (map ended_line (closed q)))
-judged-stays rules q more e k = rw (lines-more q more) (go (refusal_in rules (map ended_line (closed q))) refl)
+judged-stays rules q more e k = rw (lines-more) (go (refusal_in rules (map ended_line (closed q))) refl)
   where
     go : (o : Option End) → refusal_in rules (map ended_line (closed q)) ≡ o
         → (refusal_in rules (map ended_line (closed q) ++ lines (begun q ++ more)) ≡ Some e)
@@ -51,28 +51,27 @@ judged-stays rules q more e k = rw (lines-more q more) (go (refusal_in rules (ma
         ≡ good_from rules [] (map ended_line (closed q)))
     go None h =
         let cs = map ended_line (closed q) in
-        let later = sym (refusal-append rules [] cs (long_line rules.limits (begun q)) h) ∙ k in
-        let stays = long-stays rules cs (begun q) more e (NoLf-begun q) later in (
-          refusal-append rules [] cs (lines (begun q ++ more)) h ∙ stays.0,
-          good-append rules [] cs (lines (begun q ++ more)) h
-              ∙ rw (stays.1, append-nil cs) (sym (good-all rules [] cs h)),
+        let later = sym (refusal-append _ _ _ _ h) ∙ k in
+        let stays = long-stays _ _ _ _ e (NoLf-begun q) later in (
+          refusal-append _ _ _ _ h ∙ stays.0,
+          good-append _ _ _ _ h
+              ∙ rw (stays.1, append-nil cs) (sym (good-all _ _ _ h)),
         )
     go (Some x) h =
         let cs = map ended_line (closed q) in (
-          refusal-stays rules [] cs (lines (begun q ++ more)) x h
-              ∙ (sym (refusal-stays rules [] cs (long_line rules.limits (begun q)) x h) ∙ k),
-          good-stays rules [] cs (lines (begun q ++ more)) x h,
+          refusal-stays _ _ _ _ x h
+              ∙ sym (refusal-stays _ _ _ _ x h) ∙ k,
+          good-stays _ _ _ _ x h,
         )
 
 -- the ending of a text, and its handled lines, where what came first of it was the end
 pub refused-more : (rules : Rules) (q more : List ℕ) (e : End) → refusal_in rules (judged rules.limits q) ≡ Some e
     → (ending rules (q ++ more) ≡ e) × (good rules (q ++ more) ≡ good rules q)
 refused-more rules q more e k =
-    let all = judged-stays rules q more e k in
-    let front = judged-stays rules q [] e k in
-    let same : good_from rules [] (lines q) ≡ good_from rules [] (map ended_line (closed q)) = let z = front.1 in
+    let all = judged-stays _ q _ e k in
+    let same = let z = (judged-stays rules q [] e k).1 in
     rw (append-nil q) at z in
-    (ending-refused rules (lines (q ++ more)) e all.0, all.1 ∙ sym same)
+    (ending-refused _ _ e all.0, all.1 ∙ sym same)
 
 -- the same of pieces, where those that were given are all of them or were the end
 pub given-said : (rules : Rules) (p : List ℕ) (pieces : List (List ℕ)) (k : ℕ) (e : End)
@@ -95,33 +94,24 @@ pub Copies-puts : {S : Type 0} (contents : S → Option (List ℕ)) (failures : 
     (pieces : List (List ℕ)) (n : ℕ) (s t : S) (e : End)
     → PutsPieces (writes_law contents failures) (in_pieces rules pieces n) e s t → Copies (in_pieces rules pieces n) e
     (contents s) (contents t)
-Copies-puts contents failures rules pieces n s t ReadFault h = h
-Copies-puts contents failures rules pieces n s t ReadLimit h = h
-Copies-puts contents failures rules pieces n s t WriteFault h =
-    front-bytes contents (LeavesNext (writes_part contents)) (next-bytes contents)
-    (kept rules (joined (take (n + 1) pieces))) (kept rules (whole (joined (take n pieces)))) s t h
-Copies-puts contents failures rules pieces n s t Memory h =
-    front-bytes contents (λ others a b. b ≡ a) (no-bytes contents) (kept rules (joined (take (n + 1) pieces)))
-    (kept rules (whole (joined (take n pieces)))) s t h
-Copies-puts contents failures rules pieces n s t other h =
-    (h.0, Took-appends contents s t (kept rules (joined pieces)) h.1)
+Copies-puts contents failures rules pieces n s t x h = grind (
+  arith,
+  nat_tests,
+  front-bytes,
+  next-bytes,
+  no-bytes,
+  Took-appends,
+)
 
 -- where a piece, or the end, ended it
 pub EndsAt-said : (rules : Rules) (before : List ℕ) (pieces : List (List ℕ)) (k n : ℕ) (e : End)
     → IsEndAfter rules (before ++ joined (take (k + 1) pieces)) n e → EndsAt rules before pieces k e
-EndsAt-said rules before pieces k n Complete c = absurd c
 EndsAt-said rules before pieces k n (Refused number place reason) c = inr c.0
-EndsAt-said rules before pieces k n WriteFault c = tt
-EndsAt-said rules before pieces k n Memory c = tt
-EndsAt-said rules before pieces k n other c = c
+EndsAt-said rules before pieces k n other c = search
 
 pub EndsAt-concludes : (rules : Rules) (before : List ℕ) (pieces : List (List ℕ)) (k : ℕ) (p : List ℕ) (n : ℕ) (e : End)
     → k ≡ length pieces → Concludes rules p n e → EndsAt rules before pieces k e
-EndsAt-concludes rules before pieces k p n Complete all c = all
-EndsAt-concludes rules before pieces k p n (Refused number place reason) all c = inl all
-EndsAt-concludes rules before pieces k p n WriteFault all c = tt
-EndsAt-concludes rules before pieces k p n Memory all c = tt
-EndsAt-concludes rules before pieces k p n other all c = c
+EndsAt-concludes rules before pieces k p n x all c = grind (arith, nat_tests)
 
 -- such an end is none that a reader makes
 pub unread-at : (rules : Rules) (before : List ℕ) (pieces : List (List ℕ)) (k : ℕ) (e : End)
@@ -149,7 +139,7 @@ pub TookWhole-left : {S : Type 0} (law : SinkContract S) (e : EngineState) (rule
     → TookWhole law (given_after before first (in_pieces rules pieces n) count) s t end
 TookWhole-left law e rules before first pieces n count s m t end same reads head tail = record {
   middle = m;
-  good = let x = (whole-good e (before ++ joined (take n pieces)) reads).0 in rw same at x;
+  good = let x = (whole-good e _ reads).0 in rw same at x;
   taken = rw (← reads.lines) head;
   after = rw (← reads.lines) tail;
 }

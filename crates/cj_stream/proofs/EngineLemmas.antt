@@ -1,21 +1,21 @@
 -- What an engine holds, says and delivers, from what its splitter did.
-use Rattle.cj_stream.proofs.Common.{Bool, Counts, Delivers, End, EngineState, Faults, Going, HasRoom, HoldsFew, Invalid, IsBelow, IsBounded, IsWithin, LacksMemory, LimitPair, Line, List, Memory, None, Option, Peaks, Reading, Reads, Refused, Rules, Ruling, Scanned, Scanning, SinkContract, Some, StandsFor, Stops, IsEndAfter, WriteFault, [], ap, append-nil, append_assoc, arith, begun, bytes_bound, closed, cond, ended_line, false, first_content, further, goes_on, held_by, is_lenient, judged, last_line, length, length-append, limits_of, lines, map, nat_lt, nat_tests, peaks_of, refl, refusal_from, refusal_in, rulings_closed, rulings_first, slice_get, some-none, stretch, sym, take, true, up_to, verdict, with_sink, ℕ, ◌++◌, ◌+◌, ◌<◌, ◌∙◌, ◌∷◌, ◌≡◌, ◌≤◌}
-use Rattle.std.proofs.Common.{ltb}
+use Rattle.cj_stream.proofs.Common.{Bool, Counts, Delivers, End, EngineState, Faults, Going, HasRoom, HoldsFew, Invalid, IsBelow, IsBounded, IsWithin, LacksMemory, LimitPair, Line, List, Memory, None, Option, Peaks, Reading, Reads, Refused, Rules, Ruling, Scanned, Scanning, SinkContract, Some, StandsFor, Stops, IsEndAfter, WriteFault, [], ap, append-nil, append_assoc, arith, begun, bytes_bound, closed, cond, ended_line, false, first_content, further, goes_on, held_by, is_lenient, judged, last_line, length, length-append, limits_of, lines, map, nat_lt, nat_tests, peaks_of, refl, refusal_from, refusal_in, rulings_closed, rulings_first, slice_get, stretch, sym, take, true, up_to, verdict, with_sink, ℕ, ◌++◌, ◌+◌, ◌<◌, ◌∙◌, ◌∷◌, ◌≡◌, ◌≤◌}
 use Rattle.cj_stream.specs.Reading.{IsSound, Advances, IsNext, HasCause, stop_at}
 use Rattle.cj_stream.proofs.FirstLemmas.{take-front, lines-front, first-front, first-closed_lines}
-use Rattle.cj_stream.proofs.LineLemmas.{closed-grows, first_content-grows, first-length, lines-cut, none-from_length}
+use Rattle.cj_stream.proofs.LineLemmas.{closed-grows, first_content-grows, first-length, lines-cut}
 use Rattle.cj_stream.proofs.IsLinesLemmas.{lines-whole}
 use Rattle.cj_stream.proofs.ScanningLemmas.{few-scanned, first-closed}
 use Rattle.cj_stream.proofs.ReadingLemmas.{length-map_lines, dropped-long}
 use Rattle.cj_stream.proofs.RulingLemmas.{refusal-append}
 use Rattle.cj_stream.proofs.TookLemmas.{More-over, over-kept}
+use Rattle.std.proofs.lemmas.List.{nil_from_length}
 
 -- what is held is within the peaks
 pub held-below : (e : EngineState) → IsWithin e.reading.header → IsWithin e.reading.line
     → HasRoom (limits_of e) e.scanning → IsBelow (held_by e) (peaks_of e)
 held-below e header line room = record {
-  bytes = omega (arith, header.below_peak, line.below_peak);
-  tokens = omega (arith, room.header_within.below_peak, room.line_within.below_peak);
+  bytes = omega arith;
+  tokens = omega arith;
   depth = room.opened_within.below_peak;
 }
 
@@ -25,27 +25,22 @@ pub peaks-bounded : (limits : LimitPair) (s : List ℕ) (bytes : ℕ) (f : Scann
     → IsBounded limits s (record { bytes = bytes; tokens = f.header.peak + f.line.peak; depth = f.opened.peak })
 peaks-bounded limits s bytes f h room few = record {
   bytes = h;
-  tokens = omega (arith, few, first-length s);
-  depth = omega (arith, room.opened_within.below_limit, room.opened);
+  tokens = omega (arith, first-length);
+  depth = omega arith;
 }
 
 pub same-peaks : (a b c x y z : ℕ) → a ≡ x → b ≡ y → c ≡ z
     → ◌≡◌ {A = Peaks} (record { bytes = a; tokens = b; depth = c }) (record { bytes = x; tokens = y; depth = z })
-same-peaks a b c x y z e f g = rw (e, f, g) refl
+same-peaks a b c x y z e f g = rw (e, f, g)
 
 pub peak-le : (f : Reading) (p more : List ℕ) → IsSound f → Reads f p
     → f.header.peak + f.line.peak ≤ bytes_bound f.rules.limits (p ++ more)
 peak-le f p more s h =
     omega (
       arith,
-      h.peak,
       ap length h.header,
-      first_content-grows p more,
-      first-length (p ++ more),
-      h.header_within.below_limit,
-      h.line_within.below_limit,
-      s.header,
-      s.line,
+      first_content-grows,
+      first-length,
     )
 
 pub get-next : (xs ys : List Line) (l : Line) (n : ℕ) → n ≡ length xs → slice_get (xs ++ l ∷ ys) n ≡ Some l
@@ -60,8 +55,7 @@ few-front n p more e =
     let cs = map ended_line (closed (p ++ more)) in
     omega (
       arith,
-      e,
-      closed-grows p more,
+      closed-grows,
       length-map_lines (closed (p ++ more)),
       ap length (lines-cut (p ++ more)),
       length-append cs (last_line (begun (p ++ more))),
@@ -70,7 +64,7 @@ few-front n p more e =
 -- the counts of what has been read, whatever bytes follow
 pub Counts-front : (f : Reading) (p more : List ℕ) → Reads f p → Counts f.rules (p ++ more) f.lines f.kept f.refused
 Counts-front f p more h = record {
-  few = few-front f.lines p more h.lines;
+  few = few-front _ p more h.lines;
   counted = rw (lines-front f.lines p more h.lines) h.counted;
 }
 
@@ -89,7 +83,7 @@ pub next-line : (limits : LimitPair) (n : ℕ) (p q : List ℕ) (l : Line) → I
 next-line limits n p q l h e =
     let x = judged-front limits q in
     let cs = map ended_line (closed p) in
-    rw (x.1, h.1, append_assoc cs (l ∷ h.0) x.0) (get-next cs (h.0 ++ x.0) l n (e ∙ sym (length-map_lines (closed p))))
+    rw (x.1, h.1, append_assoc cs (l ∷ h.0) x.0) (get-next _ (h.0 ++ x.0) l n (e ∙ sym (length-map_lines (closed p))))
 
 -- as many lines as LF ended in a prefix, of a text that goes on with a line that can be judged
 front-next : (limits : LimitPair) (p q : List ℕ) (l : Line) (n : ℕ) → IsNext limits p q l → n ≡ length (closed p)
@@ -98,7 +92,7 @@ front-next limits p q l n h e =
     let x = judged-front limits q in
     let cs = map ended_line (closed p) in
     rw (x.1, h.1, append_assoc cs (l ∷ h.0) x.0)
-    (take-front cs (l ∷ h.0 ++ x.0) n (e ∙ sym (length-map_lines (closed p))))
+    (take-front _ (l ∷ h.0 ++ x.0) n (e ∙ sym (length-map_lines (closed p))))
 
 pub next-refusal : (rules : Rules) (n place : ℕ) (reason : _) (p q : List ℕ) (l : Line) → IsNext rules.limits p q l
     → n ≡ length (closed p) + 1
@@ -109,29 +103,23 @@ next-refusal rules n place reason p q l h e good v on =
     grind (
       arith,
       nat_tests,
-      length-map_lines (closed p),
-      refusal-append rules [] (map ended_line (closed p)) (l ∷ h.0) good,
+      length-map_lines,
+      refusal-append,
     )
 
 pub IsEndAfter-cause : {S : Type 0} (law : SinkContract S) (rules : Rules) (p q : List ℕ) (n : ℕ) (s t : S) (e : End)
     → n ≡ length (closed p)
     → refusal_in rules (map ended_line (closed p)) ≡ None → HasCause law (stop_at rules p q n) s t e
     → IsEndAfter rules q n e
-IsEndAfter-cause law rules p q n s t (Refused number place reason) len good c =
-    (next-refusal rules number place reason p q c.0 c.1 (omega (arith, c.2, len)) good c.3 c.5, c.2)
-IsEndAfter-cause law rules p q n s t WriteFault len good c = tt
-IsEndAfter-cause law rules p q n s t Memory len good c = tt
-IsEndAfter-cause law rules p q n s t other len good c = c
+IsEndAfter-cause law rules p q n s t x len good c = grind (arith, nat_tests, next-refusal)
 
 pub Faults-cause : {S : Type 0} (law : SinkContract S) (rules : Rules) (p q : List ℕ) (n : ℕ) (s t : S) (e : End)
     → n ≡ length (closed p)
     → HasCause law (stop_at rules p q n) s t e → Faults law (up_to rules q n) s t (Some e)
-Faults-cause law rules p q n s t (Refused number place reason) len c = c.4
 Faults-cause law rules p q n s t WriteFault len c =
-    let before = front-next rules.limits p q c.0 n c.1 len in
-    (c.0, next-line rules.limits n p q c.0 c.1 len, rw before c.2, rw before c.3)
-Faults-cause law rules p q n s t Memory len c = c.0
-Faults-cause law rules p q n s t other len c = absurd c
+    let before = front-next rules.limits p q _ n c.1 len in
+    (c.0, next-line rules.limits n p q _ c.1 len, rw before c.2, rw before c.3)
+Faults-cause law rules p q n s t other len c = search
 
 -- what has begun, and is no end: it is within the limit, or reading goes on after it
 pub begun-good : (f : Reading) (q : List ℕ) → Reads f q → refusal_in f.rules (judged f.rules.limits q) ≡ None
@@ -141,26 +129,25 @@ begun-good f q h = go f.dropped refl
         → refusal_from f.rules (map ended_line (closed q)) (last_line c) ≡ None
     after [] long on = absurd (omega arith)
     after (b ∷ c) long on =
-        grind (arith, nat_tests, length-map_lines (closed q))
+        grind (arith, nat_tests, length-map_lines)
 
     go : (d : Bool) → f.dropped ≡ d → refusal_in f.rules (judged f.rules.limits q) ≡ None
     go false held =
-        let short : ltb f.rules.limits.line (length (begun q)) ≡ false = sym h.begun.dropped ∙ held in
-        rw (short, append-nil (map ended_line (closed q))) h.counted.good
+        rw ((sym h.begun.dropped ∙ held), append-nil (map ended_line (closed q))) h.counted.good
     go true dropped =
         grind (
           arith,
           nat_tests,
-          refusal-append f.rules [] (map ended_line (closed q)) (last_line (begun q)) h.counted.good,
-          dropped-long f (begun q) h.begun dropped,
+          refusal-append,
+          dropped-long,
         )
 
 pub Going-reads : (e : EngineState) (q : List ℕ) → Reads e.reading q → Scanned (limits_of e) (closed q) e.scanning
     → Going e q
 Going-reads e q h sc = record {
-  good = begun-good e.reading q h;
-  lines = rw (lines-whole q) (h.lines ∙ sym (length-map_lines (closed q)));
-  held = same-peaks _ _ _ _ _ _ (rw (h.header, h.line) refl) (omega (arith, sc.header, ap length sc.line))
+  good = begun-good _ q h;
+  lines = rw (lines-whole) (h.lines ∙ sym (length-map_lines _));
+  held = same-peaks _ _ _ _ _ _ (rw (h.header, h.line)) (omega (arith, ap length sc.line))
       (ap length sc.opened);
 }
 
@@ -170,11 +157,11 @@ pub StandsFor-reads : (e : EngineState) (p : List ℕ) → e.taken ≡ length p 
 StandsFor-reads e p taken s room h sc = record {
   held = held-below e h.header_within h.line_within room;
   bounded =
-      let bytes = let k = peak-le e.reading p [] s h in rw (append-nil p) at k in
-      let first = let k = first-closed p [] in rw (append-nil p) at k in
-      peaks-bounded (limits_of e) p (e.reading.header.peak + e.reading.line.peak) e.scanning bytes room
-      (few-scanned (limits_of e) (closed p) e.scanning (length (first_content p)) sc first);
-  counts = let k = Counts-front e.reading p [] h in rw (append-nil p) at k;
+      let bytes = rw (append-nil p) at (peak-le e.reading p [] s h) in
+      let first = rw (append-nil p) at (first-closed p []) in
+      peaks-bounded _ p _ _ bytes room
+      (few-scanned _ _ _ _ sc first);
+  counts = rw (append-nil p) at (Counts-front e.reading p [] h);
   going = λ _. (h, sc, taken);
 }
 
@@ -183,8 +170,8 @@ module _ {S : Type 0} (law : SinkContract S) where
       → Stops law (further p more) (with_sink f s) e
       (with_sink g t) → IsEndAfter f.rules (p ++ more) g.lines e
   IsEndAfter-stops f g s t p more e h =
-      let good = rw h.rules at h.reads.counted.good in
-      IsEndAfter-cause law f.rules (p ++ h.done) (p ++ more) g.lines h.middle t e h.reads.lines good h.cause
+      IsEndAfter-cause law f.rules (p ++ h.done) (p ++ more) _ h.middle t e h.reads.lines
+      (rw h.rules at h.reads.counted.good) h.cause
 
   pub Delivers-advances : (f g : Reading) (s t : S) (p more : List ℕ) → Reads f p → Advances law (further p more)
       (with_sink f s) (with_sink g t)
@@ -192,8 +179,8 @@ module _ {S : Type 0} (law : SinkContract S) where
   Delivers-advances f g s t p more r h =
       record {
         middle = t;
-        took = More-over law.takes over-kept (first-front f.rules f.lines p more r.lines)
-            (first-closed_lines f.rules g.lines (p ++ more) h.reads.lines) h.puts;
+        took = More-over _ over-kept (first-front _ _ p _ r.lines)
+            (first-closed_lines f.rules _ (p ++ more) h.reads.lines) h.puts;
         fault = refl;
       }
 
@@ -202,13 +189,13 @@ module _ {S : Type 0} (law : SinkContract S) where
       → Delivers law (stretch f.rules (p ++ more) f.lines g.lines) s t (Some e)
   Delivers-stops f g s t p more e r h =
       let rules = f.rules in
-      let whole : p ++ more ≡ (p ++ h.done) ++ h.left = ap (λ z. p ++ z) h.cut ∙ sym (append_assoc p h.done h.left) in
       record {
         middle = h.middle;
-        took = More-over law.takes over-kept (first-front rules f.lines p more r.lines)
-            (ap (rulings_first rules g.lines) whole ∙ first-front rules g.lines (p ++ h.done) h.left h.reads.lines)
+        took = More-over _ over-kept (first-front _ _ p _ r.lines)
+            (ap (rulings_first rules g.lines) (ap (λ z. p ++ z) h.cut ∙ sym (append_assoc p h.done h.left))
+            ∙ first-front rules _ (p ++ h.done) h.left h.reads.lines)
             h.puts;
-        fault = (Faults-cause law rules (p ++ h.done) (p ++ more) g.lines h.middle t e h.reads.lines h.cause);
+        fault = Faults-cause law rules (p ++ h.done) (p ++ more) _ _ t e h.reads.lines h.cause;
       }
 
   pub StandsFor-stops : (old new : EngineState) (s t : S) (p more : List ℕ) (e : End) → new.ended ≡ Some e
@@ -216,13 +203,13 @@ module _ {S : Type 0} (law : SinkContract S) where
       → HoldsFew (limits_of new) (length (first_content (p ++ more))) new.scanning → Stops law (further p more)
       (with_sink old.reading s) e (with_sink new.reading t) → StandsFor new (p ++ more)
   StandsFor-stops old new s t p more e ended sound room few h =
-      let whole : p ++ more ≡ (p ++ h.done) ++ h.left = ap (λ z. p ++ z) h.cut ∙ sym (append_assoc p h.done h.left) in
+      let whole = ap (λ z. p ++ z) h.cut ∙ sym (append_assoc p h.done h.left) in
       record {
         held = held-below new h.reads.header_within h.reads.line_within room;
-        bounded = peaks-bounded (limits_of new) (p ++ more) (new.reading.header.peak + new.reading.line.peak)
-            new.scanning (rw whole (peak-le new.reading (p ++ h.done) h.left sound h.reads)) room few;
-        counts = rw whole (Counts-front new.reading (p ++ h.done) h.left h.reads);
-        going = λ none. absurd (some-none e (sym ended ∙ none));
+        bounded = peaks-bounded _ _ _
+            _ (rw whole (peak-le _ _ _ sound h.reads)) room few;
+        counts = rw whole (Counts-front _ _ _ h.reads);
+        going = λ none. cc;
       }
 
 none-added : (xs ys : List Ruling) → ◌≡◌ {A = List Ruling} [] (xs ++ ys) → ys ≡ []
@@ -235,8 +222,7 @@ pub LacksMemory-stops : {S : Type 0} (law : SinkContract S) (f g : Reading) (s t
     → LacksMemory f.rules (p ++ more) g.lines × (t ≡ s)
 LacksMemory-stops law f g s t p more e h m =
     let cause = rw m at h.cause in
-    let none : closed (p ++ h.done) ≡ [] = none-from_length (closed (p ++ h.done)) (sym h.reads.lines ∙ cause.1.none) in
-    let grown = rw none at h.puts.grown in
+    let grown = rw (nil_from_length (closed (p ++ h.done)) (sym h.reads.lines ∙ cause.1.none)) at h.puts.grown in
     let took = rw (none-added (rulings_closed f.rules p) h.puts.done grown) at h.puts.took in
     (cause.1, cause.0 ∙ took)
 

@@ -1,5 +1,5 @@
 -- What the states of a stream promise of a piece and of the end, from what their splitter did.
-use Rattle.cj_stream.proofs.Common.{Carries, Complete, End, EngineState, Err, Feeds, Finishes, FinishesAll, SplitterState, HeldUntil, IsBelow, IsFinished, LineEnd, List, Memory, None, Ok, OnOk, Option, Reads, Result, Scanned, SinkContract, Some, StandsFor, Stops, TakesAll, TakesSome, WriteFault, [], answer_of, ap, append-nil, arith, closed, cond, contents, end_of, further, given, header_end, length, length-append, line_end, peaks_of, refl, some-none, state, subst, sym, with_sink, ℕ, ◌++◌, ◌+◌, ◌∙◌, ◌≡◌}
+use Rattle.cj_stream.proofs.Common.{Carries, Complete, End, EngineState, Err, Feeds, Finishes, FinishesAll, SplitterState, HeldUntil, IsBelow, IsFinished, LineEnd, List, Memory, None, Ok, OnOk, Option, Reads, Result, Scanned, SinkContract, Some, StandsFor, Stops, TakesAll, TakesSome, WriteFault, [], answer_of, ap, append-nil, arith, closed, cond, contents, end_of, further, given, header_end, length, length-append, line_end, peaks_of, refl, state, subst, sym, with_sink, ℕ, ◌++◌, ◌+◌, ◌∙◌, ◌≡◌}
 use Rattle.std.proofs.Common.{◌≢◌, is_none, IsErrOf}
 use Rattle.cj_stream.specs.declared.ending.HeaderEnd.{HeaderEnd}
 use Rattle.cj_stream.specs.declared.ending.HeaderEnd.TheVariants.{Complete as HeaderComplete, Refused as HeaderRefused, WriteFault as HeaderWriteFault, Memory as HeaderMemory}
@@ -11,10 +11,7 @@ use Rattle.cj_stream.proofs.FinishLemmas.{Finishes-concludes, Finishes-delivers,
 
 -- an end is none that has not come
 pub not-going : (o : Option End) (e : End) → o ≡ Some e → o ≡ None → ⊥
-not-going o e is none = some-none e (sym is ∙ none)
-
-fault-not_ok : (e : End) → ◌≡◌ {A = Result (Unit {0}) End} (Ok tt) (Err e) → ⊥
-fault-not_ok e h = cc
+not-going o e is none = cc
 
 below-same : (e : EngineState) → IsBelow (peaks_of e) (peaks_of e)
 below-same e = record { bytes = omega arith; tokens = omega arith; depth = omega arith }
@@ -46,17 +43,17 @@ module _ {S : Type 0} (law : SinkContract S) (old : EngineState) (s : S) where
     unended = tt;
     ended = is;
     counts = omega arith;
-    cause = λ going. absurd (not-going old.ended e is going);
+    cause = λ going. cc;
     rules = refl;
     stands = λ p st. subst (λ z. StandsFor old z) (sym (after-end p bytes)) st;
     onward = λ p st. omega arith;
     rises = below-same old;
-    least = λ p st going. absurd (not-going old.ended e is going);
+    least = λ p st going. cc;
     going = tt;
-    said = λ p st going. absurd (not-going old.ended e is going);
-    memory = λ p st going. absurd (not-going old.ended e is going);
-    growth = λ going. absurd (not-going old.ended e is going);
-    sink = λ p st going. absurd (not-going old.ended e is going);
+    said = λ p st going. cc;
+    memory = λ p st going. cc;
+    growth = λ going. cc;
+    sink = λ p st going. cc;
   })
     where
       after-end : (p bytes : List ℕ) → given old p bytes ≡ p
@@ -67,16 +64,16 @@ module _ {S : Type 0} (law : SinkContract S) (old : EngineState) (s : S) where
   IsFinished-again e new t is same kept = rw (same, kept) (record {
     ended = is;
     counts = omega arith;
-    cause = λ going. absurd (not-going old.ended e is going);
+    cause = λ going. cc;
     rules = refl;
     stands = λ p st. st;
     onward = λ p st. omega arith;
     rises = below-same old;
-    least = λ p st going. absurd (not-going old.ended e is going);
-    concludes = λ p st going. absurd (not-going old.ended e is going);
-    exact = λ p st going. absurd (not-going old.ended e is going);
-    memory = λ going. absurd (not-going old.ended e is going);
-    sink = λ p st going. absurd (not-going old.ended e is going);
+    least = λ p st going. cc;
+    concludes = λ p st going. cc;
+    exact = λ p st going. cc;
+    memory = λ going. cc;
+    sink = λ p st going. cc;
   })
 
 module _ {S : Type 0} (law : SinkContract S) (old new : SplitterState) (s t : S) (n : ℕ) {T : Type 0}
@@ -87,8 +84,8 @@ module _ {S : Type 0} (law : SinkContract S) (old new : SplitterState) (s t : S)
 
   below-rises : IsBelow (peaks_of (state old n None)) (peaks_of (state new n None))
   below-rises = record {
-    bytes = omega (arith, carries.stays.header_rises, carries.stays.line_rises);
-    tokens = omega (arith, carries.rises.header, carries.rises.line);
+    bytes = omega arith;
+    tokens = omega arith;
     depth = carries.rises.opened;
   }
 
@@ -100,7 +97,7 @@ module _ {S : Type 0} (law : SinkContract S) (old new : SplitterState) (s t : S)
     unended = refl;
     ended = tt;
     counts = carries.counts;
-    cause = λ _ fault. absurd (fault-not_ok WriteFault fault);
+    cause = λ _ fault. cc;
     rules = carries.stays.rules;
     stands = λ p st.
         StandsFor-reads (state new m None) (p ++ bytes) (omega (arith, (st.going refl).2, taken, length-append p bytes))
@@ -113,8 +110,8 @@ module _ {S : Type 0} (law : SinkContract S) (old new : SplitterState) (s t : S)
         rw (append-nil (p ++ bytes), limits) at k;
     going = λ p st. Going-reads (state new m None) (p ++ bytes) (reads p st) (scanned p st);
     said = tt;
-    memory = λ p st _ none. absurd (fault-not_ok Memory none);
-    growth = λ _ none. absurd (fault-not_ok Memory none);
+    memory = λ p st _ none. cc;
+    growth = λ _ none. cc;
     sink = λ p st _. Delivers-advances law old.reading new.reading s t p bytes (st.going refl).0
         (all.advances p (st.going refl).0);
   }
@@ -138,19 +135,19 @@ module _ {S : Type 0} (law : SinkContract S) (old new : SplitterState) (s t : S)
     counts = carries.counts;
     cause = λ _ fault. carries.cause (is ∙ ap Err (err-is fault));
     rules = carries.stays.rules;
-    stands = λ p st. StandsFor-stops law (state old n None) (state new n (Some e)) s t p bytes e refl
+    stands = λ p st. StandsFor-stops _ (state old n None) _ s t p _ e refl
         carries.limited.sound carries.limited.room
         (rw limits (some.held p (st.going refl).0 (st.going refl).1)) (stop p st);
     onward = λ p st.
-        omega (arith, (st.going refl).0.lines, (stop p st).reads.lines, closed-grows p (stop p st).done);
+        omega (arith, (st.going refl).0.lines, (stop p st).reads.lines, closed-grows);
     rises = below-rises;
-    least = λ p st _. least-until (state new n (Some e)) old.reading.rules.limits p bytes (stop p st).done
-        (stop p st).left limits (stop p st).cut (stop p st).reads (least p (st.going refl).0 (st.going refl).1);
+    least = λ p st _. least-until (state new n (Some e)) _ p _ _
+        _ limits (stop p st).cut (stop p st).reads (least p (st.going refl).0 (st.going refl).1);
     going = tt;
-    said = λ p st _. IsEndAfter-stops law old.reading new.reading s t p bytes e (stop p st);
-    memory = λ p st _ none. LacksMemory-stops law old.reading new.reading s t p bytes e (stop p st) (err-is none);
+    said = λ p st _. IsEndAfter-stops _ _ _ s t p _ e (stop p st);
+    memory = λ p st _ none. LacksMemory-stops _ _ _ s t p _ e (stop p st) (err-is none);
     growth = λ _ none. carries.memory (is ∙ ap Err (err-is none));
-    sink = λ p st _. Delivers-stops law old.reading new.reading s t p bytes e (st.going refl).0 (stop p st);
+    sink = λ p st _. Delivers-stops _ _ _ s t p _ e (st.going refl).0 (stop p st);
   }
     where
       stop : (p : List ℕ) → StandsFor (state old n None) p
@@ -172,23 +169,23 @@ module _ {S : Type 0} (law : SinkContract S) (old new : SplitterState) (s t : S)
     cause = λ _ fault. carries.cause (faulty r WriteFault (λ h. cc) (sym is ∙ fault));
     rules = carries.stays.rules;
     stands = λ p st.
-        StandsFor-finished law old.reading new.reading s t p (st.going refl).0 r new.scanning n e st.bounded.bytes
+        StandsFor-finished law _ _ s t p (st.going refl).0 r _ n e st.bounded.bytes
         (rw limits at carries.limited.room) (all.held p (st.going refl).0 (st.going refl).1) (done p st);
-    onward = λ p st. finishes-onward law old.reading new.reading s t p (st.going refl).0 r (done p st);
+    onward = λ p st. finishes-onward law _ _ s t p (st.going refl).0 r (done p st);
     rises = below-rises law old new s t n r carries;
     least = λ p st _.
         least-finished law (state old n None) (state new n (Some e)) s t p r (st.going refl).0 (done p st) carries.stays
         carries.rises (st.going refl).1 (scanned-ok r p (st.going refl).0 (st.going refl).1 all.scanned);
     concludes = λ p st _.
-        rw is (Finishes-concludes law old.reading new.reading s t p (st.going refl).0 r (done p st));
+        rw is (Finishes-concludes law _ _ s t p (st.going refl).0 r (done p st));
     exact = λ p st _ whole.
-        let complete : end_of r ≡ Complete = sym is ∙ whole in
-        let ok = finished-ok law old.reading new.reading s t p (st.going refl).0 r (done p st) complete in
-        let k = rw ok at all.scanned in
-        peaks-finished law old.reading new.reading s t p (st.going refl).0 r new.scanning (done p st) complete
+        let complete = sym is ∙ whole in
+        let k = rw (finished-ok law old.reading new.reading s t p (st.going refl).0 r (done p st) complete) at
+        all.scanned in
+        peaks-finished law _ _ s t p (st.going refl).0 r _ (done p st) complete
         (k p (st.going refl).0 (st.going refl).1);
     memory = λ _ none. memory (faulty r Memory (λ h. cc) (sym is ∙ none));
-    sink = λ p st _. rw is (Finishes-delivers law old.reading new.reading s t p (st.going refl).0 r (done p st));
+    sink = λ p st _. rw is (Finishes-delivers _ _ _ s t p (st.going refl).0 r (done p st));
   }
     where
       limits : new.reading.rules.limits ≡ old.reading.rules.limits

@@ -1,7 +1,7 @@
 -- What the end of a text makes of an engine.
-use Rattle.cj_stream.proofs.Common.{Complete, Concludes, Counts, Delivers, End, Err, Faults, Finishes, FinishesWith, HasRoom, HoldsFew, IsExact, IsLeft, IsWithin, LimitPair, Line, List, Memory, NoHeader, None, Ok, OnErr, OnOk, Reading, Reads, Refused, Result, Rules, Scanned, Scanning, ScansNext, Handles, SinkContract, Some, StandsFor, WriteFault, [], answer_of, ap, append-nil, arith, begun, begun_after, bytes_bound, closed, contents, end_of, ended_line, ending, ending_of, exact_peaks, false, first_content, goes_on, greatest, held_length, inl, inr, is_lenient, judged_next, last_line, later_of, length, length-append, lines, map, max, nat_tests, next_verdict, refl, refusal_from, refusal_in, rulings_first, some-none, stretch, sym, take, take_all, true, unwrap_or, up_to, with_sink, ℕ, ◌++◌, ◌+◌, ◌<◌, ◌∙◌, ◌∷◌, ◌≡◌, ◌≤◌, ◌⊎◌}
+use Rattle.cj_stream.proofs.Common.{Complete, Concludes, Counts, Delivers, End, Err, Faults, Finishes, FinishesWith, HasRoom, HoldsFew, IsExact, IsLeft, IsWithin, LimitPair, Line, List, Memory, NoHeader, None, Ok, OnErr, OnOk, Reading, Reads, Refused, Result, Rules, Scanned, Scanning, ScansNext, Handles, SinkContract, Some, StandsFor, WriteFault, [], answer_of, ap, append-nil, arith, begun, begun_after, bytes_bound, closed, contents, end_of, ended_line, ending, ending_of, exact_peaks, false, first_content, goes_on, greatest, held_length, inl, inr, is_lenient, judged_next, last_line, later_of, length, length-append, lines, map, max, nat_tests, next_verdict, refl, refusal_from, refusal_in, rulings_first, stretch, sym, take, take_all, true, unwrap_or, up_to, with_sink, ℕ, ◌++◌, ◌+◌, ◌<◌, ◌∙◌, ◌∷◌, ◌≡◌, ◌≤◌, ◌⊎◌}
 use Rattle.std.proofs.Common.{eqb}
-use Rattle.cj_stream.proofs.LineLemmas.{lines-cut, none-from_length, begun_after-empty}
+use Rattle.cj_stream.proofs.LineLemmas.{lines-cut, begun_after-empty}
 use Rattle.cj_stream.proofs.HandledLemmas.{Came, ended, refused, failed, lacked, came}
 use Rattle.cj_stream.proofs.ReadingLemmas.{length-map_lines, left-same, zero_or, Counted-next, greatest-later, held-nothing}
 use Rattle.cj_stream.proofs.GoodLemmas.{good-complete, good-refused}
@@ -9,6 +9,7 @@ use Rattle.cj_stream.proofs.EngineLemmas.{held-below, peaks-bounded, same-peaks,
 use Rattle.cj_stream.proofs.FirstLemmas.{lines-front}
 use Rattle.cj_stream.proofs.RulingLemmas.{refusal-append}
 use Rattle.cj_stream.proofs.TookLemmas.{More-line, More-none, over-kept}
+use Rattle.std.proofs.lemmas.List.{nil_from_length}
 
 -- the end of a text, by the number of its lines
 abbrev pub Concluded : Rules → List ℕ → ℕ → End → Type 0
@@ -19,9 +20,9 @@ Concluded rules p n Memory = Unit {0}
 Concluded rules p n other = ⊥
 
 pub Concludes-concluded : (rules : Rules) (p : List ℕ) (n : ℕ) (e : End) → Concluded rules p n e → Concludes rules p n e
-Concludes-concluded rules p n Complete h = (h.0, h.1 ∙ ap length (sym (good-complete rules p h.0)))
+Concludes-concluded rules p n Complete h = (h.0, h.1 ∙ ap length (sym (good-complete _ p h.0)))
 Concludes-concluded rules p n (Refused number place reason) h =
-    (h.0, omega (arith, h.1, good-refused rules p number place reason h.0))
+    (h.0, omega (arith, good-refused))
 Concludes-concluded rules p n other h = h
 
 ending-some : (rules : Rules) (xs ys : List Line) → 0 < length xs
@@ -72,16 +73,16 @@ finishes-with law (b ∷ c) f g s t r some d = d
 pub scanned-last : (f : Reading) (p : List ℕ) (a b : Scanning) → Reads f p → 0 < length (begun p)
     → Scanned f.rules.limits (closed p) a → ScansNext f a b → Scanned f.rules.limits (contents p) b
 scanned-last f p a b reads some s scan =
-    rw (lines-cut p) (go (begun p) some (scan (closed p) (begun p) (sym reads.lines) reads.begun s))
+    rw (lines-cut) (go (begun p) some (scan (closed p) (begun p) (sym reads.lines) reads.begun s))
   where
     go : (c : List ℕ) → 0 < length c → Scanned f.rules.limits (closed p ++ c ∷ []) b
         → Scanned f.rules.limits (map (λ l. l.content) (map ended_line (closed p) ++ last_line c)) b
     go [] some k = absurd (omega arith)
-    go (x ∷ c) some k = rw (contents-last (closed p) (x ∷ c)) k
+    go (x ∷ c) some k = rw (contents-last) k
 
 pub scanned-closed : (limits : LimitPair) (p : List ℕ) (a : Scanning) → begun p ≡ [] → Scanned limits (closed p) a
     → Scanned limits (contents p) a
-scanned-closed limits p a e s = rw (lines-cut p, e, contents-closed (closed p)) s
+scanned-closed limits p a e s = rw (lines-cut, e, contents-closed) s
 
 -- a last line of these bytes
 abbrev pub unended : List ℕ → Line
@@ -102,31 +103,31 @@ last-some (b ∷ c) some = refl
 
 pub lines-last : (p : List ℕ) → 0 < length (begun p)
     → lines p ≡ map ended_line (closed p) ++ unended (begun p) ∷ []
-lines-last p some = lines-cut p ∙ ap (λ z. map ended_line (closed p) ++ z) (last-some (begun p) some)
+lines-last p some = lines-cut p ∙ ap (λ z. map ended_line (closed p) ++ z) (last-some _ some)
 
 -- all lines, counted
 pub take-last : (p : List ℕ) (n : ℕ) → n ≡ length (closed p) + 1 → 0 < length (begun p)
     → take n (lines p) ≡ map ended_line (closed p) ++ unended (begun p) ∷ []
 take-last p n e some =
     let cs = map ended_line (closed p) in
-    rw (lines-last p some)
-    (take_all n (map ended_line (closed p) ++ unended (begun p) ∷ [])
+    rw (lines-last)
+    (take_all n _
     (omega (arith, e, length-map_lines (closed p), length-append cs (unended (begun p) ∷ []))))
 
 -- the lines but the last, counted
 pub take-closed : (p : List ℕ) (n : ℕ) → n ≡ length (closed p) → take n (lines p) ≡ map ended_line (closed p)
-take-closed p n e = let k = lines-front n p [] e in rw (append-nil p) at k
+take-closed p n e = rw (append-nil p) at (lines-front n p [] e)
 
 module _ {S : Type 0} (law : SinkContract S) (f g : Reading) (s t : S) (p : List ℕ) (reads : Reads f p) where
   came-none : (r : Result (Unit {0}) End) → begun p ≡ [] → FinishesWith law [] (with_sink f s) r (with_sink g t)
       → CameLast law f g s t p r
-  came-none r e d = go (zero_or f.lines)
+  came-none r e d = go (zero_or _)
     where
       go : (f.lines ≡ 0) ⊎ (0 < f.lines) → CameLast law f g s t p r
       go (inl z) =
-          let none : closed p ≡ [] = none-from_length (closed p) (sym reads.lines ∙ z) in
           let first : eqb f.lines 0 ≡ true = grind (arith, nat_tests) in
-          rw (d.0, first) (nothing (lines-cut p ∙ rw (none, e) refl) z e d.1 d.2)
+          rw (d.0, first) (nothing (lines-cut p ∙ rw ((nil_from_length (closed p) (sym reads.lines ∙ z)), e)) z e d.1
+          d.2)
       go (inr z) = let some : eqb f.lines 0 ≡ false = grind (arith, nat_tests) in rw (d.0, some) (whole z e d.1 d.2)
 
   came-last : (r : Result (Unit {0}) End) → Finishes law p (with_sink f s) r (with_sink g t) → CameLast law f g s t p r
@@ -135,20 +136,20 @@ module _ {S : Type 0} (law : SinkContract S) (f g : Reading) (s t : S) (p : List
       go : (x : List ℕ) → begun p ≡ x → FinishesWith law x (with_sink f s) r (with_sink g t) → CameLast law f g s t p r
       go [] e d = came-none r e d
       go (b ∷ c) e d =
-          last r (rw e (omega arith)) (rw e (came law f g s t p reads (unended (b ∷ c)) r d))
+          last r (rw e (omega arith)) (rw e (came _ f g s t p reads _ r d))
 
   length-cs : length (map ended_line (closed p)) ≡ f.lines
-  length-cs = length-map_lines (closed p) ∙ sym reads.lines
+  length-cs = length-map_lines _ ∙ sym reads.lines
 
   -- with one line more all are counted
   module _ (some : 0 < length (begun p)) (one : g.lines ≡ f.lines + 1) where
     all-taken : take g.lines (lines p) ≡ map ended_line (closed p) ++ unended (begun p) ∷ []
-    all-taken = take-last p g.lines (omega (arith, one, reads.lines)) some
+    all-taken = take-last p _ (omega arith) some
 
     count-last : g.lines ≡ length (lines p)
     count-last =
         let cs = map ended_line (closed p) in
-        omega (arith, one, length-cs, ap length (lines-last p some), length-append cs (unended (begun p) ∷ []))
+        omega (arith, length-cs, ap length (lines-last p some), length-append cs (unended (begun p) ∷ []))
 
   -- the end, where there is a last line
   ending-verdict : 0 < length (begun p)
@@ -156,8 +157,8 @@ module _ {S : Type 0} (law : SinkContract S) (f g : Reading) (s t : S) (p : List
       ≡ unwrap_or (refusal_from f.rules (map ended_line (closed p)) (unended (begun p) ∷ [])) Complete
   ending-verdict some =
       rw (
-        lines-last p some,
-        ending-last f.rules (map ended_line (closed p)) (unended (begun p)),
+        lines-last,
+        ending-last,
         refusal-append f.rules [] (map ended_line (closed p)) (unended (begun p) ∷ []) reads.counted.good,
       ) refl
 
@@ -176,16 +177,15 @@ module _ {S : Type 0} (law : SinkContract S) (f g : Reading) (s t : S) (p : List
   concluded r (last x some (refused place reason v on same still)) =
       let ends : goes_on f.rules (length (map ended_line (closed p)) + 1) ≡ false = rw length-cs on in
       (ending-verdict some ∙ rw (v, ends, length-cs) refl, ap (λ x. x.lines + 1) (sym same))
-  concluded r (last x some (failed v left leaves)) = tt
-  concluded r (last x some (lacked v none lf left still)) = tt
+  concluded r other = tt
 
   pub Finishes-concludes : (r : Result (Unit {0}) End) → Finishes law p (with_sink f s) r (with_sink g t)
       → Concludes f.rules p g.lines (end_of r)
-  Finishes-concludes r d = Concludes-concluded f.rules p g.lines (end_of r) (concluded r (came-last r d))
+  Finishes-concludes r d = Concludes-concluded _ p _ _ (concluded r (came-last r d))
 
   -- the counts are those of f where nothing was handled
   counts-left : IsLeft f g → Counts f.rules p g.lines g.kept g.refused
-  counts-left left = let k = Counts-front f p [] reads in rw left.same (rw (append-nil p) at k)
+  counts-left left = rw left.same (rw (append-nil p) at (Counts-front f p [] reads))
 
   counted : (r : Result (Unit {0}) End) → CameLast law f g s t p r → Counts f.rules p g.lines g.kept g.refused
   counted r (nothing none z e same still) = counts-left (left-same f g same)
@@ -228,8 +228,8 @@ module _ {S : Type 0} (law : SinkContract S) (f g : Reading) (s t : S) (p : List
     rules = d.rules;
     header = rw d.header reads.header_within;
     line = d.line.within;
-    peaks = rw d.header (omega (arith, d.line.peak));
-    onward = omega (arith, d.lines);
+    peaks = rw d.header (omega arith);
+    onward = omega arith;
   }
   handled r (last x some (refused place reason v on same still)) = handled-left (left-same f g same)
   handled r (last x some (failed v left leaves)) = handled-left left
@@ -249,16 +249,15 @@ module _ {S : Type 0} (law : SinkContract S) (f g : Reading) (s t : S) (p : List
       record {
         held = held-below (record { reading = g; scanning = sc; taken = n; ended = Some e }) k.header k.line
             (rw k.rules room);
-        bounded = rw k.rules (peaks-bounded f.rules.limits p (g.header.peak + g.line.peak) sc
+        bounded = rw k.rules (peaks-bounded _ p _ sc
             (omega (arith, k.peaks, bounded)) room few);
         counts = rw k.rules counts;
-        going = λ none. absurd (some-none e none);
+        going = λ none. cc;
       }
 
   -- what was held at most, of all lines
   peak : (r : Result (Unit {0}) End) → CameLast law f g s t p r → end_of r ≡ Complete
       → g.header.peak + g.line.peak ≡ (exact_peaks f.rules.limits p).bytes
-  peak r (nothing none z e same still) done = cc
   peak r (whole z e same still) done =
       let later : greatest (held_length f.rules.limits) (later_of (contents p)) ≡ greatest (held_length f.rules.limits)
       (later_of (closed p)) = rw (lines-cut p, e, contents-closed (closed p)) refl in
@@ -273,15 +272,15 @@ module _ {S : Type 0} (law : SinkContract S) (f g : Reading) (s t : S) (p : List
       (held_length f.rules.limits (begun_after (closed p) (begun p))) =
       rw (lines-last p some, contents-last (closed p) (begun p)) (omega (arith, more, none)) in
       let first : g.header.peak ≡ length (first_content p) = ap (λ x. x.peak) d.header
-      ∙ (reads.peak ∙ ap length reads.header) in
+      ∙ reads.peak ∙ ap length reads.header in
       omega (arith, later, first, d.line.peak, reads.line_peak)
-  peak r (last x some other) done = cc
+  peak r other done = cc
 
   -- only an answer Ok makes a text complete
   pub finished-ok : (r : Result (Unit {0}) End) → Finishes law p (with_sink f s) r (with_sink g t) → end_of r ≡ Complete
       → r ≡ Ok tt
   finished-ok r d done =
-      grind (arith, nat_tests, came-last r d)
+      grind (arith, nat_tests, came-last)
 
   -- and of all three counts
   pub peaks-finished : (r : Result (Unit {0}) End) (sc : Scanning) → Finishes law p (with_sink f s) r (with_sink g t)
@@ -297,11 +296,11 @@ module _ {S : Type 0} (law : SinkContract S) (f g : Reading) (s t : S) (p : List
       record {
         bytes = bytes;
         least = record {
-          bytes = omega (arith, bytes);
-          tokens = omega (arith, k.header_peak, k.line_peak.least);
+          bytes = omega arith;
+          tokens = omega arith;
           depth = k.opened_peak.least;
         };
-        legible = λ all. same-peaks _ _ _ _ _ _ bytes (omega (arith, k.header_peak, k.line_peak.exact all))
+        legible = λ all. same-peaks _ _ _ _ _ _ bytes (omega (arith, k.line_peak.exact all))
             (k.opened_peak.exact all);
       }
 
@@ -309,18 +308,18 @@ module _ {S : Type 0} (law : SinkContract S) (f g : Reading) (s t : S) (p : List
       → Delivers law (stretch f.rules p f.lines g.lines) s t (Some x)
   quiet x same fault = record {
     middle = s;
-    took = More-none law.takes over-kept _ _ s s (ap (λ n. rulings_first f.rules n p) same) refl;
+    took = More-none _ over-kept _ _ s s (ap (λ n. rulings_first f.rules n p) same) refl;
     fault = fault;
   }
 
   delivered : (r : Result (Unit {0}) End) → CameLast law f g s t p r
       → Delivers law (stretch f.rules p f.lines g.lines) s t (Some (end_of r))
-  delivered r (nothing none z e same still) = quiet (Refused 1 0 NoHeader) (ap (λ x. x.lines) same) still
-  delivered r (whole z e same still) = quiet Complete (ap (λ x. x.lines) same) still
+  delivered r (nothing none z e same still) = quiet _ (ap (λ x. x.lines) same) still
+  delivered r (whole z e same still) = quiet _ (ap (λ x. x.lines) same) still
   delivered r (last x some (ended put refuses d fine k bad took)) = record {
     middle = t;
-    took = More-line law.takes over-kept f.rules p f.lines g.lines (map ended_line (closed p)) (unended (begun p)) s t
-        (take-closed p f.lines reads.lines) (all-taken some d.lines) took;
+    took = More-line _ over-kept _ p _ _ _ _ s t
+        (take-closed p _ reads.lines) (all-taken some d.lines) took;
     fault = refl;
   }
   delivered r (last x some (refused place reason v on same still)) =

@@ -18,20 +18,19 @@ pub lines-front : (n : ℕ) (p more : List ℕ) → n ≡ length (closed p)
 lines-front n p more e =
     let cs = map ended_line (closed p) in
     let ds = map ended_line (closed (begun p ++ more)) ++ last_line (begun (p ++ more)) in
-    let t : take n (cs ++ ds) ≡ cs = take-front cs ds n (e ∙ sym (length-map_lines (closed p))) in
     rw (
-      lines-cut (p ++ more),
-      closed-then p more,
-      map_lines-append (closed p) (closed (begun p ++ more)),
+      lines-cut,
+      closed-then,
+      map_lines-append,
       append_assoc cs (map ended_line (closed (begun p ++ more))) (last_line (begun (p ++ more))),
-      t,
-    ) refl
+      take-front cs ds n (e ∙ sym (length-map_lines (closed p))),
+    )
 
 module _ (rules : Rules) where
   -- the results of as many lines as LF ended in a prefix, whatever follows
   pub first-front : (n : ℕ) (p more : List ℕ) → n ≡ length (closed p)
       → rulings_first rules n (p ++ more) ≡ rulings_closed rules p
-  first-front n p more e = ap (rulings rules []) (lines-front n p more e)
+  first-front n p more e = ap (rulings rules []) (lines-front n p _ e)
 
   pub first-either : (n : ℕ) (p x y : List ℕ) → n ≡ length (closed p)
       → rulings_first rules n (p ++ x) ≡ rulings_first rules n (p ++ y)
@@ -39,16 +38,16 @@ module _ (rules : Rules) where
 
   pub first-closed_lines : (n : ℕ) (p : List ℕ) → n ≡ length (closed p)
       → rulings_first rules n p ≡ rulings_closed rules p
-  first-closed_lines n p e = let k = first-front n p [] e in rw (append-nil p) at k
+  first-closed_lines n p e = rw (append-nil p) at (first-front n p [] e)
 
   pub first-same : (n : ℕ) (p more : List ℕ) → n ≡ length (closed p)
       → rulings_first rules n (p ++ more) ≡ rulings_first rules n p
-  first-same n p more e = first-front n p more e ∙ sym (first-closed_lines n p e)
+  first-same n p more e = first-front n p _ e ∙ sym (first-closed_lines n p e)
 
   module _ (n : ℕ) (r : List ℕ) where
     -- of as many lines as are handled
     pub first-good : n ≡ length (good rules r) → rulings_first rules n r ≡ rulings_good rules r
-    first-good e = rw e (ap (rulings rules []) (good-take rules [] (lines r)))
+    first-good e = rw e (ap (rulings rules []) (good-take _ _ _))
 
     -- of the whole lines, of which none is the end
     pub first-whole : refusal_in rules (lines (whole r)) ≡ None → n ≡ length (lines (whole r))
@@ -57,9 +56,9 @@ module _ (rules : Rules) where
         grind (
           arith,
           nat_tests,
-          first-closed_lines n r (e ∙ (ap length (lines-whole r) ∙ length-map_lines (closed r))),
-          lines-whole r,
-          good-all rules [] (lines (whole r)) none,
+          first-closed_lines n r (e ∙ ap length (lines-whole r) ∙ length-map_lines (closed r)),
+          lines-whole,
+          good-all,
         )
 
     -- of the first lines, of which none is the end, and then of the others
@@ -69,6 +68,6 @@ module _ (rules : Rules) where
     first-split none =
         let xs = take n (lines r) in
         let ys = drop n (lines r) in
-        ap (λ z. rulings rules [] (good_from rules [] z)) (sym (take-append-drop n (lines r)))
-        ∙ (ap (rulings rules []) (good-append rules [] xs ys none)
-        ∙ rulings-append rules [] xs (good_from rules xs ys))
+        ap (λ z. rulings rules [] (good_from rules [] z)) (sym (take-append-drop n _))
+        ∙ ap (rulings rules []) (good-append _ _ _ _ none)
+        ∙ rulings-append _ _ _ _

@@ -39,17 +39,17 @@ module _ {S N : Type 0} (law : SinkContract S) (notes : N → Report → N → T
     stands = rw (append-nil p) st;
     took = record {
       middle = s;
-      took = More-none law.takes over-kept _ _ s s (ap (λ k. rulings_first rules k (p ++ [])) none) refl;
+      took = More-none _ over-kept _ _ s s (ap (λ k. rulings_first rules k (p ++ [])) none) refl;
       fault = refl;
     };
-    noted = Notes-none notes rules (p ++ []) first (lines_of e) n n none refl;
+    noted = Notes-none _ rules (p ++ []) _ _ n n none refl;
   }
 
   module _ {k : ℕ} {e : EngineState} {s t : S} {n m : N} (given : IsGiven k e s t n m) where
     good : refusal_in rules (judged rules.limits (p ++ joined (take k pieces))) ≡ None
     good =
         let st = given.stands.going given.going in
-        let z = (Going-reads e (p ++ joined (take k pieces)) st.0 st.1).good in
+        let z = (Going-reads e _ st.0 st.1).good in
         rw given.under at z
 
     -- the next piece
@@ -66,27 +66,26 @@ module _ {S N : Type 0} (law : SinkContract S) (notes : N → Report → N → T
       -- of the lines so far the same is said
       start : rulings_first rules first (p ++ joined (take (k + 1) pieces))
           ≡ rulings_first rules first (p ++ joined (take k pieces))
-      start = first-either rules first p (joined (take (k + 1) pieces)) (joined (take k pieces)) given.behind
+      start = first-either _ _ p _ _ given.behind
 
       same : rulings_first rules (lines_of e) (p ++ joined (take (k + 1) pieces))
           ≡ rulings_first rules (lines_of e) (p ++ joined (take k pieces))
-      same = let z = first-same rules (lines_of e) (p ++ joined (take k pieces)) piece read in rw text at z
+      same = let z = first-same rules _ (p ++ joined (take k pieces)) piece read in rw text at z
 
       noted : Notes notes (stretch rules (p ++ joined (take (k + 1) pieces)) first (lines_of f)) n l
       noted =
-          let z = reports (p ++ joined (take k pieces)) given.stands given.going in
-          More-then notes over-reported (More-over notes over-reported start same given.noted)
-          (rw (text, given.under) at z)
+          More-then _ over-reported (More-over _ over-reported start same given.noted)
+          (rw (text, given.under) at (reports (p ++ joined (take k pieces)) given.stands given.going))
 
       pub Given-next : Feeds law piece (with_sink e t) (Ok tt) (with_sink f u) → IsGiven (k + 1) f s u n l
       Given-next feeds = record {
         behind = given.behind;
         going = feeds.unended;
         under = feeds.rules ∙ given.under;
-        stands = let z = feeds.stands (p ++ joined (take k pieces)) given.stands in rw (given.going, text) at z;
+        stands = rw (given.going, text) at (feeds.stands (p ++ joined (take k pieces)) given.stands);
         took =
-            let z = feeds.sink (p ++ joined (take k pieces)) given.stands given.going in
-            Delivers-join start same given.took (rw (text, given.under, feeds.unended) at z);
+            Delivers-join start same given.took (rw (text, given.under, feeds.unended) at
+            (feeds.sink (p ++ joined (take k pieces)) given.stands given.going));
         noted = noted;
       }
 
@@ -97,31 +96,29 @@ module _ {S N : Type 0} (law : SinkContract S) (notes : N → Report → N → T
           let q = p ++ joined (take k pieces) in
           let st = given.stands.going given.going in
           let after = p ++ joined (take (k + 1) pieces) in
-          let said = let z = feeds.said q given.stands given.going in rw (text, given.under) at z in
-          let stands = let z = feeds.stands q given.stands in rw (given.going, text) at z in
+          let said = rw (text, given.under) at (feeds.said q given.stands given.going) in
+          let stands = rw (given.going, text) at (feeds.stands q given.stands) in
           record {
             fed = record {
               under = feeds.rules ∙ given.under;
               ended = feeds.ended;
               few = few;
               good = good;
-              at = EndsAt-said rules p pieces k (lines_of f) x said;
+              at = EndsAt-said _ p _ k _ x said;
               used = taken ∙ st.2;
-              counts = let z = stands.counts in rw (feeds.rules, given.under) at z;
+              counts = rw (feeds.rules, given.under) at stands.counts;
               memory = λ h.
-                  let z = (feeds.memory q given.stands given.going (ap Err h)).0 in
-                  rw (text, given.under) at z;
+                  rw (text, given.under) at (feeds.memory q given.stands given.going (ap Err h)).0;
               peaks = refl;
               held = stands.held;
-              bounded = let z = stands.bounded in rw (feeds.rules, given.under) at z;
-              least = let z = feeds.least q given.stands given.going in rw (text, given.under) at z;
+              bounded = rw (feeds.rules, given.under) at stands.bounded;
+              least = rw (text, given.under) at (feeds.least q given.stands given.going);
               exact = λ h. absurd (said-not_complete rules after (lines_of f) x said h);
             };
             ends = Ends-fed rules after (lines_of f) (joined (take (k + 1) pieces) ≡ joined pieces) x said;
             taken =
-                let z = feeds.sink q given.stands given.going in
-                TookWhole-left law e rules p first pieces k (lines_of f) s t u x given.under st.0 given.took
-                (rw (text, given.under, feeds.ended) at z);
+                TookWhole-left _ e _ p _ _ k _ s t u x given.under st.0 given.took
+                (rw (text, given.under, feeds.ended) at (feeds.sink q given.stands given.going));
             noted = noted;
           }
 

@@ -1,5 +1,5 @@
 -- Small streams in which reading goes on after invalid lines, computed.
-use Rattle.cj_stream.proofs.Common.{Complete, Invalid, Kept, Line, LineTooLong, List, MissingMember, Reason, Refused, Rules, Syntax, Tree, [], arith, ended_line, ending_of, good_from, lit<, nat_tests, raw, refl, reported_from, small_feature, small_header, tight_rules, true, verdict, verdict_at, wide_rules, ℕ, ◌++◌, ◌∙◌, ◌∷◌, ◌≡◌}
+use Rattle.cj_stream.proofs.Common.{Complete, Invalid, Kept, Line, List, Reason, Refused, Rules, Tree, [], arith, ending_of, good_from, lit<, nat_tests, raw, refl, reported_from, small_header, true, verdict, verdict_at, ℕ, ◌++◌, ◌∙◌, ◌∷◌, ◌≡◌}
 use Rattle.cj_stream.specs.GoingRows.{going, BetweenRow, FirstRow, LastRow}
 use Rattle.cj_stream.proofs.RowLemmas.{header_first, header_tight, feature_first, feature_third, comma_second, written, open_line}
 use Rattle.cj_stream.proofs.VerdictLemmas.{verdict-long}
@@ -20,8 +20,8 @@ module _ (rules : Rules) (on : rules.options.keep_going ≡ true) (place : ℕ) 
       ≡ record { line = 2; place = place; reason = reason } ∷ [])
   unfolding verdict_at
   between h l f valid bad good = (
-    (rw (valid, bad, on, good) refl, rw (valid, bad, on, good) (rw (valid, bad, good) refl)),
-    rw (valid, bad, on, good) (rw (valid, bad, good) refl),
+    (rw (valid, bad, on, good), rw (valid, bad, on, good) (rw (valid, bad, good))),
+    rw (valid, bad, on, good) (rw (valid, bad, good)),
   )
 
   last : (h l : Line) → verdict rules [] h.content ≡ Kept → verdict rules (h ∷ []) l.content ≡ Invalid place reason
@@ -30,28 +30,28 @@ module _ (rules : Rules) (on : rules.options.keep_going ≡ true) (place : ℕ) 
       ∷ [])
   unfolding verdict_at
   last h l valid bad = (
-    (rw (valid, bad, on) refl, rw (valid, bad, on) (rw (valid, bad) refl)),
-    rw (valid, bad, on) (rw (valid, bad) refl),
+    (rw (valid, bad, on), rw (valid, bad, on) (rw (valid, bad))),
+    rw (valid, bad, on) (rw (valid, bad)),
   )
 
 first : (rules : Rules) (place : ℕ) (reason : Reason) (l : Line) (rest : List Line)
     → verdict rules [] l.content ≡ Invalid place reason
     → ((ending_of rules (l ∷ rest) ≡ Refused 1 place reason) × (written rules (l ∷ rest) ≡ []))
     × (reported_from rules [] (good_from rules [] (l ∷ rest)) ≡ [])
-first rules place reason l rest bad = ((rw bad refl, rw bad refl), rw bad refl)
+first rules place reason l rest bad = ((rw bad, rw bad), rw bad)
 
 pub row_between : BetweenRow
 row_between =
-    between (going wide_rules) refl 26 Syntax (ended_line small_header) (ended_line _) (open_line small_feature)
-    (same-verdict wide_rules 1 _ small_header ∙ header_first _) (same-verdict wide_rules 2 _ _ ∙ comma_second _)
-    (same-verdict wide_rules 3 _ small_feature ∙ feature_third)
+    between _ refl _ _ _ _ _
+    (same-verdict _ 1 _ _ ∙ header_first _) (same-verdict _ 2 _ _ ∙ comma_second _)
+    (same-verdict _ 3 _ _ ∙ feature_third)
 
 pub row_first : FirstRow
-row_first = first (going wide_rules) 0 MissingMember (ended_line small_feature) (open_line small_header ∷ [])
-    (same-verdict wide_rules 1 _ small_feature ∙ feature_first _)
+row_first = first _ 0 _ _ (open_line small_header ∷ [])
+    (same-verdict _ 1 _ _ ∙ feature_first _)
 
 pub row_last : LastRow
 row_last =
-    last (going tight_rules) refl 116 LineTooLong (ended_line small_header) (open_line (small_header ++ 32 ∷ []))
-    (same-verdict tight_rules 1 _ small_header ∙ header_tight _)
-    (verdict-long (going tight_rules) 2 _ (small_header ++ 32 ∷ []) (lit< tt))
+    last _ refl _ _ _ _
+    (same-verdict _ 1 _ _ ∙ header_tight _)
+    (verdict-long _ 2 _ _ (lit< tt))

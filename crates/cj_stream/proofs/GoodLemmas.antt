@@ -9,16 +9,16 @@ some_of o m place reason h = grind arith
 -- no line of a text that ends well is the end
 pub complete-none : (rules : Rules) (ls : List Line) → ending_of rules ls ≡ Complete → refusal_in rules ls ≡ None
 complete-none rules [] h = refl
-complete-none rules (l ∷ ls) h = grind (arith, refusal-kind rules [] (l ∷ ls))
+complete-none rules (l ∷ ls) h = grind (arith, refusal-kind)
 
 -- so all lines are good
 pub good-complete : (rules : Rules) (r : List ℕ) → ending rules r ≡ Complete → good rules r ≡ lines r
-good-complete rules r e = good-all rules [] (lines r) (complete-none rules (lines r) e)
+good-complete rules r e = good-all _ _ _ (complete-none _ _ e)
 
 -- the end is the first refusal that is one
 pub ending-refused : (rules : Rules) (ls : List Line) (e : End) → refusal_in rules ls ≡ Some e → ending_of rules ls ≡ e
-ending-refused rules [] e h = absurd (cc h)
-ending-refused rules (l ∷ ls) e h = rw h refl
+ending-refused rules [] e h = cc
+ending-refused rules (l ∷ ls) e h = rw h
 
 -- of a text that is refused, the refused line comes after the good ones
 pub good-refused : (rules : Rules) (r : List ℕ) (number place : ℕ) (reason : Reason)
@@ -37,7 +37,7 @@ good-refused rules r number place reason e = go (lines r) e
 
 pub drop-next : (ls : List Line) (n : ℕ) (l : Line) → slice_get ls n ≡ Some l → (rest : List Line)
     × (drop n ls ≡ l ∷ rest)
-drop-next [] n l h = absurd (cc h)
+drop-next [] n l h = cc
 drop-next (x ∷ ls) zero l h = (ls, grind arith)
 drop-next (x ∷ ls) (suc n) l h = drop-next ls n l h
 

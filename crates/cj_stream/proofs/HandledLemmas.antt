@@ -19,29 +19,29 @@ pub data Came {S : Type 0} (law : SinkContract S) (f g : Reading) (s t : S) (xs 
 module _ {S : Type 0} (law : SinkContract S) (f g : Reading) (s t : S) (p : List ℕ) (reads : Reads f p) (l : Line) where
   -- reading goes on after it, or not
   lenient : (on : Bool) → is_lenient f ≡ on → goes_on f.rules (length (map ended_line (closed p)) + 1) ≡ on
-  lenient on is = let count = length-map_lines (closed p) ∙ sym reads.lines in rw count is
+  lenient on is = rw (length-map_lines (closed p) ∙ sym reads.lines) is
 
   came-refused : (place : ℕ) (reason : Reason) (on : Bool) (r : Result (Unit {0}) End)
       → verdict f.rules (map ended_line (closed p)) l.content ≡ Invalid place reason → is_lenient f ≡ on
       → Refuses on (Refused (f.lines + 1) place reason) f r g → t ≡ s
       → Came law f g s t (map ended_line (closed p)) l r
   came-refused place reason true r e is d still =
-      rw d.0 (ended false true d.1 (rw (e, lenient true is) refl) (rw e refl) (rw e refl) (rw e still))
+      rw d.0 (ended false true d.1 (rw (e, lenient true is)) (rw e refl) (rw e refl) (rw e still))
   came-refused place reason false r e is d still = rw d.0 (refused place reason e is d.1 still)
 
   came-handled : (v : Verdict) (r : Result (Unit {0}) End)
       → verdict f.rules (map ended_line (closed p)) l.content ≡ v
       → HandlesLine law (JudgedAs (f.lines + 1) (is_lenient f) v (next_item f l)) (with_sink f s) r (with_sink g t)
       → Came law f g s t (map ended_line (closed p)) l r
-  came-handled (Invalid place reason) r e d = came-refused place reason (is_lenient f) r e refl d.0 d.1
-  came-handled Blank r e d = rw d.0 (ended false false d.1 (rw e refl) (rw e refl) (rw e refl) (rw e d.2))
-  came-handled LeftOut r e d = rw d.0 (ended false false d.1 (rw e refl) (rw e refl) (rw e refl) (rw e d.2))
+  came-handled (Invalid place reason) r e d = came-refused _ _ _ r e refl d.0 d.1
+  came-handled Blank r e d = rw d.0 (ended false false d.1 (rw e) (rw e) (rw e) (rw e d.2))
+  came-handled LeftOut r e d = rw d.0 (ended false false d.1 (rw e) (rw e) (rw e) (rw e d.2))
   came-handled Kept (Ok x) e d =
-      ended true false d.0 (rw e refl) (rw e refl) (rw e refl) (rw e (t, rw (← next-item f p reads l) d.1, refl))
+      ended true false d.0 (rw e) (rw e) (rw e) (rw e (t, rw (← next-item f p reads l) d.1, refl))
   came-handled Kept (Err x) e d = rw d.0 (failed e d.1 (rw (← next-item f p reads l) d.2))
 
   pub came : (r : Result (Unit {0}) End)
       → Handles law (judged_next f (is_lenient f) (next_verdict f l.content) l) (with_sink f s) r (with_sink g t)
       → Came law f g s t (map ended_line (closed p)) l r
-  came r (inl d) = came-handled (next_verdict f l.content) r (sym (next-verdict f p reads l.content)) d
-  came r (inr m) = rw m.0 (lacked (sym (next-verdict f p reads l.content) ∙ m.4) m.3 m.5 m.1 m.2)
+  came r (inl d) = came-handled _ r (sym (next-verdict f p reads _)) d
+  came r (inr m) = rw m.0 (lacked (sym (next-verdict f p reads _) ∙ m.4) m.3 m.5 m.1 m.2)

@@ -1,10 +1,10 @@
 -- What the headline says, by what a run says, and by what pieces say.
-use Rattle.cj_stream.proofs.Common.{Account, Appends, BeginsWell, Channel, Complete, Copies, End, Ends, Fate, HasPeaks, HasRisen, Headline, IsBounded, IsExact, IsUnhindered, IsUnread, Keeps, Kept, LacksMemory, Line, List, Memory, None, NotesPieces, NotesRun, Option, Outputs, Peaks, ReadFault, ReadLimit, Reason, Refused, RefusedMemory, Report, Rules, Run, SinkContract, Some, Took, WriteFault, [], ap, append-nil, arith, begun, closed, ended_line, ending, in_pieces, inl, inr, joined, judged, judged_lines, judged_list, last_line, lines, map, output, outputs, refl, refusal_in, reported, slice_get, stream_of, subst, sym, tree_of, verdict, ℕ, ◌++◌, ◌∙◌, ◌∷◌, ◌≡◌, ◌⊎◌}
+use Rattle.cj_stream.proofs.Common.{Account, Appends, BeginsWell, Channel, Complete, Copies, End, Ends, Fate, HasRisen, Headline, IsBounded, IsExact, IsUnhindered, IsUnread, Keeps, Kept, LacksMemory, Line, List, Memory, NotesPieces, NotesRun, Option, Outputs, Peaks, ReadFault, ReadLimit, Refused, RefusedMemory, Report, Rules, Run, SinkContract, Some, Took, WriteFault, [], ap, append-nil, arith, begun, closed, ended_line, ending, in_pieces, inl, inr, joined, judged, judged_lines, judged_list, last_line, lines, map, output, outputs, refl, refusal_in, reported, slice_get, stream_of, subst, sym, verdict, ℕ, ◌++◌, ◌∙◌, ◌∷◌, ◌≡◌, ◌⊎◌, nat_tests}
 use Rattle.cj_stream.specs.Run.{fate_of, HeadlineOfRun, LacksRoom, Runs, Writes}
 use Rattle.cj_stream.specs.Meaning.Judged.{output_in, reported_in, ending_in}
 use Rattle.cj_stream.proofs.AgreeLemmas.{ending-in, output-in, reported-in}
 use Rattle.cj_stream.proofs.CutLemmas.{refused-more}
-use Rattle.cj_stream.proofs.JudgedLemmas.{list-are, list-only, no_tree}
+use Rattle.cj_stream.proofs.JudgedLemmas.{list-are, list-only}
 use Rattle.cj_stream.proofs.JudgedPeaks.{HasPeaks-exact, IsExact-peaks}
 use Rattle.cj_stream.proofs.LineLemmas.{closed-then, lines-cut}
 use Rattle.cj_stream.proofs.NoteLemmas.{noted-none}
@@ -28,56 +28,33 @@ module _ (rules : Rules) (pieces : List (List ℕ)) (n : ℕ) (old new : Option 
   Copies-ends Memory h u = absurd u
   Copies-ends other h u = sym h.0
 
-refusal-not_complete : (number place : ℕ) (reason : Reason) → Refused number place reason ≡ Complete → ⊥
-refusal-not_complete number place reason h = cc
-
-fault-not_complete : WriteFault ≡ Complete → ⊥
-fault-not_complete h = cc
-
-memory-not_complete : Memory ≡ Complete → ⊥
-memory-not_complete h = cc
-
-complete-not_memory : Complete ≡ Memory → ⊥
-complete-not_memory h = cc
-
-refusal-not_memory : (number place : ℕ) (reason : Reason) → Refused number place reason ≡ Memory → ⊥
-refusal-not_memory number place reason h = cc
-
-fault-not_memory : WriteFault ≡ Memory → ⊥
-fault-not_memory h = cc
-
 -- ---- the first line, where memory was refused
 
 -- a first line that LF ended is that of all that begins so
 first-stays : (r more c : List ℕ) → slice_get (lines r) 0 ≡ Some (ended_line c)
     → slice_get (lines (r ++ more)) 0 ≡ Some (ended_line c)
 first-stays r more c h =
-    let first = rw (lines-cut r) at h in
-    rw (lines-cut (r ++ more), closed-then r more)
-    (go (closed r) (begun r) (closed (begun r ++ more)) (begun (r ++ more)) first)
+    rw (lines-cut, closed-then)
+    (go (closed r) (begun r) (closed (begun r ++ more)) (begun (r ++ more)) (rw (lines-cut r) at h))
   where
     go : (cs : List (List ℕ)) (b : List ℕ) (ds : List (List ℕ)) (d : List ℕ)
         → slice_get (map ended_line cs ++ last_line b) 0 ≡ Some (ended_line c)
         → slice_get (map ended_line (cs ++ ds) ++ last_line d) 0 ≡ Some (ended_line c)
-    go [] [] ds d h = absurd (cc h)
+    go [] [] ds d h = cc
     go [] (b ∷ s) ds d h = grind arith
     go (x ∷ cs) b ds d h = h
 
 begins-list : (rules : Rules) (ls : List Line) (c : List ℕ) → slice_get ls 0 ≡ Some (ended_line c)
     → verdict rules [] c ≡ Kept → BeginsWell (judged_list rules ls)
-begins-list rules [] c h v = absurd (cc h)
+begins-list rules [] c h v = cc
 begins-list rules (l ∷ ls) c h v =
     let same : l ≡ ended_line c = grind arith in
-    rw same (verdict-first rules no_tree (tree_of rules.limits.depth []) c ∙ v, refl)
+    rw same (verdict-first _ _ _ c ∙ v, refl)
 
 pub begins-well : (rules : Rules) (r more : List ℕ) (n : ℕ) → LacksMemory rules r n
     → BeginsWell (judged_lines rules (r ++ more))
 begins-well rules r more n lacks =
-    begins-list rules (lines (r ++ more)) lacks.header (first-stays r more lacks.header lacks.first) lacks.valid
-
-pub Keeps-same : (a : Option (List ℕ)) → Keeps a a
-Keeps-same None = tt
-Keeps-same (Some xs) = refl
+    begins-list _ _ _ (first-stays r _ _ lacks.first) lacks.valid
 
 -- ---- the headline, by what is told of a stream
 
@@ -93,14 +70,14 @@ module _ {N : Type 0} (notes : N → Report → N → Type 0) (rules : Rules) (t
       → Headline notes (fate_of rules text given e peaks) old new
   Headline-said writes gives ends cause memory held exact = record {
     js = judged_lines rules text;
-    judged = list-are rules (lines text);
-    writes = λ u. subst (λ bs. Appends old.bytes new.bytes bs) (output-in rules text) (writes u);
-    gives = λ u. subst (λ rs. Took notes old.reports rs new.reports) (reported-in rules text) (gives u);
+    judged = list-are _ _;
+    writes = λ u. rw (output-in rules text) at (writes u);
+    gives = λ u. rw (reported-in rules text) at (gives u);
     ends = λ u. ends u ∙ ending-in rules text;
     cause = cause;
     memory = memory;
     held = held;
-    exact = λ c. HasPeaks-exact rules text peaks (sym (ends (subst IsUnhindered (sym c) tt)) ∙ c) (exact c);
+    exact = λ c. HasPeaks-exact _ _ _ (sym (ends (rw c tt)) ∙ c) (exact c);
   }
 
 module _ {N : Type 0} (notes : N → Report → N → Type 0) (a b : N) (rules : Rules) (r : List ℕ) (at_end : Type 0) (n : ℕ)
@@ -112,7 +89,7 @@ module _ {N : Type 0} (notes : N → Report → N → Type 0) (a b : N) (rules :
       → (e ≡ Complete → IsExact rules.limits (r ++ rest) peaks)
       → Headline notes (fate_of rules (r ++ rest) r e peaks) (outputs old a) (outputs new b)
   said e old new rest ends writes gives cause granted exact =
-      Headline-said notes rules (r ++ rest) r e peaks (outputs old a) (outputs new b) (λ u. writes) (λ u. gives)
+      Headline-said _ _ _ r e _ _ _ (λ u. writes) (λ u. gives)
       (λ u. ends) cause (λ m. absurd (granted m)) bounded exact
 
   -- what a run over a writer says is the headline, by its end
@@ -125,7 +102,7 @@ module _ {N : Type 0} (notes : N → Report → N → Type 0) (a b : N) (rules :
   ended Complete old new ends exact w noted c rest lacks all u =
       let none = all ends.2 in
       let nothing : r ++ rest ≡ r = rw none (append-nil r) in
-      said Complete old new rest (rw nothing (sym ends.0)) (rw nothing w) (rw nothing noted) c complete-not_memory
+      said Complete old new rest (rw nothing (sym ends.0)) (rw nothing w) (rw nothing noted) c (λ h. cc)
       (λ h. rw nothing (exact h))
   ended (Refused number place reason) old new ends exact w noted c rest lacks all u = go ends.2
     where
@@ -136,41 +113,38 @@ module _ {N : Type 0} (notes : N → Report → N → Type 0) (a b : N) (rules :
           let none = all end in
           let nothing : r ++ rest ≡ r = rw none (append-nil r) in
           said (Refused number place reason) old new rest (rw nothing (sym ends.0)) (rw nothing w) (rw nothing noted) c
-          (refusal-not_memory number place reason)
-          (λ h. absurd (refusal-not_complete number place reason h))
+          (λ h. cc)
+          (λ h. cc)
       go (inr refused) =
           let more = refused-more rules r rest (Refused number place reason) refused in
           said (Refused number place reason) old new rest (sym more.0) (rw more.1 w) (rw more.1 noted) c
-          (refusal-not_memory number place reason)
-          (λ h. absurd (refusal-not_complete number place reason h))
+          (λ h. cc)
+          (λ h. cc)
   ended WriteFault old new ends exact w noted c rest lacks all u =
       Headline-said notes rules (r ++ rest) r WriteFault peaks (outputs old a) (outputs new b) (λ h. absurd h)
-      (λ h. absurd h) (λ h. absurd h) c (λ m. absurd (fault-not_memory m)) bounded
-      (λ h. absurd (fault-not_complete h))
+      (λ h. absurd h) (λ h. absurd h) c (λ m. cc) bounded
+      (λ h. cc)
   ended Memory old new ends exact w noted c rest lacks all u =
       Headline-said notes rules (r ++ rest) r Memory peaks (outputs old a) (outputs new b) (λ h. absurd h)
-      (λ h. absurd h) (λ h. absurd h) c lacks bounded (λ h. absurd (memory-not_complete h))
+      (λ h. absurd h) (λ h. absurd h) c lacks bounded (λ h. cc)
   ended other old new ends exact w noted c rest lacks all u = absurd u
 
 -- an end is that of refused memory, or not
 is_memory : (e : End) → (e ≡ Memory) ⊎ (e ≡ Memory → ⊥)
-is_memory Complete = inr complete-not_memory
-is_memory (Refused number place reason) = inr (refusal-not_memory number place reason)
-is_memory WriteFault = inr fault-not_memory
 is_memory Memory = inl refl
 is_memory other = inr (λ e. cc)
 
 -- where memory was refused, no line was handled, and the sink is as before
 pub unhandled : (run : Run) (at_end : Type 0) → Account run at_end → LacksRoom run (Unit {0}) → run.outcome.lines ≡ 0
 unhandled run at_end account (inl start) =
-    let few = rw start.1 at account.counts.few in omega (arith, few)
+    omega (arith, rw start.1 at account.counts.few)
 unhandled run at_end account (inr memory) = memory.none
 
 pub unput : {S : Type 0} (law : SinkContract S) (run : Run) (at_end : Type 0) (s t : S) → Runs law run at_end s t
     → run.outcome.ended ≡ Memory → LacksRoom run (Unit {0}) → t ≡ s
 unput law run at_end s t runs is lacks =
-    memory-sink law run.rules run.read run.outcome.lines s t run.outcome.ended is
-    (unhandled run at_end runs.account lacks) runs.sink
+    memory-sink _ _ _ _ s t _ is
+    (unhandled _ _ runs.account lacks) runs.sink
 
 -- what a run over a writer says is the headline
 pub Headline-run : {N : Type 0} (notes : N → Report → N → Type 0) (run : Run) (at_end : Type 0)
@@ -219,35 +193,28 @@ Headline-run notes run at_end old new a b account writes noted cause lacks kept 
 module _ {N : Type 0} (notes : N → Report → N → Type 0) (fate : Fate End) (old new : Outputs N)
     (h : Headline notes fate old new) where
   one-list : h.js ≡ judged_lines fate.rules fate.text
-  one-list = list-only fate.rules (lines fate.text) h.js h.judged
+  one-list = list-only _ _ _ h.judged
 
   pub headline-writes : IsUnhindered fate.end
       → Appends old.bytes new.bytes (output fate.rules fate.text)
-  headline-writes u = subst (λ bs. Appends old.bytes new.bytes bs)
-      (ap (output_in fate.rules) one-list ∙ sym (output-in fate.rules fate.text)) (h.writes u)
+  headline-writes u = rw (ap (output_in fate.rules) one-list ∙ sym (output-in fate.rules fate.text)) at (h.writes u)
 
   pub headline-gives : IsUnhindered fate.end → Took notes old.reports (reported fate.rules fate.text) new.reports
-  headline-gives u = subst (λ rs. Took notes old.reports rs new.reports)
-      (ap (reported_in fate.rules) one-list ∙ sym (reported-in fate.rules fate.text)) (h.gives u)
+  headline-gives u = rw (ap (reported_in fate.rules) one-list ∙ sym (reported-in fate.rules fate.text)) at (h.gives u)
 
   pub headline-ends : IsUnhindered fate.end → fate.end ≡ ending fate.rules fate.text
-  headline-ends u = h.ends u ∙ (ap (ending_in fate.rules) one-list ∙ sym (ending-in fate.rules fate.text))
+  headline-ends u = h.ends u ∙ ap (ending_in fate.rules) one-list ∙ sym (ending-in fate.rules fate.text)
 
   pub headline-exact : fate.end ≡ Complete → IsExact fate.rules.limits fate.text fate.peaks
   headline-exact e =
-      let complete = sym (headline-ends (subst IsUnhindered (sym e) tt)) ∙ e in
-      IsExact-peaks fate.rules fate.text fate.peaks complete
-      (subst (λ js. HasPeaks fate.rules.limits js fate.peaks) one-list (h.exact e))
+      IsExact-peaks _ _ _ (sym (headline-ends (subst IsUnhindered (sym e) tt)) ∙ e)
+      (rw one-list at (h.exact e))
 
   pub headline-memory : fate.end ≡ Memory → RefusedMemory (judged_lines fate.rules fate.text) old new
-  headline-memory e = subst (λ js. RefusedMemory js old new) one-list (h.memory e)
+  headline-memory e = rw one-list at (h.memory e)
 
 -- what was noted of pieces, where nothing hindered it
 pub NotesPieces-gives : {N : Type 0} (notes : N → Report → N → Type 0) (rules : Rules) (pieces : List (List ℕ)) (n : ℕ)
     (a b : N) (e : End) → NotesPieces notes (in_pieces rules pieces n) e a b → IsUnhindered e
     → Took notes a (reported rules (joined pieces)) b
-NotesPieces-gives notes rules pieces n a b ReadFault h u = absurd h
-NotesPieces-gives notes rules pieces n a b ReadLimit h u = absurd h
-NotesPieces-gives notes rules pieces n a b WriteFault h u = absurd u
-NotesPieces-gives notes rules pieces n a b Memory h u = absurd u
-NotesPieces-gives notes rules pieces n a b other h u = h
+NotesPieces-gives notes rules pieces n a b x h u = grind (arith, nat_tests)

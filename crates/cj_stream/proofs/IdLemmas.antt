@@ -18,8 +18,8 @@ use Rattle.cj_stream.specs.Ids.{may_cut, IsSlice, HasAllOf}
 -- keys have one order
 pub keys_total : IsTotalOrder compare_keys
 keys_total =
-    then_total (on_total (λ (k : Key). k.number) nat_cmp_total)
-    (on_total (λ (k : Key). k.text) (options_total nat_list_cmp_total))
+    then_total (on_total (λ k. k.number) nat_cmp_total)
+    (on_total (λ k. k.text) (options_total nat_list_cmp_total))
 
 -- ---- what is the same key
 
@@ -44,12 +44,11 @@ same_texts s t h = (bytes_decides s t).0 (texts_ties s t ∙ ap is_eq h)
 
 pub same_key : (s : List ℕ) (o : Option (List ℕ)) → is_eq (compare_keys (key_of (Some s)) (key_of o))
     ≡ are_same_texts o (Some s)
-same_key s None = then_equal (nat_cmp (tail_of (Some s)) (tail_of None)) Greater (λ h. cc)
+same_key s None = then_equal (nat_cmp (tail_of (Some s)) (tail_of None)) _ (λ h. cc)
 same_key s (Some t) =
-    let equal : compare s t ≡ Equal → nat_cmp (tail_of (Some s)) (tail_of (Some t)) ≡ Equal =
-    λ h. subst (λ u. nat_cmp (tail_of (Some s)) (tail_of (Some u)) ≡ Equal) (same_texts s t h)
-    (tied_itself nat_cmp_total (tail_of (Some s))) in
-    then_equal (nat_cmp (tail_of (Some s)) (tail_of (Some t))) (compare s t) equal
+    then_equal (nat_cmp (tail_of (Some s)) (tail_of (Some t))) (compare s t)
+    (λ h. subst (λ u. nat_cmp (tail_of (Some s)) (tail_of (Some u)) ≡ Equal) (same_texts s t h)
+    (tied_itself nat_cmp_total (tail_of (Some s))))
     ∙ sym (reversed (compare s t))
     ∙ ap is_eq (sym (nat_list_cmp_total.antisymm t s))
     ∙ sym (texts_ties t s)
@@ -70,7 +69,7 @@ same_beside n s None = ap (λ r. is_eq (ordering_then r Greater)) (sym (tied_its
 same_beside n s (Some t) =
     texts_ties t s
     ∙ ap is_eq (nat_list_cmp_total.antisymm t s)
-    ∙ reversed (compare s t)
+    ∙ reversed _
     ∙ ap (λ r. is_eq (ordering_then r (compare s t))) (sym (tied_itself nat_cmp_total n))
 
 -- a text beside a key is compared by the turned answer, where the numbers are equal
@@ -78,8 +77,8 @@ pub compare_turned : (n m : ℕ) (s : List ℕ) (o : Option (List ℕ)) → nat_
     → ordering_reverse (compare_texts o (Some s)) ≡ compare_keys (record { number = n; text = Some s })
     (record { number = m; text = o })
 compare_turned n m s o e =
-    let total = options_total nat_list_cmp_total in
-    sym (ap (λ r. ordering_then r (compare_texts (Some s) o)) e ∙ total.antisymm (Some s) o)
+    sym (ap (λ r. ordering_then r (compare_texts (Some s) o)) e ∙ (options_total nat_list_cmp_total).antisymm (Some s)
+    o)
 
 -- ---- what is in order
 
@@ -96,9 +95,8 @@ module _ {X : Type 0} (f : X → Key) where
   -- and the other way round
   pub ascend_by_keys : (xs : List X) → Ascend (map f xs) → IsSortedBy (λ a b. is_lt (compare_keys (f a) (f b))) xs
   ascend_by_keys xs up k d low h =
-      let here : k < length xs = omega arith in
       let whole : k + 1 < length (map f xs) = omega (arith, h, length-map xs f) in
-      rw (get_or-map f xs (k + 1) d (f d) h, get_or-map f xs k d (f d) here) at (up k (f d) low whole)
+      rw (get_or-map f xs (k + 1) d (f d) h, get_or-map f xs k d (f d) (omega arith)) at (up k (f d) low whole)
 
   list_any_map : (p : Key → Bool) (xs : List X) → list_any p (map f xs) ≡ list_any (λ x. p (f x)) xs
   list_any_map p [] = refl
@@ -113,15 +111,13 @@ module _ {X : Type 0} (f : X → Key) where
       sym (list_any_map (λ key. is_eq (compare_keys key q)) (x ∷ xs)
       ∙ list_any_at (λ y. is_eq (compare_keys (f y) q)) (x ∷ xs) i x within (ap is_eq (is x)))
   found q xs (Err i) up within is =
-      let parts = is (searchable_from_sorted keys_total f xs q (ascend_by_keys xs up)) in
-      let none : All (λ y. is_eq (compare_keys (f y) q) ≡ false) xs =
-      λ k d h. elim (cases_lt k i) [
+      let parts = is (searchable_from_sorted keys_total f xs q (ascend_by_keys _ up)) in
+      sym (list_any_map (λ key. is_eq (compare_keys key q)) xs
+      ∙ list_any_none (λ y. is_eq (compare_keys (f y) q)) _ (λ k d h. elim (cases_lt k i) [
         | inl below ↦ ap is_eq (parts.0 k d (omega arith) below)
         | inr above ↦
             ap is_eq (parts.1 k d above h)
-      ] in
-      sym (list_any_map (λ key. is_eq (compare_keys key q)) xs
-      ∙ list_any_none (λ y. is_eq (compare_keys (f y) q)) xs none)
+      ]))
 
 -- ---- runs
 
@@ -129,8 +125,7 @@ module _ {X : Type 0} (f : X → Key) where
 runs_sum : (keys : List Key) (ns : List ℕ) → AreRuns keys ns → sum ns ≡ length keys
 runs_sum keys [] runs = ap length (sym runs)
 runs_sum keys (n ∷ ns) runs =
-    let rest = runs_sum (drop n keys) ns runs.2 in
-    sum_by-cons (λ x. x) n ns ∙ omega (arith, rest, runs.0, length-drop n keys)
+    sum_by-cons _ n ns ∙ omega (arith, runs_sum (drop n keys) ns runs.2, runs.0, length-drop n keys)
 
 -- the first runs
 runs_front : (keys : List Key) (ns : List ℕ) (j : ℕ) → AreRuns keys ns
@@ -170,18 +165,18 @@ seam_kept xs ys i utf8 seam = elim (cases_lt i (length xs)) [
   | inl below ↦ (
     omega (arith, below, length-append xs ys),
     λ l a. let same = get_or_append_left xs ys 0 i below in
-        omega (arith, seam.1 below (omega (arith, a, same)), same),
+        omega (arith, seam.1 below (omega arith), same),
   )
   | inr above ↦ subst (IsCharBoundary (xs ++ ys)) (omega (arith, above, seam.0))
       (IsCharBoundary-at_seam (xs ++ ys) xs ys refl utf8)
 ]
 
 cuts : (bytes : List ℕ) (i : ℕ) → IsCharBoundary bytes i → may_cut bytes i ≡ true
-cuts bytes i seam = grind (arith, nat_tests, seam)
+cuts bytes i seam = grind (arith, nat_tests)
 
 piece_is : (bytes : List ℕ) (start end : ℕ) → start ≤ end → IsCharBoundary bytes start → IsCharBoundary bytes end
     → piece bytes start end ≡ slice_range bytes start end
-piece_is bytes start end up first last = grind (arith, nat_tests, up, cuts bytes start first, cuts bytes end last)
+piece_is bytes start end up first last = grind (arith, nat_tests, cuts, cuts)
 
 -- the ids and one more
 pub pieces_more : (bytes id : List ℕ) (ns : List ℕ) → sum ns ≡ length bytes
@@ -202,22 +197,17 @@ module _ (bytes id : List ℕ) (utf8 : IsUtf8 id) where
       → keys_at (bytes ++ id) entries ≡ keys_at bytes entries
   same_keys [] within = refl
   same_keys (e ∷ entries) within =
-      let here : IsSlice bytes e = within 0 e (omega arith) in
-      let rest = same_keys entries (λ k d h. within (suc k) d (omega arith)) in
-      let same : key_at (bytes ++ id) e ≡ key_at bytes e =
-      ap (λ s. record { number = e.number; text = Some (chars s) }) (kept e here) in
-      ap (λ k. k ∷ keys_at (bytes ++ id) entries) same ∙ ap (λ ks. key_at bytes e ∷ ks) rest
+      let here = within 0 e (omega arith) in
+      ap (λ k. k ∷ keys_at (bytes ++ id) entries) (ap (λ s. record { number = e.number; text = Some (chars s) })
+      (kept e here)) ∙ ap (λ ks. key_at bytes e ∷ ks) (same_keys entries (λ k d h. within (suc k) d (omega arith)))
     where
       kept : (e : Entry) → IsSlice bytes e → piece (bytes ++ id) e.start e.end ≡ piece bytes e.start e.end
       kept e cut =
-          let low : e.start ≤ length bytes = cut.1.0 in
-          let short : e.end - e.start ≤ length (drop e.start bytes) =
-          omega (arith, cut.2.0, length-drop e.start bytes) in
-          piece_is (bytes ++ id) e.start e.end cut.0 (seam_kept bytes id e.start utf8 cut.1)
-          (seam_kept bytes id e.end utf8 cut.2)
-          ∙ ap (take (e.end - e.start)) (drop-append-le e.start bytes id low)
-          ∙ take-append-le (e.end - e.start) (drop e.start bytes) id short
-          ∙ sym (piece_is bytes e.start e.end cut.0 cut.1 cut.2)
+          piece_is _ _ _ cut.0 (seam_kept _ _ _ utf8 cut.1)
+          (seam_kept _ _ _ utf8 cut.2)
+          ∙ ap (take (e.end - e.start)) (drop-append-le _ _ _ cut.1.0)
+          ∙ take-append-le _ _ _ (omega (arith, cut.2.0, length-drop e.start bytes))
+          ∙ sym (piece_is _ _ _ cut.0 cut.1 cut.2)
 
   -- the new id's entry is cut out of it
   new_cut : (e : Entry) → e.start ≡ length bytes → e.end ≡ length (bytes ++ id) → IsSlice (bytes ++ id) e
@@ -232,14 +222,11 @@ module _ (bytes id : List ℕ) (utf8 : IsUtf8 id) where
       → key_at (bytes ++ id) e ≡ key_of (Some (chars id))
   new_key e n start end =
       let cut = new_cut e start end in
-      let said : piece (bytes ++ id) e.start e.end ≡ id =
-      piece_is (bytes ++ id) e.start e.end cut.0 cut.1 cut.2
+      ap (λ m. record { number = m; text = Some (chars (piece (bytes ++ id) e.start e.end)) }) n
+      ∙ ap (λ s. record { number = tail_of (Some (chars id)); text = Some (chars s) })
+      (piece_is (bytes ++ id) e.start e.end cut.0 cut.1 cut.2
       ∙ ap (take (e.end - e.start)) (drop_at bytes id e.start (sym start))
-      ∙ take_all (e.end - e.start) id (omega (arith, start, end, length-append bytes id)) in
-      let numbered : key_at (bytes ++ id) e
-      ≡ record { number = tail_of (Some (chars id)); text = Some (chars (piece (bytes ++ id) e.start e.end)) } =
-      ap (λ m. record { number = m; text = Some (chars (piece (bytes ++ id) e.start e.end)) }) n in
-      numbered ∙ ap (λ s. record { number = tail_of (Some (chars id)); text = Some (chars s) }) said
+      ∙ take_all (e.end - e.start) id (omega (arith, start, end, length-append bytes id)))
 
   -- the entries of one id more, sorted from a place on that joins the runs that were taken off
   pub indexed_more : (lengths : List ℕ) (entries sorted : List Entry) (runs left : List ℕ) (e : Entry) (count start : ℕ)
@@ -329,47 +316,46 @@ indexed_whole bytes lengths entries sorted runs count old moved up all =
 -- the first run of some is in order
 pub first_run : (keys : List Key) (runs left : List ℕ) (n : ℕ) → runs ≡ n ∷ left → AreRuns keys runs
     → Ascend (take n keys)
-first_run keys runs left n e ordered = (subst (AreRuns keys) e ordered).1
+first_run keys runs left n e ordered = (rw e at ordered).1
 
 -- there are as many keys in runs as ids
 pub runs_held : (bytes lengths : List ℕ) (entries : List Entry) (runs : List ℕ) → AreIndexed bytes lengths entries runs
     → sum runs ≡ length entries
-runs_held bytes lengths entries runs old = runs_sum (keys_at bytes entries) runs old.ordered
-    ∙ length-map entries (key_at bytes)
+runs_held bytes lengths entries runs old = runs_sum _ _ old.ordered
+    ∙ length-map _ _
 
 -- what stands behind a place once it was written anew
 pub drop_put : {X : Type 0} (start : ℕ) (xs ys : List X) → start ≤ length xs
     → drop start (put_mid start (length xs - start) xs ys) ≡ ys
 drop_put start xs ys h =
     let rest = drop (length xs - start) (drop start xs) in
-    let here : drop start (take start xs ++ (ys ++ rest)) ≡ ys ++ rest =
-    drop_at (take start xs) (ys ++ rest) start (length-take-le start xs h) in
-    here ∙ ap (λ zs. ys ++ zs) (drop_all (length xs - start) (drop start xs) (omega (arith, length-drop start xs)))
+    drop_at (take start xs) (ys ++ rest) start (length-take-le start xs h)
+    ∙ ap (λ zs. ys ++ zs) (drop_all _ (drop start xs) (omega (arith, length-drop start xs)))
     ∙ append-nil ys
 
 -- ---- a part of what is in order
 
 -- a key that is not less has no lesser number
 not_less : (a b : Key) → is_lt (compare_keys a b) ≡ false → b.number ≤ a.number
-not_less a b h = grind (arith, nat_tests, h)
+not_less a b h = grind (arith, nat_tests)
 
 -- the numbers of what is in order do not fall
 pub numbers_rise : {X : Type 0} (f : X → Key) (xs : List X) → Ascend (map f xs)
     → IsNonDecreasingBy (λ x. (f x).number) xs
-numbers_rise f xs up = IsNonDecreasingBy-from_all_adjacent (λ x. (f x).number) xs
-    (λ k d h. not_less (f (get_or xs (k + 1) d)) (f (get_or xs k d)) (ascend_by_keys f xs up k d (omega arith) h))
+numbers_rise f xs up = IsNonDecreasingBy-from_all_adjacent (λ x. (f x).number) _
+    (λ k d h. not_less (f (get_or xs (k + 1) d)) (f (get_or xs k d)) (ascend_by_keys f _ up k d (omega arith) h))
 
 -- equal keys have one number
 same_number : (a b : Key) → is_eq (compare_keys a b) ≡ true → a.number ≡ b.number
-same_number a b h = grind (arith, nat_tests, h)
+same_number a b h = grind (arith, nat_tests)
 
 -- where a test fails at all elements of other numbers, and there are no others
 none_there : (test : Entry → Bool) (xs : List Entry) (number : ℕ) → ((e : Entry) → test e ≡ true → e.number ≡ number)
     → ((k : ℕ) (d : Entry) → k < length xs → (get_or xs k d).number ≡ number → ⊥) → list_any test xs ≡ false
-none_there test xs number only other = list_any_none test xs (λ k d h. failed (get_or xs k d) (other k d h))
+none_there test xs number only other = list_any_none _ _ (λ k d h. failed (get_or xs k d) (other k d h))
   where
     failed : (e : Entry) → (e.number ≡ number → ⊥) → test e ≡ false
-    failed e not = grind (arith, only e, not)
+    failed e not = grind (arith, only e)
 
 no_more : (b : Bool) → (b || false) ≡ b
 no_more false = refl
@@ -381,28 +367,25 @@ pub part_has : (number : ℕ) (x : Entry) (xs : List Entry) (start stop : ℕ)
     → (0 < start → (get_or xs start x).number < number) → (stop < length xs → number < (get_or xs (stop - 1) x).number)
     → HasAllOf number (take (stop - start) (drop start xs)) xs
 part_has number x xs start stop up ordered within before after test only =
-    let rest : List Entry = drop start xs in
-    let part : List Entry = take (stop - start) rest in
-    let past : List Entry = drop (stop - start) rest in
-    let front : list_any test (take start xs) ≡ false = none_there test (take start xs) number only
+    let rest = drop start xs in
+    let part = take (stop - start) rest in
+    let past = drop (stop - start) rest in
+    sym ((ap (list_any test) (sym (take-append-drop start xs)) ∙ list_any-append test (take start xs) rest)
+    ∙ ap (λ b. b || list_any test rest) (none_there test (take start xs) number only
     (λ k d h e.
     let low : k < start = omega (arith, h, length-take-le start xs (omega arith)) in
     let same = get_or-take start xs k d low ∙ get_or_default xs k d x (omega arith) in
     let rise = up k start x (omega arith) (omega arith) in
-    absurd (omega (arith, before (omega arith), rise, e, ap (λ (y : Entry). y.number) same))) in
-    let back : list_any test past ≡ false = none_there test past number only
+    absurd (omega (arith, before (omega arith), rise, e, ap (λ (y : Entry). y.number) same))))
+    ∙ (ap (list_any test) (sym (take-append-drop (stop - start) rest)) ∙ list_any-append test part past)
+    ∙ ap (λ b. list_any test part || b) (none_there test past number only
     (λ k d h e.
     let long : length past ≡ length xs - stop = omega (arith, length-drop (stop - start) rest, length-drop start xs) in
     let same = get_or-drop (stop - start) rest k d ∙ get_or-drop start xs ((stop - start) + k) d
     ∙ get_or_default xs (start + ((stop - start) + k)) d x (omega (arith, h, long)) in
     let rise = up (stop - 1) (start + ((stop - start) + k)) x (omega arith) (omega (arith, h, long)) in
-    absurd (omega (arith, after (omega (arith, h, long)), rise, e, ap (λ (y : Entry). y.number) same))) in
-    let whole : list_any test xs ≡ (list_any test (take start xs) || list_any test rest) =
-    ap (list_any test) (sym (take-append-drop start xs)) ∙ list_any-append test (take start xs) rest in
-    let halves : list_any test rest ≡ (list_any test part || list_any test past) =
-    ap (list_any test) (sym (take-append-drop (stop - start) rest)) ∙ list_any-append test part past in
-    sym (whole ∙ ap (λ b. b || list_any test rest) front ∙ halves ∙ ap (λ b. list_any test part || b) back
-    ∙ no_more (list_any test part))
+    absurd (omega (arith, after (omega (arith, h, long)), rise, e, ap (λ (y : Entry). y.number) same))))
+    ∙ no_more _)
 
 -- a key is among those of a part where it is among all
 pub part_keys : (bytes : List ℕ) (q : Key) (part whole : List Entry) → HasAllOf q.number part whole

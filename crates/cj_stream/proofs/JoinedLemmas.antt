@@ -6,10 +6,10 @@ joined-append [] ys = refl
 joined-append (x ∷ xs) ys = ap (λ z. x ++ z) (joined-append xs ys) ∙ sym (append_assoc x (joined xs) (joined ys))
 
 pub joined-cut : (n : ℕ) (ps : List (List ℕ)) → joined (take n ps) ++ joined (drop n ps) ≡ joined ps
-joined-cut n ps = sym (joined-append (take n ps) (drop n ps)) ∙ ap joined (take-append-drop n ps)
+joined-cut n ps = sym (joined-append (take n ps) (drop n ps)) ∙ ap joined (take-append-drop n _)
 
 pub joined-all : (n : ℕ) (ps : List (List ℕ)) → length ps ≤ n → joined (take n ps) ≡ joined ps
-joined-all n ps h = ap joined (take_all n ps h)
+joined-all n ps h = ap joined (take_all n _ h)
 
 -- pieces, and at most one more
 pub joined-next : (n : ℕ) (ps : List (List ℕ)) → (more : List ℕ)
@@ -28,9 +28,8 @@ pub joined-more : {A : Type 0} (now : A → List ℕ) (xs : List A) (i : ℕ) (d
 joined-more now [] i d h = absurd (omega arith)
 joined-more now (x ∷ xs) zero d h = append-nil (now x)
 joined-more now (x ∷ xs) (suc i) d h =
-    let later = joined-more now xs i d (omega arith) in
     let next : suc i + 1 ≡ suc (i + 1) = omega arith in
-    rw next (ap (λ z. now x ++ z) later
+    rw next (ap (λ z. now x ++ z) (joined-more now xs i d (omega arith))
     ∙ sym (append_assoc (now x) (joined (take i (map now xs))) (now (get_or xs i d))))
 
 pub joined-short : {A : Type 0} (now : A → List ℕ) (xs : List A) (i : ℕ) (d : A) → i < length xs

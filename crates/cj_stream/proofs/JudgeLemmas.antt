@@ -1,7 +1,6 @@
 -- What a scan's answer says of the judgement on a line.
-use Rattle.cj_stream.proofs.Common.{Err, Invalid, IsUtf8, IsValidUpTo, Json, Judgement, List, Ok, Result, Rules, Tree, ap, arith, broken, false, is_spelled, judged_nest, judged_size, judged_tree, length, nest, refl, size, spelled, sunk, take_all, text_verdict, tree_verdict, ℕ, ◌≡◌}
-use Rattle.cj_spans.specs.declared.fault.LineFault.{LineFault}
-use Rattle.cj_spans.specs.declared.fault.LineFault.TheVariants.{NotUtf8, Syntax, TooDeep}
+use Rattle.cj_stream.proofs.Common.{Err, Invalid, IsUtf8, IsValidUpTo, Json, Judgement, List, Ok, Rules, Tree, ap, arith, broken, false, is_spelled, judged_nest, judged_size, judged_tree, length, nest, refl, size, spelled, sunk, take_all, text_verdict, tree_verdict, ℕ, ◌≡◌}
+use Rattle.cj_spans.specs.declared.fault.LineFault.TheVariants.{Syntax, TooDeep}
 use Rattle.cj_spans.specs.declared.reason.Reason.TheVariants.{Syntax as SyntaxReason, TooDeep as TooDeepReason}
 use Rattle.cj_spans.specs.Answers.{IsReservedAnswerOf}
 
@@ -10,8 +9,7 @@ pub ok-tree : {b : List ℕ} {d : ℕ} (j : Judgement b d) (x : Unit {0}) (t : T
     → IsReservedAnswerOf j (Ok x)
     → (judged_tree j ≡ t) × (judged_size j ≡ size t) × (judged_nest j ≡ nest t)
 ok-tree (spelled u json shallow) x t only h = (only u json, ap size (only u json), ap nest (only u json))
-ok-tree (broken i s n) x t only e = cc
-ok-tree (sunk i s) x t only e = cc
+ok-tree other x t only e = cc
 
 -- and the verdict goes by that tree
 pub ok-verdict : {b : List ℕ} {d : ℕ} (rules : Rules) (n : ℕ) (header : Tree) (j : Judgement b d) (x : Unit {0})
@@ -38,13 +36,6 @@ module _ {b : List ℕ} {d : ℕ} (rules : Rules) (n : ℕ) (header : Tree) wher
 -- bytes that are UTF-8 up to a place are not UTF-8
 pub not_text : (b : List ℕ) (i : ℕ) → IsValidUpTo b i → IsUtf8 b → ⊥
 not_text b i h text = h.longest (length b) h.short (rw (take_all (length b) b (omega arith)) text)
-
--- a fault in the JSON is no fault in the bytes
-pub syntax-text : (r : Result (Unit {0}) LineFault) (k : ℕ) → r ≡ Err (Syntax k) → (i : ℕ) → r ≡ Err (NotUtf8 i) → ⊥
-syntax-text r k e i f = cc
-
-pub deep-text : (r : Result (Unit {0}) LineFault) (k : ℕ) → r ≡ Err (TooDeep k) → (i : ℕ) → r ≡ Err (NotUtf8 i) → ⊥
-deep-text r k e i f = cc
 
 -- a scan that finds such a fault has found no tree
 pub syntax-unspelled : {b : List ℕ} {d : ℕ} (j : Judgement b d) (i : ℕ) → IsReservedAnswerOf j (Err (Syntax i))

@@ -1,5 +1,5 @@
 -- Each line has exactly one verdict, and each stream one list of judged lines.
-use Rattle.cj_stream.proofs.Common.{Blank, Bool, Finding, Invalid, IsVerdict, Json, Judgement, Kept, Line, LineTooLong, List, None, NotUtf8, Option, Rules, Some, Syntax, TooDeep, Tree, Verdict, [], ap, arith, array, broken, by_least, cond, false, findings, is_blank, is_blank_line, is_kept_if_valid, is_utf8, judged_at, judged_behind, judged_later, judged_list, least, length, nat_tests, nest, no_items, not, read_tree, refl, spelled, spelled_tree, subst, sunk, sym, text_verdict, tree_verdict, true, utf8_valid_len, verdict_at, ℕ, ◌&&◌, ◌+◌, ◌<◌, ◌∙◌, ◌∷◌, ◌≡◌, ◌≤◌}
+use Rattle.cj_stream.proofs.Common.{Blank, Bool, Finding, Invalid, IsVerdict, Json, Judgement, Kept, Line, LineTooLong, List, None, NotUtf8, Option, Rules, Some, Syntax, TooDeep, Tree, Verdict, [], ap, arith, array, broken, by_least, cond, false, findings, is_blank, is_blank_line, is_kept_if_valid, is_utf8, judged_at, judged_behind, judged_later, judged_list, least, length, nat_tests, nest, no_items, not, read_tree, refl, spelled, spelled_tree, sunk, sym, text_verdict, tree_verdict, true, utf8_valid_len, verdict_at, ℕ, ◌&&◌, ◌<◌, ◌∙◌, ◌∷◌, ◌≡◌, ◌≤◌, ◌+◌}
 use Rattle.std.proofs.Common.{eqb, ltb, ltb-true}
 use Rattle.cj_spans.specs.Meaning.Prefix.{SyntaxAt, DeepAt, NowhereDeep}
 use Rattle.cj_spans.proofs.Judgements.{judgement, say_same}
@@ -20,7 +20,7 @@ pub later-fits : (rules : Rules) (n : ℕ) (x : Tree) → 1 < n → Fits rules n
 later-fits rules n x later =
     let is_later : ltb 1 n ≡ true = grind (arith, nat_tests) in
     let is_other : eqb n 1 ≡ false = grind (arith, nat_tests) in
-    record { faults = λ t. rw is_other refl; selected = λ t. rw is_other refl; blank = λ c. rw is_later refl }
+    record { faults = λ t. rw is_other; selected = λ t. rw is_other; blank = λ c. rw is_later }
 
 not-long : (n m : ℕ) → n ≤ m → ltb m n ≡ false
 not-long n m h = grind (arith, nat_tests)
@@ -50,9 +50,9 @@ module _ (rules : Rules) (n : ℕ) (x : Tree) (header : Option Tree) (fits : Fit
   text-is : IsRead rules header c → (j : Judgement c rules.limits.depth)
       → IsVerdict rules header c (spelled_tree j) (text_verdict rules n x j)
   text-is read (spelled t json shallow) =
-      subst (λ v. IsVerdict rules header c (Some t) v) (sym (tree-by t))
-      (by-least t (record { read = read; json = json; shallow = shallow }) (is_selected rules header t) refl
-      (least None (faults rules header t)) refl)
+      rw (tree-by t)
+      (by-least t (record { read = read; json = json; shallow = shallow }) _ refl
+      _ refl)
   text-is read (broken i s h) = no_json i read h s
   text-is read (sunk i s) = too_deep i read s
 
@@ -74,7 +74,7 @@ module _ (rules : Rules) (n : ℕ) (x : Tree) (header : Option Tree) (fits : Fit
       go false l true u true b same e = rw (e, b) (blank_line (short-from _ _ l) u b)
       go false l true u false b same e =
           rw (e, b) (text-is (record { short = short-from _ _ l; text = u; not_blank = b })
-          (judgement c rules.limits.depth))
+          _)
 
   -- ---- and no other is
 
@@ -82,8 +82,8 @@ module _ (rules : Rules) (n : ℕ) (x : Tree) (header : Option Tree) (fits : Fit
   judged-spelled : (t : Tree) → Json c t → nest t ≤ rules.limits.depth → (j : Judgement c rules.limits.depth)
       → (spelled_tree j ≡ Some t) × (text_verdict rules n x j ≡ tree_verdict rules n x t)
   judged-spelled t json shallow (spelled u k m) =
-      let e : u ≡ t = say_same (spelled u k m) (spelled t json shallow) in
-      (ap (λ z. Some z) e, ap (λ z. tree_verdict rules n x z) e)
+      let e = say_same (spelled u k m) (spelled t json shallow) in
+      (ap Some e, ap (tree_verdict rules n x) e)
   judged-spelled t json shallow (broken i s m) = absurd (say_same (broken i s m) (spelled t json shallow))
   judged-spelled t json shallow (sunk i s) = absurd (say_same (sunk i s) (spelled t json shallow))
 
@@ -100,26 +100,24 @@ module _ (rules : Rules) (n : ℕ) (x : Tree) (header : Option Tree) (fits : Fit
   judged-sunk i s (sunk k r) = (refl, ap (λ z. Invalid z TooDeep) (say_same (sunk k r) (sunk i s)))
 
   read-tree : IsRead rules header c → read_tree rules header c ≡ spelled_tree (judgement c rules.limits.depth)
-  read-tree read = rw (not-long (length c) rules.limits.line read.short, read.text, read.not_blank) refl
+  read-tree read = rw (not-long (length c) rules.limits.line read.short, read.text, read.not_blank)
 
   read-verdict : IsRead rules header c
       → verdict_at rules n x c ≡ text_verdict rules n x (judgement c rules.limits.depth)
   unfolding verdict_at
   read-verdict read =
-      let full : is_blank_line n c ≡ false = fits.blank c ∙ read.not_blank in
-      rw (not-long (length c) rules.limits.line read.short, read.text, full) refl
+      rw (not-long (length c) rules.limits.line read.short, read.text, fits.blank c ∙ read.not_blank) refl
 
   bytes-verdict : length c ≤ rules.limits.line → is_utf8 c ≡ false
       → verdict_at rules n x c ≡ Invalid (utf8_valid_len c) NotUtf8
   unfolding verdict_at
-  bytes-verdict h u = rw (not-long (length c) rules.limits.line h, u) refl
+  bytes-verdict h u = rw (not-long, u)
 
   blank-verdict : length c ≤ rules.limits.line → is_utf8 c ≡ true → is_blank header c ≡ true
       → verdict_at rules n x c ≡ Blank
   unfolding verdict_at
   blank-verdict h u b =
-      let only : is_blank_line n c ≡ true = fits.blank c ∙ b in
-      rw (not-long (length c) rules.limits.line h, u, only) refl
+      rw (not-long, u, fits.blank c ∙ b)
 
   -- the tree and the verdict of a line are those that are computed
   pub record IsThat (t : Option Tree) (v : Verdict) : Type 0 where
@@ -129,31 +127,31 @@ module _ (rules : Rules) (n : ℕ) (x : Tree) (header : Option Tree) (fits : Fit
   spells-that : (t : Tree) → Spells rules header c t → (v : Verdict) → tree_verdict rules n x t ≡ v
       → IsThat (Some t) v
   spells-that t spells v e =
-      let j = judged-spelled t spells.json spells.shallow (judgement c rules.limits.depth) in
+      let j = judged-spelled t spells.json spells.shallow _ in
       record {
         tree = sym (read-tree spells.read ∙ j.0);
-        verdict = sym (read-verdict spells.read ∙ (j.1 ∙ e));
+        verdict = sym (read-verdict spells.read ∙ j.1 ∙ e);
       }
 
   pub only-verdict : (t : Option Tree) (v : Verdict) → IsVerdict rules header c t v → IsThat t v
   only-verdict t v (too_long h) =
-      record { tree = rw (is-long (length c) rules.limits.line h) refl; verdict = sym (verdict-long rules n x c h) }
+      record { tree = rw (is-long); verdict = sym (verdict-long _ n x c h) }
   only-verdict t v (not_utf8 h u) =
-      record { tree = rw (not-long (length c) rules.limits.line h, u) refl; verdict = sym (bytes-verdict h u) }
+      record { tree = rw (not-long, u); verdict = sym (bytes-verdict h u) }
   only-verdict t v (blank_line h u b) =
-      record { tree = rw (not-long (length c) rules.limits.line h, u, b) refl; verdict = sym (blank-verdict h u b) }
+      record { tree = rw (not-long, u, b); verdict = sym (blank-verdict h u b) }
   only-verdict t v (too_deep i read s) =
-      let j = judged-sunk i s (judgement c rules.limits.depth) in
+      let j = judged-sunk i s _ in
       record { tree = sym (read-tree read ∙ j.0); verdict = sym (read-verdict read ∙ j.1) }
   only-verdict t v (no_json i read h s) =
-      let j = judged-broken i s h (judgement c rules.limits.depth) in
+      let j = judged-broken i s h _ in
       record { tree = sym (read-tree read ∙ j.0); verdict = sym (read-verdict read ∙ j.1) }
   only-verdict t v (faulty u f spells e) =
       spells-that u spells _ (tree-by u ∙ ap (by_least (is_selected rules header u)) e)
   only-verdict t v (leaves_out u spells e s) =
-      spells-that u spells _ (tree-by u ∙ (ap (by_least (is_selected rules header u)) e ∙ ap (λ k. by_least k None) s))
+      spells-that u spells _ (tree-by u ∙ ap (by_least (is_selected rules header u)) e ∙ ap (λ k. by_least k None) s)
   only-verdict t v (keeps u spells e s) =
-      spells-that u spells _ (tree-by u ∙ (ap (by_least (is_selected rules header u)) e ∙ ap (λ k. by_least k None) s))
+      spells-that u spells _ (tree-by u ∙ ap (by_least (is_selected rules header u)) e ∙ ap (λ k. by_least k None) s)
 
 -- ---- verdicts by themselves
 
@@ -161,7 +159,7 @@ module _ (rules : Rules) (n : ℕ) (x : Tree) (header : Option Tree) (fits : Fit
 pub kept-tree : (rules : Rules) (header : Option Tree) (c : List ℕ) (t : Option Tree) (v : Verdict)
     → IsVerdict rules header c t v → v ≡ Kept → (u : Tree) × (t ≡ Some u) × Spells rules header c u
 kept-tree rules header c t v (keeps u spells k s) e = (u, refl, spells)
-kept-tree rules header c t v other e = absurd (cc e)
+kept-tree rules header c t v other e = cc
 
 -- ---- the lists
 
@@ -180,7 +178,7 @@ module _ (rules : Rules) where
         verdict = verdict_at rules n x l.content;
       }
   line-only n x header fits l j is =
-      let that = only-verdict rules n x header fits l.content j.tree j.verdict is.verdict in
+      let that = only-verdict _ n x _ fits _ _ _ is.verdict in
       λ i. record {
         number = is.number i;
         line = is.line i;
@@ -196,7 +194,7 @@ module _ (rules : Rules) where
       number = refl;
       line = refl;
       header = refl;
-      verdict = verdict-is rules n h (Some h) (later-fits rules n h later) l.content;
+      verdict = verdict-is _ n h _ (later-fits rules n h later) _;
     },
     later-are h (n + 1) (omega arith) ls,
   )
@@ -207,7 +205,7 @@ module _ (rules : Rules) where
   later-only h n later [] (j ∷ js) a = absurd a
   later-only h n later (l ∷ ls) [] a = absurd a
   later-only h n later (l ∷ ls) (j ∷ js) a =
-      ap (λ z. z ∷ js) (line-only n h (Some h) (later-fits rules n h later) l j a.0)
+      ap (λ z. z ∷ js) (line-only n h _ (later-fits _ n h later) l j a.0)
       ∙ ap (λ z. judged_at rules n (Some h) l ∷ z) (later-only h (n + 1) (omega arith) ls js a.1)
 
   pub first-is : (l : Line) → IsJudged rules 1 None l (judged_at rules 1 None l)
@@ -215,7 +213,7 @@ module _ (rules : Rules) where
     number = refl;
     line = refl;
     header = refl;
-    verdict = verdict-is rules 1 no_tree None (first-fits rules no_tree) l.content;
+    verdict = verdict-is _ 1 _ _ (first-fits rules no_tree) _;
   }
 
   pub list-are : (ls : List Line) → AreJudged rules ls (judged_list rules ls)
@@ -225,11 +223,11 @@ module _ (rules : Rules) where
       go : (v : Verdict) (t : Option Tree) → (judged_at rules 1 None l).verdict ≡ v
           → (judged_at rules 1 None l).tree ≡ t
           → AreJudged rules (l ∷ ls) (judged_at rules 1 None l ∷ judged_behind rules v t ls)
-      go Kept (Some h) e f = headed l ls _ _ h (first-is l) e f (later-are h 2 (omega arith) ls)
+      go Kept (Some h) e f = headed l ls _ _ h (first-is l) e f (later-are h 2 (omega arith) _)
       go Kept None e f =
-          let k = kept-tree rules None l.content _ _ (first-is l).verdict e in
-          let clash : None ≡ Some k.0 = sym f ∙ k.1 in cc
-      go other t e f = no_header l ls _ (first-is l) (λ k. cc (e, k))
+          let k = kept-tree _ _ _ _ _ (first-is l).verdict e in
+          let clash = sym f ∙ k.1 in cc
+      go other t e f = no_header l ls _ (first-is l) (λ k. cc (k))
 
   behind-none : (v : Verdict) (t : Option Tree) (ls : List Line) → (v ≡ Kept → ⊥) → judged_behind rules v t ls ≡ []
   behind-none Kept t ls h = absurd (h refl)
@@ -243,13 +241,13 @@ module _ (rules : Rules) where
   list-only ls js no_lines = refl
   list-only ls js (no_header l ks j is not_kept) =
       let first = judged_at rules 1 None l in
-      let e : j ≡ judged_at rules 1 None l = line-only 1 no_tree None (first-fits rules no_tree) l j is in
-      let none = behind-none first.verdict first.tree ks (λ k. not_kept (ap (λ (q : JudgedLine). q.verdict) e ∙ k)) in
-      ap (λ z. z ∷ []) e ∙ ap (λ z. judged_at rules 1 None l ∷ z) (sym none)
+      let e = line-only 1 _ _ (first-fits _ _) l j is in
+      ap (λ z. z ∷ []) e ∙ ap (λ z. judged_at rules 1 None l ∷ z)
+      (sym (behind-none first.verdict first.tree ks (λ k. not_kept (ap (λ (q : JudgedLine). q.verdict) e ∙ k))))
   list-only ls js (headed l ks j more h is kept tree later) =
       let first = judged_at rules 1 None l in
-      let e : j ≡ judged_at rules 1 None l = line-only 1 no_tree None (first-fits rules no_tree) l j is in
-      let behind = behind-some first.verdict first.tree h ks (ap (λ (q : JudgedLine). q.verdict) (sym e) ∙ kept)
-      (ap (λ (q : JudgedLine). q.tree) (sym e) ∙ tree) in
+      let e = line-only 1 _ _ (first-fits _ _) l j is in
       ap (λ z. z ∷ more) e
-      ∙ ap (λ z. judged_at rules 1 None l ∷ z) (later-only h 2 (omega arith) ks more later ∙ sym behind)
+      ∙ ap (λ z. judged_at rules 1 None l ∷ z) (later-only h 2 (omega arith) _ _ later
+      ∙ sym (behind-some first.verdict first.tree h ks (ap (λ (q : JudgedLine). q.verdict) (sym e) ∙ kept)
+      (ap (λ (q : JudgedLine). q.tree) (sym e) ∙ tree)))

@@ -1,5 +1,5 @@
 -- What was held at most is no less than the lines that were handled need.
-use Rattle.cj_stream.proofs.Common.{End, EngineState, Err, Finishes, HeldAll, HeldUntil, IsBelow, LimitPair, Line, List, Ok, OnOk, Reading, Reads, Result, Rises, Scanned, Scanning, SinkContract, Stays, [], ap, append-nil, append_assoc, arith, begun, begun_after, closed, contents, ended_line, exact_peaks, first_content, first_lines, first_of, flat_map, greatest, held_length, last_line, later_of, length, limits_of, lines, lines_of, map, max, nat_tests, peaks_of, raw, refl, sym, take_all, whole, with_sink, ℕ, ◌++◌, ◌+◌, ◌∙◌, ◌∷◌, ◌≡◌, ◌≤◌}
+use Rattle.cj_stream.proofs.Common.{End, EngineState, Err, Finishes, HeldAll, HeldUntil, IsBelow, LimitPair, List, Ok, OnOk, Reading, Reads, Result, Rises, Scanned, Scanning, SinkContract, Stays, [], ap, append-nil, append_assoc, arith, begun, begun_after, closed, contents, ended_line, exact_peaks, first_content, first_lines, first_of, flat_map, greatest, held_length, last_line, later_of, length, limits_of, lines, lines_of, map, max, nat_tests, peaks_of, raw, refl, sym, take_all, whole, with_sink, ℕ, ◌++◌, ◌+◌, ◌∙◌, ◌∷◌, ◌≡◌, ◌≤◌}
 use Rattle.cj_stream.proofs.FirstLemmas.{lines-front}
 use Rattle.cj_stream.proofs.FinishLemmas.{Finishes-concludes, contents-closed, contents-last, peaks-finished}
 use Rattle.cj_stream.proofs.GoodLemmas.{good-complete}
@@ -10,14 +10,14 @@ use Rattle.cj_stream.proofs.ScanningLemmas.{first-closed}
 
 pub held-scanned : (limits : LimitPair) (cs : List (List ℕ)) (s : Scanning) → Scanned limits cs s → HeldAll limits cs s
 held-scanned limits cs s k =
-    record { header = omega (arith, k.header_peak); line = k.line_peak.least; opened = k.opened_peak.least }
+    record { header = omega arith; line = k.line_peak.least; opened = k.opened_peak.least }
 
 pub held-rises : (limits : LimitPair) (cs : List (List ℕ)) (s t : Scanning) → Rises s t → HeldAll limits cs s
     → HeldAll limits cs t
 held-rises limits cs s t r k = record {
-  header = omega (arith, k.header, r.header);
-  line = omega (arith, k.line, r.line);
-  opened = omega (arith, k.opened, r.opened);
+  header = omega arith;
+  line = omega arith;
+  opened = omega arith;
 }
 
 -- nothing more was handled
@@ -29,13 +29,13 @@ held-until limits p done left n s t count k r = record {
   left = left;
   cut = refl;
   lines = count;
-  held = held-rises limits (closed (p ++ done)) s t r (held-scanned limits (closed (p ++ done)) s k);
+  held = held-rises _ _ s t r (held-scanned _ _ s k);
 }
 
 pub held-now : (limits : LimitPair) (p more : List ℕ) (n : ℕ) (s t : Scanning) → n ≡ length (closed p)
     → Scanned limits (closed p) s → Rises s t → HeldUntil limits p more n t
 held-now limits p more n s t count k r =
-    held-until limits p [] more n s t (rw (append-nil p) count) (rw (append-nil p) k) r
+    held-until _ p [] more n s t (rw (append-nil p) count) (rw (append-nil p) k) r
 
 -- ---- the lines that were handled, seen as a stream
 
@@ -44,16 +44,16 @@ contents-ended [] = refl
 contents-ended (c ∷ cs) = ap (λ z. c ∷ z) (contents-ended cs)
 
 contents-whole : (q : List ℕ) → contents (whole q) ≡ closed q
-contents-whole q = rw (lines-whole q) (contents-ended (closed q))
+contents-whole q = rw (lines-whole) (contents-ended _)
 
 -- the first line is the first of the contents
 first-contents : (s : List ℕ) → length (first_content s) ≡ length (first_of (contents s) [])
 first-contents s =
-    grind (arith, nat_tests, lines-cut s)
+    grind (arith, nat_tests, lines-cut)
 
 -- as many lines as LF ended in a prefix are that prefix, but for what has begun in it
 first-front : (n : ℕ) (q more : List ℕ) → n ≡ length (closed q) → first_lines n (q ++ more) ≡ whole q
-first-front n q more e = ap (λ ls. flat_map raw ls) (lines-front n q more e)
+first-front n q more e = ap (flat_map raw) (lines-front n q _ e)
 
 -- two prefixes in which LF ended as many lines
 same-closed : (n : ℕ) (a x b y : List ℕ) → a ++ x ≡ b ++ y → n ≡ length (closed a) → n ≡ length (closed b)
@@ -63,7 +63,7 @@ same-closed n a x b y same e f =
       arith,
       nat_tests,
       lines-front n a x e,
-      lines-front n b y f,
+      lines-front,
       contents-ended (closed a),
       contents-ended (closed b),
     )
@@ -74,25 +74,24 @@ least-peaks : (limits : LimitPair) (q : List ℕ) (s : Scanning) (bytes : ℕ)
     → IsBelow (exact_peaks limits (whole q))
     (record { bytes = bytes; tokens = s.header.peak + s.line.peak; depth = s.opened.peak })
 least-peaks limits q s bytes some k = record {
-  bytes = rw (first-contents (whole q), contents-whole q) some;
-  tokens = rw (contents-whole q) (omega (arith, k.header, k.line));
-  depth = rw (contents-whole q) k.opened;
+  bytes = rw (first-contents, contents-whole) some;
+  tokens = rw (contents-whole) (omega arith);
+  depth = rw (contents-whole) k.opened;
 }
 
 bytes-read : (f : Reading) (q : List ℕ) → Reads f q
     → length (first_of (closed q) []) + greatest (held_length f.rules.limits) (later_of (closed q)) ≤ f.header.peak
     + f.line.peak
 bytes-read f q h =
-    let first : length (first_of (closed q) []) ≤ length (first_content q) = let k = first-closed q [] in
-    rw (append-nil q) at k in
-    omega (arith, first, h.peak, ap length h.header, h.line_peak)
+    let first = rw (append-nil q) at (first-closed q []) in
+    omega (arith, ap length h.header)
 
 -- so it is of all whole lines of what was read
 pub least-read : (e : EngineState) (q more : List ℕ) → Reads e.reading q → HeldAll (limits_of e) (closed q) e.scanning
     → IsBelow (exact_peaks (limits_of e) (first_lines (lines_of e) (q ++ more))) (peaks_of e)
 least-read e q more reads k =
     rw (first-front (lines_of e) q more reads.lines)
-    (least-peaks (limits_of e) q e.scanning (e.reading.header.peak + e.reading.line.peak)
+    (least-peaks _ q e.scanning (e.reading.header.peak + e.reading.line.peak)
     (bytes-read e.reading q reads) k)
 
 -- and where reading stopped within these bytes
@@ -100,9 +99,9 @@ pub least-until : (e : EngineState) (limits : LimitPair) (p bytes done left : Li
     → bytes ≡ done ++ left → Reads e.reading (p ++ done) → HeldUntil limits p bytes (lines_of e) e.scanning
     → IsBelow (exact_peaks limits (first_lines (lines_of e) (p ++ bytes))) (peaks_of e)
 least-until e limits p bytes done left under cut reads h =
-    let here : (p ++ done) ++ left ≡ p ++ bytes = append_assoc p done left ∙ ap (λ z. p ++ z) (sym cut) in
-    let there : (p ++ h.done) ++ h.left ≡ p ++ bytes = append_assoc p h.done h.left ∙ ap (λ z. p ++ z) (sym h.cut) in
-    let same = same-closed (lines_of e) (p ++ h.done) h.left (p ++ done) left (there ∙ sym here) h.lines reads.lines in
+    let here = append_assoc p done left ∙ ap (λ z. p ++ z) (sym cut) in
+    let same = same-closed _ _ h.left (p ++ done) left ((append_assoc p h.done h.left ∙ ap (λ z. p ++ z) (sym h.cut))
+    ∙ sym here) h.lines reads.lines in
     let held : HeldAll limits (closed (p ++ done)) e.scanning = rw (← same) h.held in
     rw (← here, ← under) (least-read e (p ++ done) left reads (rw under held))
 
@@ -112,10 +111,8 @@ pub begun-held : (f : Reading) (q : List ℕ) → Reads f q
 begun-held f q h =
     omega (
       arith,
-      h.peak,
       ap length h.header,
-      h.line_peak,
-      ap (λ ls. greatest (held_length f.rules.limits) (later_of (map (λ (l : Line). l.content) ls))) (lines-cut q),
+      ap (λ ls. greatest (held_length f.rules.limits) (later_of (map (λ l. l.content) ls))) (lines-cut q),
       later (begun q),
     )
   where
@@ -136,7 +133,7 @@ begun-held f q h =
 
 -- all lines of a stream are all of it
 first-all : (n : ℕ) (p : List ℕ) → n ≡ length (lines p) → first_lines n p ≡ p
-first-all n p e = ap (λ ls. flat_map raw ls) (take_all n (lines p) (omega (arith, e))) ∙ (lines-are_lines p).joined
+first-all n p e = ap (flat_map raw) (take_all n _ (omega arith)) ∙ (lines-are_lines p).joined
 
 module _ {S : Type 0} (law : SinkContract S) where
   -- an error leaves the count of lines
@@ -151,13 +148,13 @@ module _ {S : Type 0} (law : SinkContract S) where
       → Scanned (limits_of old) (closed p) old.scanning → OnOk r (Scanned (limits_of old) (contents p) new.scanning)
       → IsBelow (exact_peaks (limits_of old) (first_lines (lines_of new) p)) (peaks_of new)
   least-finished old new s t p (Ok x) reads d stays rises k now =
-      let said = Finishes-concludes law old.reading new.reading s t p reads (Ok x) d in
-      let all : lines_of new ≡ length (lines p) = said.1 ∙ ap length (good-complete old.reading.rules p said.0) in
-      rw (first-all (lines_of new) p all) (peaks-finished law old.reading new.reading s t p reads (Ok x) new.scanning d
+      let said = Finishes-concludes law _ _ s t p reads _ d in
+      rw (first-all (lines_of new) p (said.1 ∙ ap length (good-complete old.reading.rules p said.0)))
+      (peaks-finished law _ _ s t p reads _ _ d
       refl now).least
   least-finished old new s t p (Err e) reads d stays rises k now =
-      let count : lines_of new ≡ length (closed p) = finished-err old.reading new.reading s t p e d ∙ reads.lines in
-      let front : first_lines (lines_of new) p ≡ whole p = let x = first-front (lines_of new) p [] count in
+      let front = let x = first-front (lines_of new) p [] (finished-err old.reading new.reading s t p e d
+      ∙ reads.lines) in
       rw (append-nil p) at x in
       rw front (least-peaks (limits_of old) p new.scanning (new.reading.header.peak + new.reading.line.peak)
       (omega (arith, bytes-read old.reading p reads, stays.header_rises, stays.line_rises))

@@ -1,5 +1,5 @@
 -- What the good lines are where reading goes on after invalid ones, and where it does not.
-use Rattle.cj_stream.proofs.Common.{Bool, Complete, End, Invalid, IsExact, Line, List, None, Peaks, Rules, Some, Tree, Verdict, [], arith, ending, exact_peaks, false, goes_on, good, good_from, header_of, is_readable, later_of, length, length-append, lines, list_all, map, nat_tests, refl, refusal_from, refusal_in, refusal_of, reported, reported_from, reports_of, take, true, verdict, verdict_at, ℕ, ◌++◌, ◌+◌, ◌<◌, ◌∷◌, ◌≡◌}
+use Rattle.cj_stream.proofs.Common.{Bool, Complete, End, Invalid, IsExact, Line, List, None, Peaks, Rules, Some, Tree, Verdict, [], arith, ending, exact_peaks, false, goes_on, good, good_from, is_readable, later_of, length, length-append, lines, list_all, map, nat_tests, refl, refusal_from, refusal_in, refusal_of, reported, reported_from, reports_of, take, true, verdict, verdict_at, ℕ, ◌++◌, ◌+◌, ◌<◌, ◌∷◌, ◌≡◌}
 use Rattle.cj_stream.proofs.GoodLemmas.{complete-none}
 use Rattle.cj_stream.proofs.VerdictLemmas.{and-both}
 use Rattle.cj_stream.proofs.RulingLemmas.{good-all, refusal-step}
@@ -41,7 +41,7 @@ never rules n off = grind arith
 
 silent : (rules : Rules) (n : ℕ) (v : Verdict) → rules.options.keep_going ≡ false → refusal_of rules n v ≡ None
     → reports_of n v ≡ []
-silent rules n (Invalid place reason) off h = grind (arith, never rules n off)
+silent rules n (Invalid place reason) off h = grind (arith, never)
 silent rules n other off h = refl
 
 unreported_from : (rules : Rules) (before ls : List Line) → rules.options.keep_going ≡ false
@@ -55,7 +55,7 @@ unreported_from rules before (l ∷ ls) off =
     )
 
 pub never-reported : (rules : Rules) (s : List ℕ) → rules.options.keep_going ≡ false → reported rules s ≡ []
-never-reported rules s off = unreported_from rules [] (lines s) off
+never-reported rules s off = unreported_from _ _ _ off
 
 -- ---- what can be read
 
@@ -69,18 +69,18 @@ all-readable : (rules : Rules) (before ls : List Line) → rules.options.keep_go
     → refusal_from rules before ls ≡ None → list_all (is_readable rules.limits) (map (λ l. l.content) ls) ≡ true
 all-readable rules before [] off h = refl
 all-readable rules before (l ∷ ls) off h =
-    let both = refusal-step (refusal_of rules (length before + 1) (verdict rules before l.content))
-    (refusal_from rules (before ++ l ∷ []) ls) h in
-    let now = readable-verdict rules (length before + 1) (header_of rules before) l.content
+    let both = refusal-step _
+    _ h in
+    let now = readable-verdict _ _ _ l.content
     (never rules (length before + 1) off) both.0 in
     rw (now, all-readable rules (before ++ l ∷ []) ls off both.1) refl
 
 later-all : (p : List ℕ → Bool) (cs : List (List ℕ)) → list_all p cs ≡ true → list_all p (later_of cs) ≡ true
 later-all p [] h = refl
-later-all p (c ∷ cs) h = (and-both (p c) (list_all p cs) h).1
+later-all p (c ∷ cs) h = (and-both _ _ h).1
 
 pub usual-exact : (rules : Rules) (s : List ℕ) (peaks : Peaks) → rules.options.keep_going ≡ false
     → ending rules s ≡ Complete → IsExact rules.limits s peaks → peaks ≡ exact_peaks rules.limits s
 usual-exact rules s peaks off done h =
     h.legible (later-all (is_readable rules.limits) (map (λ l. l.content) (lines s))
-    (all-readable rules [] (lines s) off (complete-none rules (lines s) done)))
+    (all-readable _ _ _ off (complete-none _ _ done)))

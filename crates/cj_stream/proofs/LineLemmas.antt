@@ -29,7 +29,7 @@ closed-then (b ∷ s) t = grind (arith, closed-then s t)
 
 -- more bytes end as many lines, or more
 pub closed-grows : (p t : List ℕ) → length (closed p) ≤ length (closed (p ++ t))
-closed-grows p t = rw (closed-then p t) (omega (arith, length-append (closed p) (closed (begun p ++ t))))
+closed-grows p t = rw (closed-then) (omega (arith, length-append (closed p) (closed (begun p ++ t))))
 
 pub begun-then : (p t : List ℕ) → begun (p ++ t) ≡ begun (begun p ++ t)
 begun-then [] t = refl
@@ -42,11 +42,11 @@ NoLf-begun_with (c ∷ cs) b s h k = k
 NoLf-byte : (b : ℕ) (is : Bool) (s : List ℕ) → eqb b 10 ≡ is → NoLf (begun s)
     → NoLf (cond is (begun s) (begun_with (closed s) b (begun s)))
 NoLf-byte b true s h k = k
-NoLf-byte b false s h k = NoLf-begun_with (closed s) b (begun s) h k
+NoLf-byte b false s h k = NoLf-begun_with _ b _ h k
 
 pub NoLf-begun : (s : List ℕ) → NoLf (begun s)
 NoLf-begun [] = tt
-NoLf-begun (b ∷ s) = NoLf-byte b (eqb b 10) s refl (NoLf-begun s)
+NoLf-begun (b ∷ s) = NoLf-byte b _ s refl (NoLf-begun s)
 
 pub NoLf-append : (x y : List ℕ) → NoLf x → NoLf y → NoLf (x ++ y)
 NoLf-append [] y p q = q
@@ -60,18 +60,18 @@ NoLf-from_places (b ∷ s) h = (not_true _ (h 0 (omega arith)), NoLf-from_places
 -- bytes without LF
 pub closed-more : (p t : List ℕ) → NoLf t → closed (p ++ t) ≡ closed p
 closed-more p t h = closed-then p t
-    ∙ (ap (λ z. closed p ++ z) (closed-none (begun p ++ t) (NoLf-append (begun p) t (NoLf-begun p) h))
-    ∙ append-nil (closed p))
+    ∙ ap (λ z. closed p ++ z) (closed-none _ (NoLf-append _ t (NoLf-begun p) h))
+    ∙ append-nil (closed p)
 
 pub begun-more : (p t : List ℕ) → NoLf t → begun (p ++ t) ≡ begun p ++ t
-begun-more p t h = begun-then p t ∙ begun-none (begun p ++ t) (NoLf-append (begun p) t (NoLf-begun p) h)
+begun-more p t h = begun-then p t ∙ begun-none _ (NoLf-append _ t (NoLf-begun p) h)
 
 -- an LF, and what follows
 pub closed-lf : (p t : List ℕ) → closed (p ++ 10 ∷ t) ≡ closed p ++ begun p ∷ closed t
-closed-lf p t = closed-then p (10 ∷ t) ∙ ap (λ z. closed p ++ z) (closed-ended (begun p) t (NoLf-begun p))
+closed-lf p t = closed-then p _ ∙ ap (λ z. closed p ++ z) (closed-ended _ t (NoLf-begun p))
 
 pub begun-lf : (p t : List ℕ) → begun (p ++ 10 ∷ t) ≡ begun t
-begun-lf p t = begun-then p (10 ∷ t) ∙ begun-ended (begun p) t (NoLf-begun p)
+begun-lf p t = begun-then p _ ∙ begun-ended _ t (NoLf-begun p)
 
 pub first_of-some : (cs : List (List ℕ)) (a b : List ℕ) → 0 < length cs → first_of cs a ≡ first_of cs b
 first_of-some [] a b h = absurd (omega arith)
@@ -89,10 +89,6 @@ pub begun_after-empty : (cs : List (List ℕ)) → begun_after cs [] ≡ []
 begun_after-empty [] = refl
 begun_after-empty (c ∷ cs) = refl
 
-pub none-from_length : {A : Type 0} (cs : List A) → length cs ≡ 0 → cs ≡ []
-none-from_length [] h = refl
-none-from_length (c ∷ cs) h = absurd (omega arith)
-
 -- ---- the lines, by what LF ended and what it did not end
 
 pub lines-cut : (s : List ℕ) → lines s ≡ map ended_line (closed s) ++ last_line (begun s)
@@ -100,7 +96,7 @@ lines-cut [] = refl
 lines-cut (b ∷ s) = grind (arith, lines-cut s)
 
 pub first-length : (s : List ℕ) → of_first (λ (l : Line). length l.content) (lines s) ≡ length (first_content s)
-first-length s = grind (arith, lines-cut s)
+first-length s = grind (arith, lines-cut)
 
 -- a byte that is no LF begins the first line
 first_content-byte : (b : ℕ) (s : List ℕ) → eqb b 10 ≡ false → first_content (b ∷ s) ≡ b ∷ first_content s

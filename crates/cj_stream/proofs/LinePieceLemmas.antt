@@ -8,7 +8,7 @@ use Rattle.cj_stream.proofs.FirstLemmas.{first-either, first-same, first-split, 
 use Rattle.cj_stream.proofs.IsLinesLemmas.{lines-whole}
 use Rattle.cj_stream.proofs.JoinedLemmas.{joined-next}
 use Rattle.cj_stream.proofs.LineLemmas.{closed-grows, lines-cut}
-use Rattle.cj_stream.proofs.OutputLemmas.{Took-appends, kept-next_line, next-left, writes_part, front-bytes, next-bytes}
+use Rattle.cj_stream.proofs.OutputLemmas.{Took-appends, kept-next_line, next-left, front-bytes, next-bytes}
 use Rattle.cj_stream.proofs.ReadingLemmas.{length-map_lines}
 use Rattle.cj_stream.proofs.RunLemmas.{Delivers-join}
 use Rattle.cj_stream.proofs.TookLemmas.{Distributes, More-over, after-first, front-took, over-kept, over-reported}
@@ -19,22 +19,20 @@ module _ (rules : Rules) (p : List ℕ) (n : ℕ) (first : n ≡ length (closed 
   whole-taken : (x : List ℕ) → rulings_first rules n (whole (p ++ x)) ≡ rulings_first rules n (p ++ x)
   whole-taken x =
       let cs = map ended_line (closed (p ++ x)) in
-      let few : n ≤ length cs = omega (arith, first, closed-grows p x, length-map_lines (closed (p ++ x))) in
-      let same : take n (lines (whole (p ++ x))) ≡ take n (lines (p ++ x)) =
-      ap (λ z. take n z) (lines-whole (p ++ x))
-      ∙ (sym (take-append-le n cs (last_line (begun (p ++ x))) few) ∙ ap (λ z. take n z) (sym (lines-cut (p ++ x)))) in
-      ap (rulings rules []) same
+      let few : n ≤ length cs = omega (arith, closed-grows, length-map_lines) in
+      ap (rulings rules []) (ap (λ z. take n z) (lines-whole (p ++ x))
+      ∙ sym (take-append-le n cs (last_line (begun (p ++ x))) few) ∙ ap (λ z. take n z) (sym (lines-cut (p ++ x))))
 
   -- the lines of the pieces that were wholly taken, when the next one is given
   pieces-same : (pieces : List (List ℕ)) (k : ℕ)
       → rulings_first rules (length (closed (p ++ joined (take k pieces)))) (p ++ joined (take (k + 1) pieces))
       ≡ rulings_first rules (length (closed (p ++ joined (take k pieces)))) (p ++ joined (take k pieces))
   pieces-same pieces k =
-      let next = joined-next k pieces in
+      let next = joined-next k _ in
       let count = length (closed (p ++ joined (take k pieces))) in
-      let text : p ++ joined (take (k + 1) pieces) ≡ (p ++ joined (take k pieces)) ++ next.0 = ap (λ z. p ++ z) next.1
-      ∙ sym (append_assoc p (joined (take k pieces)) next.0) in
-      ap (rulings_first rules count) text ∙ first-same rules count (p ++ joined (take k pieces)) next.0 refl
+      ap (rulings_first rules count) (ap (λ z. p ++ z) next.1
+      ∙ sym (append_assoc p (joined (take k pieces)) next.0)) ∙ first-same rules _ (p ++ joined (take k pieces)) next.0
+      refl
 
   -- what a sink took after the first lines
   module _ {S X : Type 0} (step : S → X → S → Type 0) {f : List Ruling → List X} (over : Distributes f) where
@@ -43,7 +41,7 @@ module _ (rules : Rules) (p : List ℕ) (n : ℕ) (first : n ≡ length (closed 
         → good rules (p ++ y) ≡ good rules (p ++ x) → TookOf step f (stretch rules (p ++ x) n m) s t
         → Took step s (drop (length (f (rulings_first rules n (p ++ y)))) (f (rulings_good rules (p ++ y)))) t
     all-taken x y m s t all same took =
-        rw (first-either rules n p y x first, same) (took-after step over rules (p ++ x) n m s t all took)
+        rw (first-either rules n p y x first, same) (took-after _ over rules (p ++ x) n m s t all took)
 
     -- of the whole lines
     whole-after : (x : List ℕ) (ds : List Ruling) → refusal_in rules (lines (whole (p ++ x))) ≡ None
@@ -53,8 +51,8 @@ module _ (rules : Rules) (p : List ℕ) (n : ℕ) (first : n ≡ length (closed 
         let all : length (closed (p ++ x)) ≡ length (lines (whole (p ++ x))) =
         sym (ap length (lines-whole (p ++ x)) ∙ length-map_lines (closed (p ++ x))) in
         after-first step over rules (whole (p ++ x)) n ds
-        (sym (first-whole rules (length (closed (p ++ x))) (p ++ x) good all)
-        ∙ (h ∙ ap (λ z. z ++ ds) (sym (whole-taken x))))
+        (sym (first-whole rules _ (p ++ x) good all)
+        ∙ h ∙ ap (λ z. z ++ ds) (sym (whole-taken x)))
 
   -- what was noted of pieces, by the end
   pub lines-noted : {N : Type 0} (notes : N → Report → N → Type 0) (a b : N) (pieces : List (List ℕ)) (k m : ℕ)
@@ -63,20 +61,20 @@ module _ (rules : Rules) (p : List ℕ) (n : ℕ) (first : n ≡ length (closed 
       → Ends rules (p ++ joined (take (k + 1) pieces)) m (joined (take (k + 1) pieces) ≡ joined pieces) (line_end e)
       → NotesLines notes (later_pieces rules p pieces n) (record { taken = k; peaks = peaks; ended = e }) a b
   lines-noted notes a b pieces k m none h LineComplete peaks ends = record {
-    noted = λ _. all-taken notes over-reported (joined (take (k + 1) pieces)) (joined pieces) m a b ends.1
-        (given-said rules p pieces k Complete (inl ends.2) ends.0).1 h;
-    fault = λ z. absurd (cc z);
+    noted = λ _. all-taken _ over-reported _ _ m a b ends.1
+        (given-said _ p _ k _ (inl ends.2) ends.0).1 h;
+    fault = λ z. cc;
   }
   lines-noted notes a b pieces k m none h (LineRefused line place reason) peaks ends = record {
-    noted = λ _. all-taken notes over-reported (joined (take (k + 1) pieces)) (joined pieces) m a b ends.1
-        (given-said rules p pieces k (Refused line place reason) ends.2 ends.0).1 h;
-    fault = λ z. absurd (cc z);
+    noted = λ _. all-taken _ over-reported _ _ m a b ends.1
+        (given-said _ p _ k _ ends.2 ends.0).1 h;
+    fault = λ z. cc;
   }
   lines-noted notes a b pieces k m none h LineWriteFault peaks ends =
       let text = p ++ joined (take (k + 1) pieces) in
       record {
         noted = λ z. absurd (z refl);
-        fault = λ _. front-took notes over-reported rules text n (λ others x y. y ≡ x) m _
+        fault = λ _. front-took _ over-reported rules text n _ m _
             (first-split rules m text none) b b refl a h;
       }
 
@@ -86,8 +84,8 @@ module _ (rules : Rules) (p : List ℕ) (n : ℕ) (first : n ≡ length (closed 
         → TookWhole law (given_after p n (in_pieces rules pieces k) m) s t e
         → Delivers law (stretch rules (p ++ joined (take (k + 1) pieces)) n m) s t (Some e)
     Delivers-whole pieces k m e w =
-        Delivers-join (first-either rules n p (joined (take (k + 1) pieces)) (joined (take k pieces)) first)
-        (pieces-same pieces k) w.taken w.after
+        Delivers-join (first-either _ n p _ _ first)
+        (pieces-same _ k) w.taken w.after
 
     module _ (pieces : List (List ℕ)) (k m : ℕ) where
       abbrev given : List ℕ
@@ -100,8 +98,8 @@ module _ (rules : Rules) (p : List ℕ) (n : ℕ) (first : n ≡ length (closed 
           → (d : Delivers law (stretch rules (p ++ given) n m) s t (Some e)) → t ≡ d.middle
           → (ending rules (p ++ joined pieces) ≡ e) × Took law.takes s (kept_after rules n (p ++ joined pieces)) t
       all-put e said ends all d still =
-          let same = given-said rules p pieces k e said ends in
-          (same.0, rw still (all-taken law.takes over-kept given (joined pieces) m s d.middle all same.1 d.took))
+          let same = given-said _ p _ k e said ends in
+          (same.0, rw still (all-taken _ over-kept _ _ m s _ all same.1 d.took))
 
       -- after a fault, a prefix of what is kept of the pieces that were given was taken, with all of the whole lines of
       -- those that were wholly taken
@@ -114,14 +112,13 @@ module _ (rules : Rules) (p : List ℕ) (n : ℕ) (first : n ≡ length (closed 
       front-put then rest e w next left =
           let before = joined (take k pieces) in
           let i = length (closed (p ++ before)) in
-          let same = first-either rules n p given before first in
-          let still : w.middle ≡ w.taken.middle = w.taken.fault in
+          let same = first-either _ n p _ _ first in
           let x : TookOf law.takes kept_of (stretch rules (p ++ given) n i) s w.middle =
-          rw still (More-over law.takes over-kept same (pieces-same pieces k) w.taken.took) in
-          let whole-kept = whole-after law.takes over-kept before x.done w.good
-          (sym (pieces-same pieces k) ∙ (x.grown ∙ ap (λ z. z ++ x.done) same)) in
+          rw w.taken.fault (More-over _ over-kept same (pieces-same _ k) w.taken.took) in
+          let whole-kept = whole-after law.takes over-kept _ _ w.good
+          (sym (pieces-same _ k) ∙ x.grown ∙ ap (λ z. z ++ x.done) same) in
           subst (λ z. TookFront law.takes then (prefixes (kept_after rules n (p ++ given)) z) s t) (sym whole-kept)
-          (two-took law.takes over-kept rules (p ++ given) n then m rest next w.after.middle t left i s w.middle x
+          (two-took _ over-kept rules (p ++ given) n _ m rest next _ t left i s _ x
           w.after.took)
 
       module _ {features refusals : ℕ} (counts : Counts rules (p ++ given) m features refusals) where
@@ -131,22 +128,22 @@ module _ (rules : Rules) (p : List ℕ) (n : ℕ) (first : n ≡ length (closed 
             (kept_after rules n (whole (p ++ joined (take k pieces))))) s t
         fault-put w =
             let fault = w.after.fault in
-            let next = kept-next_line rules m (p ++ given) fault.0 counts.counted.good fault.1 fault.2 in
-            front-put (LeavesNext law.leaves) _ WriteFault w next.1
-            (next-left law rules (take m (lines (p ++ given))) fault.0 next.0 w.after.middle t fault.2 fault.3)
+            let next = kept-next_line _ m (p ++ given) _ counts.counted.good fault.1 fault.2 in
+            front-put _ _ _ w next.1
+            (next-left law _ _ fault.0 next.0 w.after.middle t fault.2 fault.3)
 
         -- what a sink took of pieces, by the end
         pub lines-put : (e : LineEnd) (peaks : Peaks) → Ends rules (p ++ given) m (given ≡ joined pieces) (line_end e)
             → TookWhole law (given_after p n (in_pieces rules pieces k) m) s t (line_end e)
             → PutsLines law (later_pieces rules p pieces n) (record { taken = k; peaks = peaks; ended = e }) s t
         lines-put LineComplete peaks ends w =
-            let d = Delivers-whole pieces k m Complete w in
-            let x = all-put Complete (inl ends.2) ends.0 ends.1 d d.fault in
-            record { ends = λ _. sym x.0; took = λ _. x.1; fault = λ h. absurd (cc h) }
+            let d = Delivers-whole _ k m _ w in
+            let x = all-put _ (inl ends.2) ends.0 ends.1 d d.fault in
+            record { ends = λ _. sym x.0; took = λ _. x.1; fault = λ h. cc }
         lines-put (LineRefused line place reason) peaks ends w =
-            let d = Delivers-whole pieces k m (Refused line place reason) w in
-            let x = all-put (Refused line place reason) ends.2 ends.0 ends.1 d d.fault in
-            record { ends = λ _. sym x.0; took = λ _. x.1; fault = λ h. absurd (cc h) }
+            let d = Delivers-whole _ k m _ w in
+            let x = all-put _ ends.2 ends.0 ends.1 d d.fault in
+            record { ends = λ _. sym x.0; took = λ _. x.1; fault = λ h. cc }
         lines-put LineWriteFault peaks ends w =
             record { ends = λ h. absurd (h refl); took = λ h. absurd (h refl); fault = λ _. fault-put w }
 
@@ -158,19 +155,19 @@ module _ {S : Type 0} (law : SinkContract S) (rules : Rules) (pieces : List (Lis
       → ending rules (joined (take (n + 1) pieces)) ≡ e → count ≡ length (good rules (joined (take (n + 1) pieces)))
       → (d : Delivers law (stretch rules (joined (take (n + 1) pieces)) 0 count) s t (Some e)) → t ≡ d.middle
       → (ending rules (joined pieces) ≡ e) × Took law.takes s (kept rules (joined pieces)) t
-  all-pieces e said ends all d still = all-put rules [] 0 refl law s t pieces n count e said ends all d still
+  all-pieces e said ends all d still = all-put _ [] 0 refl _ s t _ n _ e said ends all d still
 
   pub PutsPieces-ends : (e : End)
       → Ends rules (joined (take (n + 1) pieces)) count (joined (take (n + 1) pieces) ≡ joined pieces) e
       → Delivers law (stretch rules (joined (take (n + 1) pieces)) 0 count) s t (Some e)
       → TookWhole law (given_after [] 0 (in_pieces rules pieces n) count) s t e
       → IsUnread e → PutsPieces law (in_pieces rules pieces n) e s t
-  PutsPieces-ends Complete ends d w u = all-pieces Complete (inl ends.2) ends.0 ends.1 d d.fault
+  PutsPieces-ends Complete ends d w u = all-pieces _ (inl ends.2) ends.0 ends.1 d d.fault
   PutsPieces-ends (Refused number place reason) ends d w u =
-      all-pieces (Refused number place reason) ends.2 ends.0 ends.1 d d.fault
-  PutsPieces-ends WriteFault ends d w u = fault-put rules [] 0 refl law s t pieces n count counts w
+      all-pieces _ ends.2 ends.0 ends.1 d d.fault
+  PutsPieces-ends WriteFault ends d w u = fault-put _ _ 0 refl _ s t _ n _ counts w
   PutsPieces-ends Memory ends d w u =
-      front-put rules [] 0 refl law s t pieces n count (λ others a b. b ≡ a) _ Memory w
+      front-put _ _ 0 refl _ s t _ n _ _ _ _ w
       (first-split rules count (joined (take (n + 1) pieces)) counts.counted.good) w.after.fault
   PutsPieces-ends other ends d w u = absurd u
 
@@ -183,9 +180,9 @@ CopiesLines-puts contents failures rules p pieces n outcome s t h =
     let given = kept_after rules n (p ++ joined (take (outcome.taken + 1) pieces)) in
     let taken = kept_after rules n (whole (p ++ joined (take outcome.taken pieces))) in
     record {
-      writes = λ ok. Took-appends contents s t (kept_after rules n (p ++ joined pieces)) (h.took ok);
-      part = λ fault. (front-bytes contents (LeavesNext (writes_part contents)) (next-bytes contents) given taken s t
+      writes = λ ok. Took-appends _ s t _ (h.took ok);
+      part = λ fault. (front-bytes _ _ (next-bytes _) _ _ s t
           (h.fault fault)).0;
-      more = λ fault. (front-bytes contents (LeavesNext (writes_part contents)) (next-bytes contents) given taken s t
+      more = λ fault. (front-bytes _ _ (next-bytes _) _ _ s t
           (h.fault fault)).1;
     }

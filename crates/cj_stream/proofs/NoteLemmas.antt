@@ -31,7 +31,7 @@ first-unreported rules (suc zero) q few h =
 module _ {N : Type 0} (notes : N → Report → N → Type 0) (rules : Rules) where
   pub Notes-none : (q : List ℕ) (i j : ℕ) (n m : N) → j ≡ i → m ≡ n → Notes notes (stretch rules q i j) n m
   Notes-none q i j n m e same =
-      More-none notes over-reported _ _ n m (ap (λ k. rulings_first rules k q) e) same
+      More-none _ over-reported _ _ n m (ap (λ k. rulings_first rules k q) e) same
 
   -- of a header
   pub Notes-first : (q : List ℕ) (i k : ℕ) (n m : N) → i ≡ 0 → k ≤ 1 → refusal_in rules (take k (lines q)) ≡ None
@@ -40,7 +40,7 @@ module _ {N : Type 0} (notes : N → Report → N → Type 0) (rules : Rules) wh
       rw (first, same) (record {
         done = rulings_first rules k q;
         grown = refl;
-        took = subst (λ rs. Took notes n rs n) (sym (first-unreported rules k q few good)) refl;
+        took = rw (first-unreported rules k q few good) refl;
       })
 
   module _ (r : List ℕ) (at_end : Type 0) (count : ℕ) (n m : N)
@@ -49,14 +49,14 @@ module _ {N : Type 0} (notes : N → Report → N → Type 0) (rules : Rules) wh
       -- what was noted, by the end of a run
       pub NotesRun-said : (e : End) → Ends rules r count at_end e → (e ≡ Memory → count ≡ 0)
           → NotesRun notes (stream_of rules r) e n m
-      NotesRun-said ReadFault ends none = took-whole notes over-reported rules r count n m ends.0 ends.1 a
-      NotesRun-said ReadLimit ends none = took-whole notes over-reported rules r count n m ends.0 ends.1 a
+      NotesRun-said ReadFault ends none = took-whole _ over-reported _ r _ n m ends.0 ends.1 a
+      NotesRun-said ReadLimit ends none = took-whole _ over-reported _ r _ n m ends.0 ends.1 a
       NotesRun-said WriteFault ends none =
-          front-took notes over-reported rules r 0 (λ others a b. b ≡ a) count _ (first-split rules count r good_first)
+          front-took _ over-reported _ r 0 _ _ _ (first-split rules count r good_first)
           m m refl n a
       NotesRun-said Memory ends none =
-          subst (λ k. Took notes n (reported_first rules k r) m) (none refl) (More-all notes over-reported a)
-      NotesRun-said other ends none = took-good notes over-reported rules r count n m ends.1 a
+          rw (none refl) at (More-all _ over-reported a)
+      NotesRun-said other ends none = took-good _ over-reported _ r _ n m ends.1 a
 
   -- what was noted of pieces, by the end
   pub NotesPieces-said : (pieces : List (List ℕ)) (k count : ℕ) (n m : N) (e : End)
@@ -66,7 +66,7 @@ module _ {N : Type 0} (notes : N → Report → N → Type 0) (rules : Rules) wh
       → NotesPieces notes (in_pieces rules pieces k) e n m
   NotesPieces-said pieces k count n m Complete ends u v h = rw (← ends.2) h
   NotesPieces-said pieces k count n m (Refused number place reason) ends u v h =
-      let same = given-said rules [] pieces k (Refused number place reason) ends.2 ends.0 in
+      let same = given-said rules [] _ k _ ends.2 ends.0 in
       subst (λ ls. Took notes n (reported_from rules [] ls) m) (sym same.1) h
   NotesPieces-said pieces k count n m ReadFault ends u v h = absurd (u refl)
   NotesPieces-said pieces k count n m ReadLimit ends u v h = absurd (v refl)
@@ -81,8 +81,8 @@ module _ {N : Type 0} (notes : N → Report → N → Type 0) where
       → Notes notes (stretch g.rules ((p ++ front) ++ rest) g.lines k) n m
       → Notes notes (stretch f.rules (p ++ (front ++ rest)) f.lines k) n m
   Notes-header f g p front rest k n m first few under reads later =
-      let good = (Counts-front g (p ++ front) rest reads).counted.good in
-      let now = Notes-first notes g.rules ((p ++ front) ++ rest) f.lines g.lines n n first few good refl in
+      let now = Notes-first _ _ ((p ++ front) ++ rest) f.lines g.lines n n first few (Counts-front g (p ++ front) rest
+      reads).counted.good refl in
       let all = More-then notes over-reported now later in
       rw (under, append_assoc p front rest) at all
 
@@ -92,11 +92,9 @@ module _ {N : Type 0} (notes : N → Report → N → Type 0) where
       → Took notes n (reported_of (ruling_after f.rules (map ended_line (closed p))
       (record { content = begun p; lf = lf }) ∷ [])) m
   one-noted f p lf n m reads noted =
-      let said : begun_verdict f ≡ verdict f.rules (map ended_line (closed p)) (begun p) =
-      said-verdict f (begun p) reads.begun ∙ next-verdict f p reads (begun p) in
       let at : f.lines + 1 ≡ length (map ended_line (closed p)) + 1 =
-      omega (arith, reads.lines, length-map_lines (closed p)) in
-      let now = rw (said, at) at noted in
+      omega (arith, length-map_lines) in
+      let now = rw (said-verdict f (begun p) reads.begun ∙ next-verdict f p reads (begun p), at) at noted in
       rw (append-nil (reports_of (length (map ended_line (closed p)) + 1)
       (verdict f.rules (map ended_line (closed p)) (begun p)))) now
 
@@ -125,8 +123,8 @@ module _ {N : Type 0} (notes : N → Report → N → Type 0) where
       → Took notes n (reports_of (f.lines + 1) (begun_verdict f)) m
       → Notes notes (stretch f.rules p f.lines g.lines) n m
   Notes-last f g p n m reads some one noted =
-      More-line notes over-reported f.rules p f.lines g.lines (map ended_line (closed p)) (unended (begun p)) n m
-      (take-closed p f.lines reads.lines) (take-last p g.lines (omega (arith, one, reads.lines)) some)
+      More-line _ over-reported _ p _ _ _ _ n m
+      (take-closed p _ reads.lines) (take-last p _ (omega arith) some)
       (one-noted f p false n m reads noted)
 
   -- what came of a last line
@@ -140,7 +138,7 @@ module _ {N : Type 0} (notes : N → Report → N → Type 0) where
   Notes-finished law on v i f g s t p n m (Ok x) reads some d one noted silent = Notes-last f g p n m reads some one
       noted
   Notes-finished law on v i f g s t p n m (Err e) reads some d one noted silent =
-      Notes-none notes f.rules p f.lines g.lines n m (handled-err law on v i f g s t e d) silent
+      Notes-none _ _ p _ _ n m (handled-err law _ v i f g s t e d) silent
 
 -- a run by what was noted of its lines
 pub Noting-said : {N : Type 0} (notes : N → Report → N → Type 0) (run : Run) (at_end : Type 0) (n m : N)
@@ -148,8 +146,8 @@ pub Noting-said : {N : Type 0} (notes : N → Report → N → Type 0) (run : Ru
     → Notes notes (stretch run.rules run.read 0 run.outcome.lines) n m → RunsNoting notes run n m
 Noting-said notes run at_end n m account none a = record {
   reports = a;
-  noted = NotesRun-said notes run.rules run.read at_end run.outcome.lines n m account.counts.counted.good a
-      run.outcome.ended account.ends none;
+  noted = NotesRun-said _ run.rules run.read at_end _ n m account.counts.counted.good a
+      _ account.ends none;
 }
 
 -- a run by what both sinks took of its lines
@@ -159,7 +157,7 @@ pub Both-said : {S N : Type 0} (law : SinkContract S) (notes : N → Report → 
     → Notes notes (stretch run.rules run.read 0 run.outcome.lines) n m
     → Runs law run at_end s t × RunsNoting notes run n m
 Both-said law notes run at_end s t n m account none sink reports =
-    (Runs-said law run at_end s t account sink, Noting-said notes run at_end n m account none reports)
+    (Runs-said _ _ _ s t account sink, Noting-said _ _ _ n m account none reports)
 
 -- a run that is left between two pieces, with an end that keeps the sink as it is
 pub Both-left : {S N : Type 0} (law : SinkContract S) (notes : N → Report → N → Type 0) (e : EngineState)
@@ -171,14 +169,14 @@ pub Both-left : {S N : Type 0} (law : SinkContract S) (notes : N → Report → 
     → Runs law (record { rules = rules; read = r; outcome = outcome_of e end }) at_end s t
     × RunsNoting notes (record { rules = rules; read = r; outcome = outcome_of e end }) n m
 Both-left law notes e rules r at_end s t n m end under unended granted ends still stands sink reports =
-    Both-said law notes (record { rules = rules; read = r; outcome = outcome_of e end }) at_end s t n m
+    Both-said _ _ _ _ s t n m
     (record {
-      bounded = let k = stands.bounded in rw under at k;
+      bounded = rw under at stands.bounded;
       exact = λ x. absurd (unended x);
-      counts = let k = stands.counts in rw under at k;
+      counts = rw under at stands.counts;
       ends = rw under at ends;
     })
-    (λ lacks. absurd (granted lacks)) (Delivers-ended law rules r (lines_of e) s t end still sink) reports
+    (λ lacks. absurd (granted lacks)) (Delivers-ended _ _ r _ s t _ still sink) reports
 
 -- a list of reports is collected one by one
 Collects-all : (xs ys : List Report) → Took Collects xs ys (xs ++ ys)
@@ -190,22 +188,22 @@ pub Noting-collected : (run : Run) (at_end : Type 0) → Account run at_end
     → (run.outcome.ended ≡ Memory → run.outcome.lines ≡ 0)
     → RunsNoting Collects run [] (reported_first run.rules run.outcome.lines run.read)
 Noting-collected run at_end account none =
-    Noting-said Collects run at_end [] (reported_first run.rules run.outcome.lines run.read) account none (record {
+    Noting-said _ _ _ _ _ account none (record {
       done = rulings_first run.rules run.outcome.lines run.read;
       grown = refl;
-      took = Collects-all [] (reported_first run.rules run.outcome.lines run.read);
+      took = Collects-all _ _;
     })
 
 -- what is not reported of all lines is not of the first
 empty-front : (xs ys : List Report) → [] ≡ xs ++ ys → xs ≡ []
 empty-front [] ys h = refl
-empty-front (x ∷ xs) ys h = absurd (cc h)
+empty-front (x ∷ xs) ys h = cc
 
 pub first-silent : (rules : Rules) (n : ℕ) (r : List ℕ) → reported rules r ≡ []
     → refusal_in rules (take n (lines r)) ≡ None → reported_first rules n r ≡ []
 first-silent rules n r none good_first =
-    empty-front (reported_first rules n r) _
-    (sym none ∙ (ap reported_of (first-split rules n r good_first) ∙ over-reported.both (rulings_first rules n r) _))
+    empty-front _ _
+    (sym none ∙ ap reported_of (first-split _ n r good_first) ∙ over-reported.both (rulings_first rules n r) _)
 
 -- a run that was refused its memory before the first read
 pub Noting-memory : {N : Type 0} (notes : N → Report → N → Type 0) (rules : Rules) (n : N)
@@ -220,9 +218,9 @@ pub Noting-memory : {N : Type 0} (notes : N → Report → N → Type 0) (rules 
         ended = Memory;
       };
     }) n n
-Noting-memory notes rules n = record { reports = Notes-none notes rules [] 0 0 n n refl refl; noted = refl }
+Noting-memory notes rules n = record { reports = Notes-none _ rules [] 0 0 n n refl refl; noted = refl }
 
 -- memory was refused: nothing was noted
 pub noted-none : {N : Type 0} (notes : N → Report → N → Type 0) (rules : Rules) (r : List ℕ) (n m : N) (e : End)
     → e ≡ Memory → NotesRun notes (stream_of rules r) e n m → m ≡ n
-noted-none notes rules r n m e is h = let k = rw is at h in k
+noted-none notes rules r n m e is h = rw is at h

@@ -1,5 +1,5 @@
 -- How runs over two parts went, as one: with counts that stop at the greatest u64.
-use Rattle.cj_stream.proofs.Common.{Account, Blank, Bool, Complete, Counts, End, Ends, Invalid, IsCut, Kept, LeftOut, Line, List, Outcome, Peaks, Refused, Rules, Verdict, [], ap, arith, both_outcomes, capped, capped_end, capped_outcome, filter, headed, is_feature, kept_from, length, length-append, length-take, lines, moved_end, refl, reported_from, reports_of, subst, sym, take, verdict, ℕ, ◌++◌, ◌+◌, ◌-◌, ◌<◌, ◌^◌, ◌∙◌, ◌∷◌, ◌≡◌, ◌≤◌}
+use Rattle.cj_stream.proofs.Common.{Account, Blank, Bool, Complete, Counts, End, Ends, Invalid, IsCut, Kept, LeftOut, Line, List, Outcome, Peaks, Refused, Rules, Verdict, [], ap, arith, both_outcomes, capped_end, capped_outcome, filter, headed, kept_from, length, length-append, length-take, lines, moved_end, refl, reported_from, reports_of, subst, sym, take, verdict, ℕ, ◌++◌, ◌+◌, ◌-◌, ◌<◌, ◌^◌, ◌∙◌, ◌∷◌, ◌≡◌, ◌≤◌}
 use Rattle.cj_stream.proofs.GoodLemmas.{good-refused}
 use Rattle.cj_stream.proofs.PartsLemmas.{front-good}
 use Rattle.cj_stream.proofs.AccountLemmas.{run_over, Account-joined}
@@ -37,9 +37,8 @@ few-counted rules r n f k x =
     let ls = take n (lines r) in (
       omega (
         arith,
-        x.counted.kept,
-        filter-short is_feature (kept_from rules [] ls),
-        kept-short rules [] ls,
+        filter-short,
+        kept-short,
         length-take n (lines r),
       ),
       omega (arith, x.counted.refused, reported-short rules [] ls, length-take n (lines r)),
@@ -49,15 +48,14 @@ few-counted rules r n f k x =
 capped-end : (rules : Rules) (r : List ℕ) (n m : ℕ) (at_end : Type 0) (e : End) → Ends rules r m at_end e → 1 ≤ n
     → n + m < 2 ^ 64 → capped_end (moved_end (n - 1) e) ≡ moved_end (n - 1) e
 capped-end rules r n m at_end (Refused number place reason) said some few =
-    let place_of = good-refused rules r number place reason said.0 in
-    let fits : capped (number + (n - 1)) ≡ number + (n - 1) = omega (arith, place_of, said.1, some, few) in
-    ap (λ k. Refused k place reason) fits
+    let place_of = good-refused _ r _ _ _ said.0 in
+    ap (λ k. Refused k place reason) (omega (arith, place_of, said.1, some, few))
 capped-end rules r n m at_end other said some few = refl
 
 same-outcome : (l k r x y z : ℕ) (peaks : Peaks) (e f : End) → l ≡ x → k ≡ y → r ≡ z → e ≡ f
     → ◌≡◌ {A = Outcome} (record { lines = l; kept = k; refused = r; peaks = peaks; ended = e })
     (record { lines = x; kept = y; refused = z; peaks = peaks; ended = f })
-same-outcome l k r x y z peaks e f p q s t = rw (p, q, s, t) refl
+same-outcome l k r x y z peaks e f p q s t = rw (p, q, s, t)
 
 -- a run over both parts, with counts that stop at the greatest u64
 module _ (rules : Rules) (h a b : List ℕ) (cut : IsCut h a) (first second result : Outcome) (at_end at_last : Type 0)
@@ -70,8 +68,8 @@ module _ (rules : Rules) (h a b : List ℕ) (cut : IsCut h a) (first second resu
         let ends : Ends rules (headed h a) first.lines at_end Complete =
         subst (λ (e : End). Ends rules (headed h a) first.lines at_end e) is x.ends in
         let some : 1 ≤ first.lines = omega (arith, ends.1, ap length (front-good rules h a cut ends.0)) in
-        let of_first = few-counted rules (headed h a) first.lines first.kept first.refused x.counts in
-        let of_second = few-counted rules (headed h b) second.lines second.kept second.refused y.counts in
+        let of_first = few-counted _ _ _ _ _ x.counts in
+        let of_second = few-counted _ (headed h b) second.lines second.kept second.refused y.counts in
         let same : capped_outcome (both_outcomes first second) ≡ both_outcomes first second =
         same-outcome _ _ _ _ _ _ _ _ _
         (omega (arith, few))

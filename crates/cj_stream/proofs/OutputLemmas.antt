@@ -1,18 +1,19 @@
 -- The bytes that a writer gets in a run.
-use Rattle.cj_stream.proofs.Common.{Account, Appends, AppendsMore, AppendsPart, Complete, Counts, Delivers, End, Ends, Item, Keeps, LeavesNext, Line, List, Memory, None, Option, Puts, ReadFault, ReadLimit, Refused, Rules, Ruling, Run, SinkContract, Some, Took, TookFront, WriteFault, [], ap, flat_map, flat_map-append, good, good_from, is_kept, item_after, kept, kept_first, kept_of, length, lines, output_first, prefixes, raw_item, refl, refusal_in, ruling_after, rulings, rulings_first, rulings_good, slice_get, stream_of, stretch, subst, take, true, up_to, verdict, whole, writes_law, ℕ, ◌++◌, ◌∙◌, ◌∷◌, ◌≡◌}
+use Rattle.cj_stream.proofs.Common.{Account, Appends, AppendsMore, AppendsPart, Complete, Counts, Delivers, End, Ends, Item, Keeps, LeavesNext, Line, List, Memory, None, Option, Puts, Refused, Rules, Ruling, Run, SinkContract, Some, Took, TookFront, WriteFault, [], ap, flat_map, flat_map-append, good, good_from, is_kept, item_after, kept, kept_of, length, lines, output_first, prefixes, raw_item, refl, refusal_in, ruling_after, rulings, rulings_first, rulings_good, slice_get, stream_of, stretch, take, true, up_to, verdict, whole, writes_law, ℕ, ◌++◌, ◌∙◌, ◌∷◌, ◌≡◌, arith, nat_tests}
 use Rattle.cj_stream.specs.Run.{Runs, Writes, WritesLines}
 use Rattle.cj_stream.proofs.FirstLemmas.{first-split}
 use Rattle.cj_stream.proofs.GoodLemmas.{drop-next, kept-head}
-use Rattle.cj_stream.proofs.KnownLemmas.{Appends-then, Appends-nothing, AppendsPart-after, AppendsPart-front}
+use Rattle.cj_stream.proofs.KnownLemmas.{AppendsPart-after, AppendsPart-front}
 use Rattle.cj_stream.proofs.TookLemmas.{More-all, Took-split, front-took, over-kept, took-good, took-whole}
+use Rattle.std.proofs.KnownBytes.{Appends-trans, Appends-nil}
 
 -- lines that a writer took, one after another
 pub Took-appends : {S : Type 0} (contents : S → Option (List ℕ)) (s t : S) (ls : List Item)
     → Took (λ a l b. Appends (contents a) (contents b) (raw_item l)) s ls t
     → Appends (contents s) (contents t) (flat_map raw_item ls)
-Took-appends contents s t [] h = rw h (Appends-nothing (contents s))
+Took-appends contents s t [] h = rw h (Appends-nil _)
 Took-appends contents s t (l ∷ ls) h =
-    Appends-then (contents s) (contents h.0) (contents t) (raw_item l) (flat_map raw_item ls) h.1
+    Appends-trans _ _ _ _ _ h.1
     (Took-appends contents h.0 t ls h.2)
 
 -- where the line after the first n ones is kept: its result comes after theirs among those of the handled lines
@@ -21,12 +22,12 @@ pub kept-next_line : (rules : Rules) (n : ℕ) (r : List ℕ) (l : Line) → ref
     → (others : List Ruling) × (rulings_good rules r ≡ rulings_first rules n r
     ++ ruling_after rules (take n (lines r)) l ∷ others)
 kept-next_line rules n r l h at k =
-    let d = drop-next (lines r) n l at in
+    let d = drop-next _ n l at in
     let before = take n (lines r) in (
       rulings rules (before ++ l ∷ []) (good_from rules (before ++ l ∷ []) d.0),
-      first-split rules n r h ∙ ap (λ z. rulings_first rules n r ++ z)
+      first-split _ n r h ∙ ap (λ z. rulings_first rules n r ++ z)
           (ap (λ z. rulings rules (take n (lines r)) (good_from rules (take n (lines r)) z)) d.1
-          ∙ kept-head rules (take n (lines r)) l d.0 k),
+          ∙ kept-head _ _ l _ k),
     )
 
 -- and what its failed step leaves
@@ -42,23 +43,23 @@ module _ {S : Type 0} (law : SinkContract S) (rules : Rules) (r : List ℕ) (at_
   put-all : (e : End) (d : Delivers law (stretch rules r 0 n) s t (Some e)) → t ≡ d.middle
       → n ≡ length (good rules r) → Took law.takes s (kept rules r) t
   put-all e d still all =
-      rw still (took-good law.takes over-kept rules r n s d.middle all d.took)
+      rw still (took-good _ over-kept _ r n s _ all d.took)
 
   -- what a sink took, by the end of the run
   puts-said : (e : End) → Ends rules r n at_end e → Counts rules r n features refusals
       → Delivers law (stretch rules r 0 n) s t (Some e) → Puts law (stream_of rules r) e s t
-  puts-said Complete ends counts d = put-all Complete d d.fault ends.1
-  puts-said (Refused number place reason) ends counts d = put-all (Refused number place reason) d d.fault ends.1
+  puts-said Complete ends counts d = put-all _ d d.fault ends.1
+  puts-said (Refused number place reason) ends counts d = put-all _ d d.fault ends.1
   puts-said WriteFault ends counts d =
       let fault = d.fault in
-      let next = kept-next_line rules n r fault.0 counts.counted.good fault.1 fault.2 in
-      front-took law.takes over-kept rules r 0 (LeavesNext law.leaves) n _ next.1 d.middle t
+      let next = kept-next_line _ n r _ counts.counted.good fault.1 fault.2 in
+      front-took _ over-kept _ r 0 _ n _ next.1 _ t
       (next-left law rules (take n (lines r)) fault.0 next.0 d.middle t fault.2 fault.3) s d.took
   puts-said Memory ends counts d =
-      front-took law.takes over-kept rules r 0 (λ others a b. b ≡ a) n _ (first-split rules n r counts.counted.good)
-      d.middle t d.fault s d.took
+      front-took _ over-kept _ r 0 _ n _ (first-split rules n r counts.counted.good)
+      _ t d.fault s d.took
   puts-said other ends counts d =
-      rw d.fault (took-whole law.takes over-kept rules r n s d.middle ends.0 ends.1 d.took)
+      rw d.fault (took-whole _ over-kept _ r n s _ ends.0 ends.1 d.took)
 
 -- a run by its account and by what the sink took
 pub Runs-said : {S : Type 0} (law : SinkContract S) (run : Run) (at_end : Type 0) (s t : S) → Account run at_end
@@ -67,8 +68,8 @@ pub Runs-said : {S : Type 0} (law : SinkContract S) (run : Run) (at_end : Type 0
 Runs-said law run at_end s t account sink = record {
   account = account;
   sink = sink;
-  puts = puts-said law run.rules run.read at_end s t run.outcome.lines run.outcome.kept run.outcome.refused
-      run.outcome.ended account.ends account.counts sink;
+  puts = puts-said _ _ _ _ s t _ _ _
+      _ account.ends account.counts sink;
 }
 
 -- where memory was refused before any line was handled, the sink is as it was
@@ -77,8 +78,7 @@ pub memory-sink : {S : Type 0} (law : SinkContract S) (rules : Rules) (q : List 
     → n ≡ 0
     → Delivers law (stretch rules q 0 n) s t (Some e) → t ≡ s
 memory-sink law rules q n s t e is none h =
-    let still = rw is at h.fault in
-    still ∙ subst (λ k. Took law.takes s (kept_first rules k q) h.middle) none (More-all law.takes over-kept h.took)
+    rw is at h.fault ∙ rw none at (More-all _ over-kept h.took)
 
 module _ {S : Type 0} (contents : S → Option (List ℕ)) where
   abbrev pub writes : S → Item → S → Type 0
@@ -97,14 +97,14 @@ module _ {S : Type 0} (contents : S → Option (List ℕ)) where
   front-bytes then bytes all first s t h =
       let cut = Took-split writes s h.middle first h.more h.took in
       let left = bytes h.others h.middle t h.left in (
-        rw (h.front, flat_map-append raw_item (first ++ h.more) h.others)
-            (AppendsPart-after (contents s) (contents h.middle) (contents t) (flat_map raw_item (first ++ h.more))
-            (flat_map raw_item h.others) (Took-appends contents s h.middle (first ++ h.more) h.took) left),
+        rw (h.front, flat_map-append)
+            (AppendsPart-after _ _ _ _
+            _ (Took-appends _ s _ _ h.took) left),
         record {
           middle = contents cut.0;
           more = flat_map raw_item h.more ++ left.front;
           first = Took-appends contents s cut.0 first cut.1;
-          grows = Appends-then (contents cut.0) (contents h.middle) (contents t) (flat_map raw_item h.more) left.front
+          grows = Appends-trans _ _ _ _ _
               (Took-appends contents cut.0 h.middle h.more cut.2) left.grows;
         },
       )
@@ -112,30 +112,25 @@ module _ {S : Type 0} (contents : S → Option (List ℕ)) where
   pub next-bytes : (others : List Item) (a b : S) → LeavesNext writes_part others a b
       → AppendsPart (contents a) (contents b) (flat_map raw_item others)
   next-bytes [] a b h = absurd h
-  next-bytes (i ∷ is) a b h = AppendsPart-front (contents a) (contents b) (raw_item i) (flat_map raw_item is) h
+  next-bytes (i ∷ is) a b h = AppendsPart-front _ _ _ _ h
 
   pub no-bytes : (others : List Item) (a b : S) → b ≡ a
       → AppendsPart (contents a) (contents b) (flat_map raw_item others)
   no-bytes others a b h =
-      rw h (record { front = []; rest = flat_map raw_item others; whole = refl; grows = Appends-nothing (contents a) })
+      rw h (record { front = []; rest = flat_map raw_item others; whole = refl; grows = Appends-nil _ })
 
   -- the bytes that a writer got, by the end of the run
   pub Writes-puts : (failures : S → ℕ) (rules : Rules) (r : List ℕ) (s t : S) (e : End)
       → Puts (writes_law contents failures) (stream_of rules r) e s t
       → Writes (stream_of rules r) e (contents s) (contents t)
-  Writes-puts failures rules r s t ReadFault h = Took-appends contents s t (kept rules (whole r)) h
-  Writes-puts failures rules r s t ReadLimit h = Took-appends contents s t (kept rules (whole r)) h
-  Writes-puts failures rules r s t WriteFault h = (front-bytes (LeavesNext writes_part) next-bytes (kept rules r) [] s t
-      h).0
-  Writes-puts failures rules r s t Memory h = (front-bytes (λ others a b. b ≡ a) no-bytes (kept rules r) [] s t h).0
-  Writes-puts failures rules r s t other h = Took-appends contents s t (kept rules r) h
+  Writes-puts failures rules r s t x h = grind (arith, nat_tests, Took-appends, front-bytes, next-bytes, no-bytes)
 
   -- and by the lines that were handled
   module _ (failures : S → ℕ) (rules : Rules) (r : List ℕ) (n : ℕ) (s t : S) where
     handled-bytes : {e : End} (d : Delivers (writes_law contents failures) (stretch rules r 0 n) s t (Some e))
         → Appends (contents s) (contents d.middle) (output_first rules n r)
     handled-bytes d =
-        Took-appends contents s d.middle (kept_first rules n r) (More-all writes over-kept d.took)
+        Took-appends _ s _ _ (More-all _ over-kept d.took)
 
     still-bytes : {e : End} (d : Delivers (writes_law contents failures) (stretch rules r 0 n) s t (Some e))
         → t ≡ d.middle → Appends (contents s) (contents t) (output_first rules n r)
@@ -156,11 +151,10 @@ module _ {S : Type 0} (contents : S → Option (List ℕ)) where
           front = fault.3.front;
           rest = fault.3.rest;
           cut = fault.3.whole;
-          grows = Appends-then (contents s) (contents d.middle) (contents t) (output_first rules n r) fault.3.front
+          grows = Appends-trans _ _ _ _ _
               (handled-bytes d) fault.3.grows;
         }
     WritesLines-said Memory none d =
-        let nothing : n ≡ 0 = none refl in
-        let same : t ≡ s = memory-sink (writes_law contents failures) rules r n s t Memory refl nothing d in
-        (nothing, rw same (none-kept (contents s)))
+        let nothing = none refl in
+        (nothing, rw (memory-sink (writes_law contents failures) rules r n s t Memory refl nothing d) (none-kept _))
     WritesLines-said other none d = still-bytes d d.fault

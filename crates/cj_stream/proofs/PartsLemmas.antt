@@ -1,20 +1,21 @@
 -- A stream in parts: its lines, and what is said of them.
-use Rattle.cj_stream.proofs.Common.{Complete, End, IsCut, Kept, LimitPair, Line, List, NoLf, None, Option, Peaks, Rules, Some, [], ap, append-nil, append_assoc, arith, begun, closed, contents, ended_line, ending, ending_of, exact_peaks, filter, filter-append, first_content, flat_map, flat_map-append, good, good_from, greater_peaks, greatest, headed, held_length, is_feature, item_after, kept, kept_from, later_of, length, length-append, length-map, lines, map, map-append, max, moved_end, moved_report, nat_tests, option_map, output, raw_item, refl, refusal_from, refusal_in, refusal_of, reported, reported_from, sym, tree_nest, tree_size, unwrap_or, verdict, whole, ℕ, ◌++◌, ◌+◌, ◌∙◌, ◌∷◌, ◌≡◌}
+use Rattle.cj_stream.proofs.Common.{Complete, End, IsCut, Kept, LimitPair, Line, List, NoLf, None, Option, Peaks, Rules, Some, [], ap, append-nil, append_assoc, arith, begun, closed, contents, ended_line, ending, ending_of, exact_peaks, filter, filter-append, first_content, flat_map, flat_map-append, good, good_from, greater_peaks, greatest, headed, held_length, is_feature, item_after, kept, kept_from, later_of, length, length-append, length-map, lines, map, map-append, max, moved_end, moved_report, nat_tests, option_map, output, raw_item, refl, refusal_in, reported, reported_from, sym, tree_nest, tree_size, unwrap_or, verdict, whole, ℕ, ◌++◌, ◌+◌, ◌∙◌, ◌∷◌, ◌≡◌}
 use Rattle.cj_stream.proofs.CutLemmas.{lines-more}
 use Rattle.cj_stream.proofs.EngineLemmas.{same-peaks}
 use Rattle.cj_stream.proofs.GoodLemmas.{complete-none, ending-refused}
 use Rattle.cj_stream.proofs.IsLinesLemmas.{lines-ended, whole-begun}
-use Rattle.cj_stream.proofs.LineLemmas.{closed-ended, lines-cut, none-from_length}
+use Rattle.cj_stream.proofs.LineLemmas.{closed-ended, lines-cut}
 use Rattle.cj_stream.proofs.MovedLemmas.{refusal-moved, good-moved, kept-moved, reported-moved}
 use Rattle.cj_stream.proofs.VerdictLemmas.{valid-first}
 use Rattle.cj_stream.proofs.RulingLemmas.{good-all, good-append, good-stays, kept-append, refusal-append, refusal-stays, refusal-step, reported-append}
+use Rattle.std.proofs.lemmas.List.{nil_from_length}
 
 -- ---- the lines of a part
 
 -- behind whole lines none has begun
 pub none-begun : (a : List ℕ) → whole a ≡ a → begun a ≡ []
 none-begun a w =
-    none-from_length (begun a)
+    nil_from_length _
     (omega (arith, ap length (whole-begun a), ap length w, length-append (whole a) (begun a)))
 
 pub lines-headed : (h s : List ℕ) → NoLf h → lines (headed h s) ≡ ended_line h ∷ lines s
@@ -22,14 +23,13 @@ lines-headed h s free = lines-ended h s free
 
 pub lines-parts : (a b : List ℕ) → whole a ≡ a → lines (a ++ b) ≡ lines a ++ lines b
 lines-parts a b w =
-    let none = none-begun a w in
-    lines-more a b ∙ rw (lines-cut a, none, append-nil (map ended_line (closed a))) refl
+    lines-more a b ∙ rw (lines-cut a, none-begun a w, append-nil (map ended_line (closed a))) refl
 
 -- ---- lines, and more lines, behind a header that is valid
 
 module _ (rules : Rules) (l : Line) (valid : verdict rules [] l.content ≡ Kept) where
   pub kept-first : (zs : List Line) → kept_from rules [] (l ∷ zs) ≡ item_after rules [] l ∷ kept_from rules (l ∷ []) zs
-  kept-first zs = rw valid refl
+  kept-first zs = rw valid
 
   pub kept-joined : (xs zs : List Line) → kept_from rules [] (l ∷ xs ++ zs) ≡ kept_from rules [] (l ∷ xs)
       ++ later_of (kept_from rules [] (l ∷ zs))
@@ -60,7 +60,7 @@ module _ (rules : Rules) (h a : List ℕ) (cut : IsCut h a) where
   front-lines = lines-headed h a cut.header
 
   pub all-lines : (b : List ℕ) → lines (headed h (a ++ b)) ≡ ended_line h ∷ lines a ++ lines b
-  all-lines b = lines-headed h (a ++ b) cut.header ∙ ap (λ z. ended_line h ∷ z) (lines-parts a b cut.lines)
+  all-lines b = lines-headed h _ cut.header ∙ ap (λ z. ended_line h ∷ z) (lines-parts a b cut.lines)
 
   pub back-lines : (b : List ℕ) → lines (headed h b) ≡ ended_line h ∷ lines b
   back-lines b = lines-headed h b cut.header
@@ -68,39 +68,39 @@ module _ (rules : Rules) (h a : List ℕ) (cut : IsCut h a) where
   -- the first part is complete
   module _ (done : ending rules (headed h a) ≡ Complete) where
     pub front-none : refusal_in rules (ended_line h ∷ lines a) ≡ None
-    front-none = let k = complete-none rules (lines (headed h a)) done in rw front-lines at k
+    front-none = let k = complete-none _ _ done in rw front-lines at k
 
     pub header-valid : verdict rules [] h ≡ Kept
     header-valid =
-        valid-first rules _ h (refusal-step (refusal_of rules 1 (verdict rules [] h))
-        (refusal_from rules (ended_line h ∷ []) (lines a)) front-none).0
+        valid-first _ _ h (refusal-step _
+        _ front-none).0
 
     pub front-good : good rules (headed h a) ≡ ended_line h ∷ lines a
-    front-good = ap (λ z. good_from rules [] z) front-lines ∙ good-all rules [] (ended_line h ∷ lines a) front-none
+    front-good = ap (good_from rules []) front-lines ∙ good-all _ [] _ front-none
 
     module _ (b : List ℕ) where
       good-parts : good rules (headed h (a ++ b)) ≡ ended_line h ∷ lines a ++ later_of (good rules (headed h b))
       good-parts =
-          rw (all-lines b, back-lines b)
-          (good-joined rules (ended_line h) header-valid (lines a) front-none (lines b))
+          rw (all-lines, back-lines)
+          (good-joined _ _ header-valid _ front-none _)
 
       pub back-good : good rules (headed h b) ≡ ended_line h ∷ later_of (good rules (headed h b))
-      back-good = rw (back-lines b, header-valid) refl
+      back-good = rw (back-lines, header-valid)
 
       pub back-kept : kept rules (headed h b) ≡ item_after rules [] (ended_line h) ∷ later_of (kept rules (headed h b))
-      back-kept = rw (back-good, header-valid) refl
+      back-kept = rw (back-good, header-valid)
 
       pub kept-parts : kept rules (headed h (a ++ b)) ≡ kept rules (headed h a) ++ later_of (kept rules (headed h b))
       kept-parts =
           rw (good-parts, front-good, back-good)
-          (kept-joined rules (ended_line h) header-valid (lines a) (later_of (good rules (headed h b))))
+          (kept-joined _ _ header-valid _ _)
 
       pub output-parts : (rest : List ℕ) × (output rules (headed h b) ≡ headed h rest)
           × (output rules (headed h (a ++ b)) ≡ output rules (headed h a) ++ rest)
       output-parts =
           let later = later_of (kept rules (headed h b)) in (
             flat_map raw_item later,
-            ap (λ z. flat_map raw_item z) back-kept ∙ append_assoc h (10 ∷ []) (flat_map raw_item later),
+            ap (flat_map raw_item) back-kept ∙ append_assoc h (10 ∷ []) (flat_map raw_item later),
             rw kept-parts (flat_map-append raw_item (kept rules (headed h a)) later),
           )
 
@@ -109,8 +109,8 @@ module _ (rules : Rules) (h a : List ℕ) (cut : IsCut h a) where
           grind (
             arith,
             nat_tests,
-            all-lines b,
-            back-lines b,
+            all-lines,
+            back-lines,
             refusal-joined rules (ended_line h) header-valid (lines a) front-none (lines b),
             moved-ending (length (lines a)) (refusal_in rules (ended_line h ∷ lines b)),
           )
@@ -119,7 +119,7 @@ module _ (rules : Rules) (h a : List ℕ) (cut : IsCut h a) where
           ++ map (moved_report (length (lines a))) (reported rules (headed h b))
       reported-parts =
           rw (good-parts, front-good, back-good)
-          (reported-joined rules (ended_line h) header-valid (lines a) (later_of (good rules (headed h b))))
+          (reported-joined _ _ header-valid _ _)
 
       -- ---- counts
 
@@ -141,17 +141,17 @@ module _ (rules : Rules) (h a : List ℕ) (cut : IsCut h a) where
           let first = kept rules (headed h a) in
           let later = later_of (kept rules (headed h b)) in
           ap (λ z. length (filter is_feature z)) kept-parts
-          ∙ (ap length (filter-append is_feature first later)
-          ∙ (length-append (filter is_feature first) (filter is_feature later)
-          ∙ ap (λ z. length (filter is_feature first) + length (filter is_feature z)) (sym back-kept)))
+          ∙ ap length (filter-append is_feature first later)
+          ∙ length-append _ _
+          ∙ ap (λ z. length (filter is_feature first) + length (filter is_feature z)) (sym back-kept)
 
       pub refused-counted : length (reported rules (headed h (a ++ b))) ≡ length (reported rules (headed h a))
           + length (reported rules (headed h b))
       refused-counted =
           let moved = moved_report (length (lines a)) in
           ap length reported-parts
-          ∙ (length-append (reported rules (headed h a)) (map moved (reported rules (headed h b)))
-          ∙ ap (λ n. length (reported rules (headed h a)) + n) (length-map (reported rules (headed h b)) moved))
+          ∙ length-append _ _
+          ∙ ap (λ n. length (reported rules (headed h a)) + n) (length-map _ _)
 
   -- the first part is refused
   module _ (b : List ℕ) where
@@ -159,15 +159,12 @@ module _ (rules : Rules) (h a : List ℕ) (cut : IsCut h a) where
         → (ending rules (headed h (a ++ b)) ≡ ending rules (headed h a))
         × (good rules (headed h (a ++ b)) ≡ good rules (headed h a))
     part-stays e refused =
-        let first = ended_line h ∷ lines a in
-        let all : ending rules (headed h (a ++ b)) ≡ e =
-        ending-refused rules (lines (headed h (a ++ b))) e
-        (rw (all-lines b) (refusal-stays rules [] first (lines b) e refused)) in
-        let front : ending rules (headed h a) ≡ e =
-        ending-refused rules (lines (headed h a)) e (rw front-lines refused) in (
-          all ∙ sym front,
-          ap (λ z. good_from rules [] z) (all-lines b)
-              ∙ (good-stays rules [] first (lines b) e refused ∙ ap (λ z. good_from rules [] z) (sym front-lines)),
+        let first = ended_line h ∷ lines a in (
+          ending-refused rules (lines (headed h (a ++ b))) e
+              (rw (all-lines b) (refusal-stays rules [] first (lines b) e refused))
+              ∙ sym (ending-refused rules (lines (headed h a)) e (rw front-lines refused)),
+          ap (good_from rules []) (all-lines b)
+              ∙ good-stays rules [] first (lines b) e refused ∙ ap (good_from rules []) (sym front-lines),
         )
 
     pub refused-stays : ¬ (ending rules (headed h a) ≡ Complete)
@@ -178,7 +175,7 @@ module _ (rules : Rules) (h a : List ℕ) (cut : IsCut h a) where
         go : (o : Option End) → refusal_in rules (ended_line h ∷ lines a) ≡ o
             → (ending rules (headed h (a ++ b)) ≡ ending rules (headed h a))
             × (good rules (headed h (a ++ b)) ≡ good rules (headed h a))
-        go None is = absurd (refused (ap (λ z. ending_of rules z) front-lines ∙ ap (λ o. unwrap_or o Complete) is))
+        go None is = absurd (refused (ap (ending_of rules) front-lines ∙ ap (λ o. unwrap_or o Complete) is))
         go (Some e) is = part-stays e is
 
 -- ---- what is held at most
@@ -195,7 +192,7 @@ pub contents-parts : (a b : List ℕ) → whole a ≡ a → contents (a ++ b) �
 contents-parts a b w = ap (map (λ l. l.content)) (lines-parts a b w) ∙ map-append (λ l. l.content) (lines a) (lines b)
 
 pub first-headed : (h s : List ℕ) → NoLf h → first_content (headed h s) ≡ h
-first-headed h s free = rw (closed-ended h s free) refl
+first-headed h s free = rw (closed-ended)
 
 -- of a header, and contents behind it
 peaks_behind : LimitPair → List ℕ → List (List ℕ) → Peaks
@@ -208,7 +205,7 @@ peaks_behind limits h cs = record {
 module _ (limits : LimitPair) (h : List ℕ) where
   exact-headed : (s : List ℕ) → NoLf h → exact_peaks limits (headed h s) ≡ peaks_behind limits h (contents s)
   unfolding peaks_behind
-  exact-headed s free = rw (first-headed h s free, contents-headed h s free) refl
+  exact-headed s free = rw (first-headed, contents-headed)
 
   -- of more contents
   peaks-two : (cs ds : List (List ℕ))
@@ -216,9 +213,9 @@ module _ (limits : LimitPair) (h : List ℕ) where
   unfolding peaks_behind
   peaks-two cs ds =
       same-peaks _ _ _ _ _ _
-      (omega (arith, greatest-two (held_length limits) cs ds))
-      (omega (arith, greatest-two (tree_size limits) cs ds))
-      (omega (arith, greatest-two (tree_nest limits) cs ds))
+      (omega (arith, greatest-two))
+      (omega (arith, greatest-two))
+      (omega (arith, greatest-two))
 
   pub exact-parts : (a b : List ℕ) → IsCut h a
       → exact_peaks limits (headed h (a ++ b)) ≡ greater_peaks (exact_peaks limits (headed h a))
@@ -227,9 +224,9 @@ module _ (limits : LimitPair) (h : List ℕ) where
       grind (
         arith,
         nat_tests,
-        exact-headed (a ++ b) cut.header,
-        contents-parts a b cut.lines,
-        peaks-two (contents a) (contents b),
-        exact-headed a cut.header,
-        exact-headed b cut.header,
+        exact-headed,
+        contents-parts,
+        peaks-two,
+        exact-headed,
+        exact-headed,
       )

@@ -1,20 +1,21 @@
 -- How a splitter advances over a piece, and where it stops.
-use Rattle.cj_stream.proofs.Common.{Bool, End, Err, Invalid, IsLeft, Item, JudgedAs, LimitPair, LineTooLong, List, Memory, NoLf, Ok, Reading, Reads, Reason, Refused, Result, Rules, Handles, SinkContract, Some, Stops, Stores, TookMore, Unstored, Verdict, WriteFault, [], ap, append-nil, append_assoc, arith, begun, begun_of, closed, ended_line, false, further, is_kept, is_lenient, judged_next, kept_of, length, length-append, lines, long_line, map, nat_tests, next_verdict, refl, ruling_after, rulings, rulings_closed, slice_get, subst, sym, begun_verdict, true, with_sink, ℕ, ◌++◌, ◌+◌, ◌<◌, ◌∙◌, ◌∷◌, ◌≡◌}
+use Rattle.cj_stream.proofs.Common.{Bool, End, Err, Invalid, IsLeft, Item, JudgedAs, LimitPair, LineTooLong, List, Memory, NoLf, Ok, Reading, Reads, Reason, Refused, Result, Rules, Handles, SinkContract, Stops, Stores, TookMore, Unstored, Verdict, WriteFault, [], ap, append-nil, append_assoc, arith, begun, begun_of, closed, ended_line, false, further, is_kept, is_lenient, judged_next, kept_of, length, length-append, long_line, map, nat_tests, next_verdict, refl, ruling_after, rulings, rulings_closed, subst, sym, begun_verdict, true, with_sink, ℕ, ◌++◌, ◌+◌, ◌<◌, ◌∙◌, ◌∷◌, ◌≡◌}
 use Rattle.std.proofs.Common.{ltb}
 use Rattle.cj_stream.specs.Reading.{IsBegun, Advances, IsNext, HasCause, stop_at}
-use Rattle.cj_stream.proofs.LineLemmas.{closed-more, begun-more, closed-lf, begun-lf, none-from_length}
+use Rattle.cj_stream.proofs.LineLemmas.{closed-more, begun-more, closed-lf, begun-lf}
 use Rattle.cj_stream.proofs.VerdictLemmas.{verdict-long}
 use Rattle.cj_stream.proofs.ReadingLemmas.{left-same, strict-first, Reads-left, Reads-stored, Reads-ended, held-whole, dropped-long, said-verdict, closed-next, map_lines-append}
 use Rattle.cj_stream.proofs.TookLemmas.{More-none, More-then, over-kept}
 use Rattle.cj_stream.proofs.HandledLemmas.{Came, ended, refused, failed, lacked, came}
 use Rattle.cj_stream.proofs.EngineLemmas.{next-line}
+use Rattle.std.proofs.lemmas.List.{nil_from_length}
 
 module _ {S : Type 0} (law : SinkContract S) where
   -- nothing was put where no line was ended
   pub Puts-none : (rules : Rules) (p q : List ℕ) (s : S) → closed q ≡ closed p
       → TookMore law.takes kept_of (rulings_closed rules p) (rulings_closed rules q) s s
   Puts-none rules p q s e =
-      More-none law.takes over-kept (rulings_closed rules p) (rulings_closed rules q) s s
+      More-none _ over-kept _ _ s s
       (ap (λ cs. rulings rules [] (map ended_line cs)) e) refl
 
   pub Advances-none : {f : Reading} {s : S} {p : List ℕ} → Reads f p
@@ -22,7 +23,7 @@ module _ {S : Type 0} (law : SinkContract S) where
   Advances-none {f} {s} {p} h = record {
     rules = refl;
     reads = rw (append-nil p) h;
-    puts = Puts-none f.rules p (p ++ []) s (ap closed (append-nil p));
+    puts = Puts-none _ p (p ++ []) s (ap closed (append-nil p));
   }
 
   pub Advances-then : {f g h : Reading} {s t u : S} {p a b : List ℕ}
@@ -33,16 +34,15 @@ module _ {S : Type 0} (law : SinkContract S) where
     rules = y.rules ∙ x.rules;
     reads = rw (← append_assoc p a b) y.reads;
     puts =
-        let k = rw x.rules at y.puts in
-        rw (← append_assoc p a b) (More-then law.takes over-kept x.puts k);
+        rw (← append_assoc p a b) (More-then _ over-kept x.puts (rw x.rules at y.puts));
   }
 
   pub Advances-stored : {f g : Reading} {s : S} {p part : List ℕ} → Reads f p → NoLf part → Stores f part g
       → Advances law (further p part) (with_sink f s) (with_sink g s)
   Advances-stored {f} {g} {s} {p} {part} h n st = record {
     rules = st.rules;
-    reads = Reads-stored f g p part h st n;
-    puts = Puts-none f.rules p (p ++ part) s (closed-more p part n);
+    reads = Reads-stored f g p _ h st n;
+    puts = Puts-none _ p (p ++ part) s (closed-more p _ n);
   }
 
   -- the begun line, of which this came, ended
@@ -51,10 +51,10 @@ module _ {S : Type 0} (law : SinkContract S) where
       → Advances law (further p (10 ∷ [])) (with_sink g s) (with_sink h t)
   advanced g h s t p r reads (ended put refuses x fine k bad took) ok = record {
     rules = x.rules;
-    reads = Reads-ended g h p put refuses reads x fine k bad;
+    reads = Reads-ended g h p _ _ reads x fine k bad;
     puts = record {
       done = ruling_after g.rules (map ended_line (closed p)) (ended_line (begun p)) ∷ [];
-      grown = closed-next g.rules p;
+      grown = closed-next _ p;
       took = took;
     };
   }
@@ -68,8 +68,7 @@ module _ {S : Type 0} (law : SinkContract S) where
       → Handles law (judged_next g on (next_verdict g c) (record { content = c; lf = lf })) (with_sink g s) r
       (with_sink h t)
   Handles-begun on g h s t c lf r is d = go g.dropped refl
-      (subst (λ v. Handles law (judged_next g on v (record { content = begun_of g; lf = lf })) (with_sink g s) r
-      (with_sink h t)) (said-verdict g c is) d)
+      (rw (said-verdict g c is) at d)
     where
       no-item : (x : Item) (place : ℕ) (reason : Reason) (v : Verdict) → v ≡ Invalid place reason
           → Handles law (JudgedAs (g.lines + 1) on v x) (with_sink g s) r (with_sink h t)
@@ -83,9 +82,8 @@ module _ {S : Type 0} (law : SinkContract S) where
           (with_sink h t)
       go true dropped k =
           no-item _ g.rules.limits.line LineTooLong (next_verdict g c)
-          (verdict-long g.rules _ _ c (dropped-long g c is dropped)) k
-      go false held k = subst (λ x. Handles law (judged_next g on (next_verdict g c) (record { content = x; lf = lf }))
-          (with_sink g s) r (with_sink h t)) (held-whole g c is held).0 k
+          (verdict-long _ _ _ c (dropped-long g c is dropped)) k
+      go false held k = rw (held-whole g c is held).0 at k
 
   -- what came of the first line, which nothing goes on after if it is refused
   pub Handles-first : (g h : Reading) (s t : S) (v : Verdict) (i : Item) (r : Result (Unit {0}) End) → g.lines ≡ 0
@@ -102,9 +100,9 @@ module _ {S : Type 0} (law : SinkContract S) where
       → Advances law (further p (part ++ 10 ∷ [])) (with_sink f s) (with_sink h t)
   Advances-line {f} {g} {h} {s} {t} {p} {part} {r} reads n st d ok =
       let a = Advances-stored {s = s} reads n st in
-      let said = Handles-begun (is_lenient g) g h s t (begun (p ++ part)) true r a.reads.begun d in
-      let now = came law g h s t (p ++ part) a.reads (ended_line (begun (p ++ part))) r said in
-      Advances-then a (advanced g h s t (p ++ part) r a.reads now ok)
+      let now = came _ g h s t (p ++ part) a.reads _ r (Handles-begun (is_lenient g) g h s t (begun (p ++ part)) true r
+      a.reads.begun d) in
+      Advances-then a (advanced g h s t _ r a.reads now ok)
 
   pub Stops-later : {f g h : Reading} {s t u : S} {p a b : List ℕ} {e : End}
       → Advances law (further p a) (with_sink f s) (with_sink g t)
@@ -118,9 +116,8 @@ module _ {S : Type 0} (law : SinkContract S) where
     rules = y.rules ∙ x.rules;
     reads = rw (← append_assoc p a y.done) y.reads;
     puts =
-        let k = rw x.rules at y.puts in
-        rw (← append_assoc p a y.done) (More-then law.takes over-kept x.puts k);
-    cause = let k = rw x.rules at y.cause in rw (← append_assoc p a y.done, ← append_assoc p a b) k;
+        rw (← append_assoc p a y.done) (More-then _ over-kept x.puts (rw x.rules at y.puts));
+    cause = rw (← append_assoc p a y.done, ← append_assoc p a b) (rw x.rules at y.cause);
   }
 
   IsNext-ended : (limits : LimitPair) (p part more : List ℕ)
@@ -129,9 +126,9 @@ module _ {S : Type 0} (law : SinkContract S) where
     map ended_line (closed more) ++ long_line limits (begun more),
     rw (
       ← append_assoc p part (10 ∷ more),
-      closed-lf (p ++ part) more,
-      begun-lf (p ++ part) more,
-      map_lines-append (closed (p ++ part)) (begun (p ++ part) ∷ closed more),
+      closed-lf,
+      begun-lf,
+      map_lines-append,
     )
         (append_assoc (map ended_line (closed (p ++ part)))
         (ended_line (begun (p ++ part)) ∷ map ended_line (closed more)) (long_line limits (begun more))),
@@ -141,13 +138,13 @@ module _ {S : Type 0} (law : SinkContract S) where
       → long_line limits c ≡ record { content = c; lf = false } ∷ []
   long_line-long limits [] h = absurd (omega arith)
   long_line-long limits (b ∷ c) h = let e : ltb limits.line (length (b ∷ c)) ≡ true = grind (arith, nat_tests) in
-      rw e refl
+      rw e
 
   IsNext-long : (limits : LimitPair) (p part : List ℕ) → NoLf part → limits.line < length (begun p ++ part)
       → IsNext limits p (p ++ part) (record { content = begun p ++ part; lf = false })
   IsNext-long limits p part n long = (
     [],
-    rw (closed-more p part n, begun-more p part n, long_line-long limits (begun p ++ part) long) refl,
+    rw (closed-more, begun-more, long_line-long),
   )
 
   Unstored-cause : (f : Reading) (s : S) (p part q : List ℕ) (lf : Bool) (e : End) → Reads f p → Unstored f part e
@@ -177,15 +174,15 @@ module _ {S : Type 0} (law : SinkContract S) where
     cut = refl;
     rules = refl;
     reads = rw (append-nil p) reads;
-    puts = Puts-none f.rules p (p ++ []) s (ap closed (append-nil p));
+    puts = Puts-none _ p (p ++ []) s (ap closed (append-nil p));
     cause = rw (append-nil p) cause;
   }
 
   -- a part that is not stored, and an LF comes after it
   pub Stops-unstored : {f : Reading} {s : S} {p : List ℕ} (part more : List ℕ) {e : End} → Reads f p → NoLf part
       → Unstored f part e → Stops law (further p (part ++ 10 ∷ more)) (with_sink f s) e (with_sink f s)
-  Stops-unstored {f} {s} {p} part more {e} reads n u = stopped f s p (part ++ 10 ∷ more) e reads
-      (Unstored-cause f s p part (p ++ (part ++ 10 ∷ more)) true e reads u (λ _. next))
+  Stops-unstored {f} {s} {p} part more {e} reads n u = stopped f s p _ e reads
+      (Unstored-cause f s p _ (p ++ (part ++ 10 ∷ more)) _ e reads u (λ _. next))
     where
       next : IsNext f.rules.limits p (p ++ (part ++ 10 ∷ more)) (ended_line (begun p ++ part))
       next = let k = IsNext-ended f.rules.limits p part more in rw (closed-more p part n, begun-more p part n) at k
@@ -193,8 +190,8 @@ module _ {S : Type 0} (law : SinkContract S) where
   -- the last part is not stored
   pub Stops-unstored_last : {f : Reading} {s : S} {p part : List ℕ} {e : End} → Reads f p → NoLf part
       → Unstored f part e → Stops law (further p part) (with_sink f s) e (with_sink f s)
-  Stops-unstored_last {f} {s} {p} {part} {e} reads n u = stopped f s p part e reads
-      (Unstored-cause f s p part (p ++ part) false e reads u (λ long. IsNext-long f.rules.limits p part n long))
+  Stops-unstored_last {f} {s} {p} {part} {e} reads n u = stopped f s p _ e reads
+      (Unstored-cause f s p _ (p ++ part) _ e reads u (IsNext-long f.rules.limits p part n))
 
   -- the begun line, of which this came, is the end
   caused : (g h : Reading) (s t : S) (p q : List ℕ) (r : Result (Unit {0}) End) (e : End) → Reads g p
@@ -209,16 +206,15 @@ module _ {S : Type 0} (law : SinkContract S) where
       let is : e ≡ WriteFault = cc in (left, rw is (ended_line (begun p), next, ap is_kept v, leaves))
   caused g h s t p q r e reads next (lacked v none lf left still) err =
       let is : e ≡ Memory = cc in
-      let empty : closed p ≡ [] = none-from_length (closed p) (sym reads.lines ∙ none) in
-      let first = next-line g.rules.limits g.lines p q (ended_line (begun p)) next reads.lines in (
+      let first = next-line g.rules.limits _ p q _ next reads.lines in (
         left,
         rw is (
           still,
           record {
             none = none;
             header = begun p;
-            first = subst (λ k. slice_get (lines q) k ≡ Some (ended_line (begun p))) none first;
-            valid = rw empty at v;
+            first = rw none at first;
+            valid = rw (nil_from_length (closed p) (sym reads.lines ∙ none)) at v;
           },
         ),
       )

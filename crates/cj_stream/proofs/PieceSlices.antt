@@ -7,19 +7,18 @@ use Rattle.cj_stream.proofs.LineLemmas.{NoLf-from_places}
 -- a slice at the first LF that a search found
 pub lf_found : (s : List ℕ) (k : ℕ) → IsFirstByte (is_byte 10) s (Some k) → s ≡ take k s ++ 10 ∷ drop (k + 1) s
 lf_found s k h =
-    let d : drop k s ≡ get_or s k 0 ∷ drop (suc k) s = drop-cons s k 0 (omega (arith, h.0.high)) in
-    let b : get_or s k 0 ≡ 10 = eqb-true (get_or s k 0) 10 h.1 in
     sym (take-append-drop k s)
-    ∙ ap (λ z. take k s ++ z) (d ∙ (ap (λ z. z ∷ drop (suc k) s) b ∙ ap (λ z. 10 ∷ drop z s) (sym (add-one k))))
+    ∙ ap (λ z. take k s ++ z) (drop-cons s k 0 (omega (arith, h.0.high)) ∙ ap (λ z. z ∷ drop (suc k) s)
+    (eqb-true (get_or s k 0) 10 h.1) ∙ ap (λ z. 10 ∷ drop z s) (sym (add-one k)))
 
 -- up to and with it
 pub lf_front : (s : List ℕ) (k : ℕ) → IsFirstByte (is_byte 10) s (Some k) → take (k + 1) s ≡ take k s ++ 10 ∷ []
 lf_front s k h = ap (λ z. take z s) (add-one k)
-    ∙ (take-suc s k 0 h.0.high ∙ ap (λ z. take k s ++ z ∷ []) (eqb-true (get_or s k 0) 10 h.1))
+    ∙ take-suc s k 0 h.0.high ∙ ap (λ z. take k s ++ z ∷ []) (eqb-true _ _ h.1)
 
 pub NoLf-before : (s : List ℕ) (k : ℕ) → IsFirstByte (is_byte 10) s (Some k) → NoLf (take k s)
 NoLf-before s k h =
-    NoLf-from_places (take k s)
+    NoLf-from_places _
     (λ j lt e. h.0.before j (omega arith) (omega (arith, length-take k s))
     (rw (← get_or-take k s j 0 (omega (arith, length-take k s))) e))
 
@@ -28,7 +27,7 @@ NoLf-nowhere s h = NoLf-from_places s (λ j lt e. h j (omega arith) lt e)
 
 -- what is left of a slice after the first k bytes and the LF
 pub left_after : (s : List ℕ) (k : ℕ) → k < length s → take (length s - (k + 1)) (drop (k + 1) s) ≡ drop (k + 1) s
-left_after s k h = take_all (length s - (k + 1)) (drop (k + 1) s) (omega (arith, length-drop (k + 1) s))
+left_after s k h = take_all _ (drop (k + 1) s) (omega (arith, length-drop (k + 1) s))
 
 pub left_length : (s : List ℕ) (k : ℕ) → IsFirstByte (is_byte 10) s (Some k)
     → length (take (length s - (k + 1)) (drop (k + 1) s)) + (k + 1) ≡ length s
@@ -38,8 +37,8 @@ left_length s k h = rw (left_after s k h.0.high) (omega (arith, length-drop (k +
 pub piece_more : (piece done rest : List ℕ) (k : ℕ) → piece ≡ done ++ rest → IsFirstByte (is_byte 10) rest (Some k)
     → piece ≡ (done ++ (take k rest ++ 10 ∷ [])) ++ take (length rest - (k + 1)) (drop (k + 1) rest)
 piece_more piece done rest k e h = rw (left_after rest k h.0.high)
-    (e ∙ (ap (λ z. done ++ z) (lf_found rest k h ∙ sym (append_assoc (take k rest) (10 ∷ []) (drop (k + 1) rest)))
-    ∙ sym (append_assoc done (take k rest ++ 10 ∷ []) (drop (k + 1) rest))))
+    (e ∙ ap (λ z. done ++ z) (lf_found _ k h ∙ sym (append_assoc (take k rest) (10 ∷ []) (drop (k + 1) rest)))
+    ∙ sym (append_assoc done (take k rest ++ 10 ∷ []) (drop (k + 1) rest)))
 
 pub NoLf-not_found : (s : List ℕ) (r : Option ℕ) → IsFirstByte (is_byte 10) s r → ((k : ℕ) → r ≡ Some k → ⊥) → NoLf s
 NoLf-not_found s None h k = NoLf-nowhere s h

@@ -33,7 +33,7 @@ lods = (refl, refl, refl, refl, refl, refl, refl)
 
 pub instance : InstanceRows
 unfolding holds text code_points_after first_code_point first_width chars encode
-instance = (rw whole-zero refl, rw whole-zero refl, refl)
+instance = (rw whole-zero, rw whole-zero, refl)
 
 pub each : EachPartRows
 unfolding holds text code_points_after first_code_point first_width chars encode object_types
@@ -70,7 +70,7 @@ transform = (refl, refl, refl, refl)
 in-box : (t : Tree) (box : Box) (vs : List (List (Option ℤ))) → vertices_of t ≡ vs
     → holds (boxed box) plain_header t ≡ met box vs unit none unit none
 unfolding holds
-in-box t box vs vertices = rw (vertices, transform.0, transform.1, transform.2, transform.3) refl
+in-box t box vs vertices = rw (vertices, transform.0, transform.1, transform.2, transform.3)
 
 abbrev two_vertices : List (List (Option ℤ))
 two_vertices = (Some (pos 0) ∷ Some (pos 0) ∷ Some (pos 1) ∷ []) ∷ (Some (pos 1) ∷ Some (pos 0) ∷ Some (pos 0) ∷ [])
@@ -78,7 +78,7 @@ two_vertices = (Some (pos 0) ∷ Some (pos 0) ∷ Some (pos 1) ∷ []) ∷ (Some
 
 vertices : vertices_of two_objects ≡ two_vertices
 unfolding text code_points_after first_code_point first_width chars encode
-vertices = rw (whole-zero, whole-one) refl
+vertices = rw (whole-zero, whole-one)
 
 no_vertices : vertices_of one_instance ≡ []
 unfolding text code_points_after first_code_point first_width chars encode
@@ -86,16 +86,16 @@ no_vertices = refl
 
 pub within : InBoxRows
 within = (
-  in-box two_objects _ two_vertices vertices,
-  in-box two_objects _ two_vertices vertices,
-  in-box two_objects _ two_vertices vertices,
+  in-box _ _ _ vertices,
+  in-box _ _ _ vertices,
+  in-box _ _ _ vertices,
 )
 
 pub outside : OutOfBoxRows
 outside = (
-  in-box two_objects _ two_vertices vertices,
-  in-box two_objects _ two_vertices vertices,
-  in-box two_objects _ two_vertices vertices,
-  in-box two_objects _ two_vertices vertices,
-  in-box one_instance _ [] no_vertices,
+  in-box _ _ _ vertices,
+  in-box _ _ _ vertices,
+  in-box _ _ _ vertices,
+  in-box _ _ _ vertices,
+  in-box _ _ _ no_vertices,
 )

@@ -2,37 +2,38 @@
 use Rattle.cj_stream.proofs.Common.{AreCounted, Bool, Invalid, IsLeft, IsWithin, Item, LimitPair, Line, LineTooLong, List, NoLf, None, EndsLine, Reading, Reads, Rules, Ruling, Stores, Tree, [], ap, append-nil, arith, begun, begun_after, begun_later, begun_of, closed, cond, ended_line, false, filter, filter-append, first_content, first_of, flat_map-append, goes_on, greatest, header_of, held_length, inl, inr, is_feature, is_lenient, item_after, item_at, kept_of, later_of, length, length-append, length-map, map, map-append, max, nat_lt, nat_tests, next_item, next_verdict, refl, reported_of, ruling_after, rulings, rulings_closed, suc, sym, begun_verdict, true, verdict, verdict_at, zero, ℕ, ◌&&◌, ◌++◌, ◌+◌, ◌<◌, ◌∙◌, ◌∷◌, ◌≡◌, ◌≤◌, ◌⊎◌}
 use Rattle.std.proofs.Common.{eqb, ltb, ltb-true}
 use Rattle.cj_stream.specs.Reading.{held_header, stored, IsBegun, Fits, Drops, StaysDropped}
-use Rattle.cj_stream.proofs.LineLemmas.{closed-more, begun-more, closed-lf, begun-lf, first_of-some, first_of-lf, begun_after-some, begun_after-empty, none-from_length}
+use Rattle.cj_stream.proofs.LineLemmas.{closed-more, begun-more, closed-lf, begun-lf, first_of-some, first_of-lf, begun_after-some, begun_after-empty}
 use Rattle.cj_stream.proofs.VerdictLemmas.{verdict-first, verdict-long}
 use Rattle.cj_stream.proofs.RulingLemmas.{end-append, kept_of-append, rulings-next}
+use Rattle.std.proofs.lemmas.List.{nil_from_length}
 
 pub zero_or : (n : ℕ) → (n ≡ 0) ⊎ (0 < n)
 zero_or zero = inl refl
 zero_or (suc n) = inr (omega arith)
 
 pub begun_of-first : (f : Reading) → f.lines ≡ 0 → begun_of f ≡ f.header.elements
-begun_of-first f h = rw h refl
+begun_of-first f h = rw h
 
 pub begun_of-later : (f : Reading) → 0 < f.lines → begun_of f ≡ f.line.elements
-begun_of-later f h = let e : eqb f.lines 0 ≡ false = grind (arith, nat_tests) in rw e refl
+begun_of-later f h = let e : eqb f.lines 0 ≡ false = grind (arith, nat_tests) in rw e
 
 -- nothing goes on after the first line, if it is refused
 pub strict-first : (f : Reading) → f.lines ≡ 0 → is_lenient f ≡ false
-strict-first f h = rw h refl
+strict-first f h = rw h
 
 -- ---- what is held of a content
 
 pub stored-short : (limit : ℕ) (c : List ℕ) → length c ≤ limit → (stored limit c ≡ c) × (ltb limit (length c) ≡ false)
-stored-short limit c short = let e : ltb limit (length c) ≡ false = grind (arith, nat_tests) in (rw e refl, e)
+stored-short limit c short = let e : ltb limit (length c) ≡ false = grind (arith, nat_tests) in (rw e, e)
 
 pub stored-long : (limit : ℕ) (c : List ℕ) → limit < length c → (stored limit c ≡ []) × (ltb limit (length c) ≡ true)
-stored-long limit c long = let e : ltb limit (length c) ≡ true = grind (arith, nat_tests) in (rw e refl, e)
+stored-long limit c long = let e : ltb limit (length c) ≡ true = grind (arith, nat_tests) in (rw e, e)
 
 pub short-from : (limit n : ℕ) → ltb limit n ≡ false → n ≤ limit
 short-from limit n e = grind (arith, nat_tests)
 
 pub long-from : (limit n : ℕ) → ltb limit n ≡ true → limit < n
-long-from limit n e = ltb-true limit n e
+long-from limit n e = ltb-true _ n e
 
 pub greatest-held : (limits : LimitPair) (cs : List (List ℕ)) → greatest (held_length limits) cs ≤ limits.line
 greatest-held limits [] = omega arith
@@ -43,19 +44,15 @@ pub goes_on-later : (rules : Rules) (n : ℕ) → goes_on rules (n + 1) ≡ true
 goes_on-later rules n e =
     grind (arith, nat_tests)
 
-pub true-false : (b : Bool) → b ≡ true → b ≡ false → ⊥
-true-false true x y = cc
-true-false false x y = cc
-
 -- the begun line is held whole where it is not dropped
 pub held-whole : (f : Reading) (c : List ℕ) → IsBegun f c → f.dropped ≡ false → (begun_of f ≡ c)
     × (length c ≤ f.rules.limits.line)
 held-whole f c is held =
-    let short : length c ≤ f.rules.limits.line = short-from f.rules.limits.line (length c) (sym is.dropped ∙ held) in
-    (is.content ∙ (stored-short f.rules.limits.line c short).0, short)
+    let short = short-from _ _ (sym is.dropped ∙ held) in
+    (is.content ∙ (stored-short _ c short).0, short)
 
 pub dropped-long : (f : Reading) (c : List ℕ) → IsBegun f c → f.dropped ≡ true → f.rules.limits.line < length c
-dropped-long f c is dropped = long-from f.rules.limits.line (length c) (sym is.dropped ∙ dropped)
+dropped-long f c is dropped = long-from _ _ (sym is.dropped ∙ dropped)
 
 -- whether a line has begun
 pub has-begun : (f : Reading) (c : List ℕ) → IsBegun f c → (0 < length (begun_of f)) ⊎ (f.dropped ≡ true) → 0 < length c
@@ -69,7 +66,7 @@ said-verdict f c is = go f.dropped refl
   where
     go : (b : Bool) → f.dropped ≡ b
         → cond f.dropped (Invalid f.rules.limits.line LineTooLong) (next_verdict f (begun_of f)) ≡ next_verdict f c
-    go true d = rw d (sym (verdict-long f.rules (f.lines + 1) (held_header f) c (dropped-long f c is d)))
+    go true d = rw d (sym (verdict-long _ _ _ c (dropped-long f c is d)))
     go false d = rw d (ap (next_verdict f) (held-whole f c is d).0)
 
 -- ---- a part of a line
@@ -144,19 +141,18 @@ module _ (f g : Reading) (p part : List ℕ) (h : Reads f p) (s : Stores f part 
       before = rw (begun_after-some (closed p) (begun p) some) at h.line_peak
 
       joined : length (begun p ++ part) ≡ length (begun p) + length part
-      joined = length-append (begun p) part
+      joined = length-append _ _
 
       go : Fits f part g ⊎ Drops f part g ⊎ StaysDropped f g
           → g.line.peak ≡ max (greatest (held_length f.rules.limits) (later_of (closed p)))
           (held_length f.rules.limits (begun p ++ part))
       go (inl w) =
-          let whole = held-whole f (begun p) h.begun w.held in
-          let held : length f.line.elements ≡ length (begun p) = ap length (sym (begun_of-later f z) ∙ whole.0) in
+          let whole = held-whole f _ h.begun w.held in
           omega (
             arith,
             (w.later z).0.peak,
             before,
-            held,
+            (ap length (sym (begun_of-later f z) ∙ whole.0)),
             w.short,
             ap length whole.0,
             length-append f.line.elements part,
@@ -180,7 +176,7 @@ module _ (f g : Reading) (p part : List ℕ) (h : Reads f p) (s : Stores f part 
 
   pub Reads-stored : NoLf part → Reads g (p ++ part)
   Reads-stored n = record {
-    lines = s.lines ∙ (h.lines ∙ ap length (sym more));
+    lines = s.lines ∙ h.lines ∙ ap length (sym more);
     begun = rw (begun-more p part n) IsBegun-stored;
     lenient = lenient-stored;
     header = header (zero_or f.lines);
@@ -200,7 +196,7 @@ module _ (f g : Reading) (p part : List ℕ) (h : Reads f p) (s : Stores f part 
 
       header : (f.lines ≡ 0) ⊎ (0 < f.lines) → g.header.elements ≡ first_content (p ++ part)
       header (inl z) =
-          let none : closed p ≡ [] = none-from_length (closed p) (sym h.lines ∙ z) in
+          let none : closed p ≡ [] = nil_from_length (closed p) (sym h.lines ∙ z) in
           let w = first-fits z in
           let whole = held-whole f (begun p) h.begun w.held in
           rw (more, begun-more p part n, none)
@@ -211,7 +207,7 @@ module _ (f g : Reading) (p part : List ℕ) (h : Reads f p) (s : Stores f part 
 
       line : (f.lines ≡ 0) ⊎ (0 < f.lines) → g.line.elements ≡ stored g.rules.limits.line (begun_later (p ++ part))
       line (inl z) =
-          let none : closed p ≡ [] = none-from_length (closed p) (sym h.lines ∙ z) in
+          let none : closed p ≡ [] = nil_from_length (closed p) (sym h.lines ∙ z) in
           let before = rw none at h.line in
           rw (more, none) (ap (λ x. x.elements) ((first-fits z).first z).1
           ∙ (before ∙ ((stored-short f.rules.limits.line [] (omega arith)).0 ∙ sym nothing)))
@@ -229,7 +225,7 @@ module _ (f g : Reading) (p part : List ℕ) (h : Reads f p) (s : Stores f part 
           → g.line.peak ≡ max (greatest (held_length g.rules.limits) (later_of (closed (p ++ part))))
           (held_length g.rules.limits (begun_later (p ++ part)))
       line_peak (inl z) =
-          let none : closed p ≡ [] = none-from_length (closed p) (sym h.lines ∙ z) in
+          let none : closed p ≡ [] = nil_from_length (closed p) (sym h.lines ∙ z) in
           let before = rw none at h.line_peak in
           rw (more, none, s.rules) (ap (λ x. x.peak) ((first-fits z).first z).1 ∙ before)
       line_peak (inr z) =
@@ -260,7 +256,7 @@ Reads-left f g p left h = rw left.same (record {
 })
 
 pub length-map_lines : (cs : List (List ℕ)) → length (map ended_line cs) ≡ length cs
-length-map_lines cs = length-map cs ended_line
+length-map_lines cs = length-map _ _
 
 pub map_lines-append : (cs ds : List (List ℕ)) → map ended_line (cs ++ ds) ≡ map ended_line cs ++ map ended_line ds
 map_lines-append cs ds = map-append ended_line cs ds
@@ -272,7 +268,7 @@ module _ (f : Reading) (p : List ℕ) (h : Reads f p) where
   before = map ended_line (closed p)
 
   number : f.lines + 1 ≡ length (map ended_line (closed p)) + 1
-  number = omega (arith, h.lines, length-map_lines (closed p))
+  number = omega (arith, length-map_lines)
 
   -- what hangs on its number and, if it is not the first, on the header, by what is held and by the lines before it
   next-same : {X : Type 0} (say : ℕ → Tree → X) → ((x y : Tree) → say 1 x ≡ say 1 y)
@@ -284,11 +280,11 @@ module _ (f : Reading) (p : List ℕ) (h : Reads f p) where
           → say (length (map ended_line (closed p)) + 1) (held_header f)
           ≡ say (length (map ended_line (closed p)) + 1) (header_of f.rules (map ended_line (closed p)))
       go [] e = rw e (first _ _)
-      go (d ∷ ds) e = rw (h.header, e) refl
+      go (d ∷ ds) e = rw (h.header, e)
 
   -- so its verdict, and the item that it is
   pub next-verdict : (c : List ℕ) → next_verdict f c ≡ verdict f.rules (map ended_line (closed p)) c
-  next-verdict c = next-same (λ n x. verdict_at f.rules n x c) (λ x y. verdict-first f.rules x y c)
+  next-verdict c = next-same (λ n x. verdict_at f.rules n x c) (λ x y. verdict-first _ x y c)
 
   pub next-item : (l : Line) → next_item f l ≡ item_after f.rules (map ended_line (closed p)) l
   next-item l = next-same (λ n x. item_at f.rules.limits.depth n x l) (λ x y. refl)
@@ -299,16 +295,16 @@ module _ (f : Reading) (p : List ℕ) (h : Reads f p) where
 pub closed-next : (rules : Rules) (p : List ℕ) → rulings_closed rules (p ++ 10 ∷ []) ≡ rulings_closed rules p
     ++ ruling_after rules (map ended_line (closed p)) (ended_line (begun p)) ∷ []
 closed-next rules p =
-    ap (λ cs. rulings rules [] (map ended_line cs)) (closed-lf p [])
-    ∙ (ap (rulings rules []) (map_lines-append (closed p) (begun p ∷ []))
-    ∙ rulings-next rules (map ended_line (closed p)) (ended_line (begun p)))
+    ap (λ cs. rulings rules [] (map ended_line cs)) (closed-lf p _)
+    ∙ ap (rulings rules []) (map_lines-append _ _)
+    ∙ rulings-next _ _ _
 
 -- one item more, if it is put, is one feature more, if it is no header
 count-feature : (put later : Bool) (i : Item) (n : ℕ) (xs : List Item) → is_feature i ≡ later
     → n ≡ length (filter is_feature xs)
     → cond (put && later) (n + 1) n ≡ length (filter is_feature (xs ++ cond put (i ∷ []) []))
 count-feature true true i n xs e h =
-    rw (filter-append is_feature xs (i ∷ []), e) (omega (arith, h, length-append (filter is_feature xs) (i ∷ [])))
+    rw (filter-append, e) (omega (arith, length-append (filter is_feature xs) (i ∷ [])))
 count-feature true false i n xs e h = rw (filter-append is_feature xs (i ∷ []), e, append-nil (filter is_feature xs)) h
 count-feature false later i n xs e h = rw (append-nil xs) h
 
@@ -319,7 +315,7 @@ after-feature rules [] l = refl
 after-feature rules (x ∷ xs) l =
     let no_header : eqb (suc (length xs) + 1) 1 ≡ false = grind (arith, nat_tests) in
     let later : nat_lt 0 (suc (length xs)) ≡ true = grind (arith, nat_tests) in
-    rw (no_header, later) refl
+    rw (no_header, later)
 
 -- so many more, or not
 count-more : (b : Bool) (n : ℕ) → cond b (n + 1) n ≡ n + cond b 1 0
@@ -335,11 +331,11 @@ pub Counted-next : (f g : Reading) (xs : List Line) (l : Line) (put refused : Bo
 Counted-next f g xs l put refused n h s fine k bad =
     let r = ruling_after f.rules xs l in
     let rs = rulings f.rules [] xs in
-    rw (rulings-next f.rules xs l) (record {
-      good = rw (end-append (rulings f.rules [] xs) (r ∷ []), h.good, fine) refl;
+    rw (rulings-next) (record {
+      good = rw (end-append, h.good, fine);
       kept =
-          rw (s.kept, kept_of-append (rulings f.rules [] xs) (r ∷ []), ← k, n)
-          (count-feature put (nat_lt 0 (length xs)) (item_after f.rules xs l) f.kept (kept_of rs)
+          rw (s.kept, kept_of-append, ← k, n)
+          (count-feature _ _ (item_after f.rules xs l) _ (kept_of rs)
           (after-feature f.rules xs l) h.kept);
       refused =
           omega (
@@ -378,29 +374,29 @@ pub Reads-ended : (f g : Reading) (p : List ℕ) (put refused : Bool) → Reads 
     → length (ruling_after f.rules (map ended_line (closed p)) (ended_line (begun p))).reports ≡ cond refused 1 0
     → Reads g (p ++ 10 ∷ [])
 Reads-ended f g p put refused h s fine k bad = record {
-  lines = rw (closed-lf p [], s.lines, h.lines) (sym (length-append (closed p) (begun p ∷ [])));
-  begun = rw (begun-lf p [])
+  lines = rw (closed-lf, s.lines, h.lines) (sym (length-append _ _));
+  begun = rw (begun-lf)
       (record {
-        content = begun_of-later g (omega (arith, s.lines)) ∙ (s.line.elements ∙ sym nothing.0);
+        content = begun_of-later g (omega arith) ∙ s.line.elements ∙ sym nothing.0;
         dropped = s.dropped ∙ sym nothing.1;
       });
-  lenient = λ d. absurd (true-false g.dropped d s.dropped);
-  header = rw (closed-lf p [], begun-lf p [], s.header) (h.header ∙ sym (first_of-lf (closed p) (begun p)));
-  line = rw (closed-lf p [], begun-lf p [], begun_after-empty (closed p ++ begun p ∷ []))
+  lenient = λ d. cc;
+  header = rw (closed-lf, begun-lf, s.header) (h.header ∙ sym (first_of-lf (closed p) (begun p)));
+  line = rw (closed-lf, begun-lf, begun_after-empty)
       (s.line.elements ∙ sym nothing.0);
   counted =
-      rw (closed-lf p [], map_lines-append (closed p) (begun p ∷ []), s.rules)
-      (Counted-next f g (map ended_line (closed p)) (ended_line (begun p)) put refused
-      (h.lines ∙ sym (length-map_lines (closed p))) h.counted s fine k bad);
+      rw (closed-lf, map_lines-append, s.rules)
+      (Counted-next f g _ _ _ _
+      (h.lines ∙ sym (length-map_lines _)) h.counted s fine k bad);
   peak = rw s.header h.peak;
   line_peak =
-      rw (closed-lf p [], begun-lf p [], begun_after-empty (closed p ++ begun p ∷ []), s.rules)
-      (s.line.peak ∙ (ap (λ n. max n 0) h.line_peak
-      ∙ (max-zero _ ∙ sym (greatest-later (held_length f.rules.limits) (held-nothing f.rules.limits) (closed p)
-      (begun p)))));
+      rw (closed-lf, begun-lf, begun_after-empty, s.rules)
+      (s.line.peak ∙ ap (λ n. max n 0) h.line_peak
+      ∙ max-zero _ ∙ sym (greatest-later _ (held-nothing f.rules.limits) _
+      _));
   header_within = rw s.header h.header_within;
   line_within = s.line.within;
 }
   where
     nothing : (stored g.rules.limits.line [] ≡ []) × (ltb g.rules.limits.line 0 ≡ false)
-    nothing = stored-short g.rules.limits.line [] (omega arith)
+    nothing = stored-short _ _ (omega arith)

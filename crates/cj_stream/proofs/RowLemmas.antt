@@ -3,7 +3,7 @@ use Rattle.cj_stream.proofs.Common.{Blank, Complete, Gives, IdNotFound, Invalid,
 use lib.Utf8.{encode}
 use Rattle.cj_spans.specs.declared.step.Mode.TheVariants.{After}
 use Rattle.cj_spans.specs.inner.Machine.{State, state, between, settle}
-use Rattle.cj_spans.specs.Preorder.{preorder, spans_of}
+use Rattle.cj_spans.specs.Preorder.{spans_of}
 use Rattle.cj_spans.proofs.Forests.{json_shown}
 use Rattle.cj_spans.proofs.Judgements.{judgement, over, by_step, by_depth, sinks, at_end, by_end, text_of, no_end, ends_at, say_same}
 use Rattle.cj_spans.proofs.Lists.{spans_of-flatten}
@@ -22,9 +22,9 @@ first x y e = cc
 pub spelled-tree : (b : List ℕ) (s : State) (us : List Token) (p : ℕ) (t : Tree) → after b (length b) ≡ Some s
     → settle s ≡ Some (state (between After) [] us (length b) p) → forest b (spans_of us) ≡ t ∷ [] → Json b t
 spelled-tree b s us p t h e f =
-    let z = spells_end b s us p h e in
-    let spans : spans_of us ≡ preorder z.tree = ap spans_of z.tokens ∙ spans_of-flatten 0 z.tree in
-    subst (Json b) (first z.tree t (sym (json_shown b z.tree z.json) ∙ (ap (forest b) (sym spans) ∙ f))) z.json
+    let z = spells_end b s _ p h e in
+    subst (Json b) (first _ t (sym (json_shown b _ z.json)
+    ∙ ap (forest b) (sym (ap spans_of z.tokens ∙ spans_of-flatten 0 z.tree)) ∙ f)) z.json
 
 -- so its judgement has that tree
 module _ {b : List ℕ} {d : ℕ} (t : Tree) (json : Json b t) (shallow : nest t ≤ d) where
@@ -40,21 +40,43 @@ module _ {b : List ℕ} {d : ℕ} (t : Tree) (json : Json b t) (shallow : nest t
   by-tree rules n header (broken i s m) = absurd (say_same (broken i s m) (spelled t json shallow))
   by-tree rules n header (sunk i s) = absurd (say_same (sunk i s) (spelled t json shallow))
 
-pub header_json : Json small_header plain_header
+-- a line of these bytes is a text, and spells this tree, which is not deep
+pub record IsLine (c : List ℕ) (t : Tree) : Type 0 where
+  pub json : Json c t
+  pub shallow : nest t ≤ 64
+  pub is_text : IsUtf8 c
+
+header_json : Json small_header plain_header
 unfolding forest
 header_json = spelled-tree small_header _ _ _ plain_header refl refl refl
 
-pub feature_json : Json small_feature plain_feature.tree
+pub header_line : IsLine small_header plain_header
+unfolding is_utf8 chars encode
+header_line = record { json = header_json; shallow = lit≤ tt; is_text = IsUtf8-from_is_utf8 small_header refl }
+
+feature_json : Json small_feature plain_feature.tree
 unfolding forest
 feature_json = spelled-tree small_feature _ _ _ plain_feature.tree refl refl refl
+
+pub feature_line : IsLine small_feature plain_feature.tree
+unfolding is_utf8 chars encode
+feature_line = record { json = feature_json; shallow = lit≤ tt; is_text = IsUtf8-from_is_utf8 small_feature refl }
 
 euro_json : Json euro_feature euro_tree
 unfolding forest
 euro_json = spelled-tree euro_feature _ _ _ euro_tree refl refl refl
 
+euro_line : IsLine euro_feature euro_tree
+unfolding is_utf8 chars encode
+euro_line = record { json = euro_json; shallow = lit≤ tt; is_text = IsUtf8-from_is_utf8 euro_feature refl }
+
 lost_json : Json lost_feature other_id.tree
 unfolding forest
 lost_json = spelled-tree lost_feature _ _ _ other_id.tree refl refl refl
+
+lost_line : IsLine lost_feature other_id.tree
+unfolding is_utf8 chars encode
+lost_line = record { json = lost_json; shallow = lit≤ tt; is_text = IsUtf8-from_is_utf8 lost_feature refl }
 
 -- ---- verdicts
 
@@ -63,78 +85,60 @@ pub holds-everything : (header t : Tree) → holds everything header t ≡ true
 unfolding holds
 holds-everything header t = refl
 
+abbrev under : ℕ → Rules
+under line = record { limits = record { line = line; depth = 64 }; criteria = everything; options = usual_options }
+
 -- the verdict on a line of this tree
-module _ (n : ℕ) (header : Tree) (c : List ℕ) (t : Tree) (json : Json c t) (shallow : nest t ≤ 64) where
-  abbrev under : ℕ → Rules
-  under line = record { limits = record { line = line; depth = 64 }; criteria = everything; options = usual_options }
-
-  sound : (line : ℕ) → length c ≤ line → IsUtf8 c → nat_lt 1 n && list_all is_blank_byte c ≡ false
-      → verdict_at (under line) n header c ≡ tree_verdict (under line) n header t
-  sound line short is_text full = verdict-json (under line) n header c short is_text full
-      ∙ by-tree t json shallow (under line) n header (judgement c 64)
-
-pub header_text : IsUtf8 small_header
-unfolding is_utf8 chars encode
-header_text = IsUtf8-from_is_utf8 small_header refl
-
-pub feature_text : IsUtf8 small_feature
-unfolding is_utf8 chars encode
-feature_text = IsUtf8-from_is_utf8 small_feature refl
-
-lost_text : IsUtf8 lost_feature
-unfolding is_utf8 chars encode
-lost_text = IsUtf8-from_is_utf8 lost_feature refl
-
-euro_text : IsUtf8 euro_feature
-unfolding is_utf8 chars encode
-euro_text = IsUtf8-from_is_utf8 euro_feature refl
+sound : (n : ℕ) (header : Tree) {c : List ℕ} {t : Tree} → IsLine c t → (most : ℕ) → length c ≤ most
+    → nat_lt 1 n && list_all is_blank_byte c ≡ false
+    → verdict_at (under most) n header c ≡ tree_verdict (under most) n header t
+sound n header {c} {t} line most short full = verdict-json _ n _ c short line.is_text full
+    ∙ by-tree t line.json line.shallow (under most) n header _
 
 -- the trees of the header and of the feature
 pub header_tree : tree_of 64 small_header ≡ plain_header
-header_tree = judged plain_header header_json (lit≤ tt) (judgement small_header 64)
+header_tree = judged _ header_line.json header_line.shallow (judgement small_header 64)
 
 pub feature_tree : tree_of 64 small_feature ≡ plain_feature.tree
-feature_tree = judged plain_feature.tree feature_json (lit≤ tt) (judgement small_feature 64)
+feature_tree = judged _ feature_line.json feature_line.shallow (judgement small_feature 64)
 
 pub header_first : (t : Tree) → verdict_at wide_rules 1 t small_header ≡ Kept
-header_first t = sound 1 t small_header plain_header header_json (lit≤ tt) 8388608 (lit≤ tt) header_text refl
+header_first t = sound 1 t header_line _ (lit≤ tt) refl
     ∙ tree-valid wide_rules 1 t plain_header plain_header-valid refl
 
 pub header_tight : (t : Tree) → verdict_at tight_rules 1 t small_header ≡ Kept
-header_tight t = sound 1 t small_header plain_header header_json (lit≤ tt) 116 (lit≤ tt) header_text refl
+header_tight t = sound 1 t header_line _ (lit≤ tt) refl
     ∙ tree-valid tight_rules 1 t plain_header plain_header-valid refl
 
 euro_second : verdict_at wide_rules 2 (tree_of 64 small_header) euro_feature ≡ Kept
 euro_second =
-    rw header_tree (sound 2 plain_header euro_feature euro_tree euro_json (lit≤ tt) 8388608 (lit≤ tt) euro_text refl
+    rw header_tree (sound 2 _ euro_line _ (lit≤ tt) refl
     ∙ tree-valid wide_rules 2 plain_header euro_tree euro_feature-valid (holds-everything plain_header euro_tree))
 
 feature_second : verdict_at wide_rules 2 (tree_of 64 small_header) small_feature ≡ Kept
 feature_second =
-    rw header_tree (sound 2 plain_header small_feature plain_feature.tree feature_json (lit≤ tt) 8388608
-    (lit≤ tt) feature_text refl
+    rw header_tree (sound 2 _ feature_line _ (lit≤ tt) refl
     ∙ tree-valid wide_rules 2 plain_header plain_feature.tree plain_feature-valid
     (holds-everything plain_header plain_feature.tree))
 
 pub feature_third : verdict_at wide_rules 3 (tree_of 64 small_header) small_feature ≡ Kept
 feature_third =
-    rw header_tree (sound 3 plain_header small_feature plain_feature.tree feature_json (lit≤ tt) 8388608
-    (lit≤ tt) feature_text refl
+    rw header_tree (sound 3 _ feature_line _ (lit≤ tt) refl
     ∙ tree-valid wide_rules 3 plain_header plain_feature.tree plain_feature-valid
     (holds-everything plain_header plain_feature.tree))
 
 pub feature_first : (t : Tree) → verdict_at wide_rules 1 t small_feature ≡ Invalid 0 MissingMember
-feature_first t = sound 1 t small_feature plain_feature.tree feature_json (lit≤ tt) 8388608 (lit≤ tt) feature_text refl
+feature_first t = sound 1 t feature_line _ (lit≤ tt) refl
     ∙ ap (by_least true) feature-no_header
 
 header_second : verdict_at wide_rules 2 (tree_of 64 small_header) small_header ≡ Invalid 0 MissingMember
 header_second =
-    rw header_tree (sound 2 plain_header small_header plain_header header_json (lit≤ tt) 8388608 (lit≤ tt) header_text
-    refl ∙ ap (by_least (is_kept_if_valid wide_rules 2 plain_header plain_header)) header-no_feature)
+    rw header_tree (sound 2 _ header_line _ (lit≤ tt) refl
+    ∙ ap (by_least (is_kept_if_valid wide_rules 2 plain_header plain_header)) header-no_feature)
 
 lost_third : verdict_at wide_rules 3 (tree_of 64 small_header) lost_feature ≡ Invalid 31 IdNotFound
 lost_third =
-    rw header_tree (sound 3 plain_header lost_feature other_id.tree lost_json (lit≤ tt) 8388608 (lit≤ tt) lost_text refl
+    rw header_tree (sound 3 _ lost_line _ (lit≤ tt) refl
     ∙ ap (by_least (is_kept_if_valid wide_rules 3 plain_header other_id.tree)) other_id-refused)
 
 -- what is no JSON text is refused whatever the header
@@ -182,46 +186,46 @@ module _ (rules : Rules) where
           → verdict rules (h ∷ []) l.content ≡ Invalid place reason
           → (ending_of rules (h ∷ l ∷ rest) ≡ Refused 2 place reason) × (written (h ∷ l ∷ rest) ≡ raw h ++ [])
       unfolding verdict_at
-      second-refused on l rest bad = rw (valid, bad, on) (refl, rw valid refl)
+      second-refused on l rest bad = rw (valid, bad, on) (refl, rw valid)
 
       third-refused : goes_on rules 3 ≡ false → (f l : Line) (rest : List Line)
           → verdict rules (h ∷ []) f.content ≡ Kept → verdict rules (h ∷ f ∷ []) l.content ≡ Invalid place reason
           → (ending_of rules (h ∷ f ∷ l ∷ rest) ≡ Refused 3 place reason)
           × (written (h ∷ f ∷ l ∷ rest) ≡ raw h ++ (raw f ++ []))
       unfolding verdict_at
-      third-refused on f l rest good bad = rw (valid, good, bad, on) (refl, rw (valid, good) refl)
+      third-refused on f l rest good bad = rw (valid, good, bad, on) (refl, rw (valid, good))
 
   module _ (h : Line) (valid : verdict rules [] h.content ≡ Kept) where
     pub two-good : (f : Line) → verdict rules (h ∷ []) f.content ≡ Kept → (ending_of rules (h ∷ f ∷ []) ≡ Complete)
         × (written (h ∷ f ∷ []) ≡ raw h ++ (raw f ++ []))
-    two-good f good = rw (valid, good) (refl, rw (valid, good) refl)
+    two-good f good = rw (valid, good) (refl, rw (valid, good))
 
     pub blank-between : (b f : Line) → verdict rules (h ∷ []) b.content ≡ Blank
         → verdict rules (h ∷ b ∷ []) f.content ≡ Kept
         → (ending_of rules (h ∷ b ∷ f ∷ []) ≡ Complete) × (written (h ∷ b ∷ f ∷ []) ≡ raw h ++ (raw f ++ []))
-    blank-between b f blank good = rw (valid, blank, good) (refl, rw (valid, blank, good) refl)
+    blank-between b f blank good = rw (valid, blank, good) (refl, rw (valid, blank, good))
 
 -- ---- rows
 
 pub whole : WholeRow
-whole = two-good wide_rules (ended_line small_header) (header_first _) (ended_line small_feature) feature_second
+whole = two-good _ _ (header_first _) _ feature_second
 
 pub blank : BlankRow
-blank = blank-between wide_rules (ended_line small_header) (header_first _) (ended_line (13 ∷ []))
-    (record { content = small_feature; lf = false }) (verdict-blank wide_rules 2 _ (13 ∷ []) (lit≤ tt) refl)
+blank = blank-between _ _ (header_first _) _
+    _ (verdict-blank _ 2 _ _ (lit≤ tt) refl)
     feature_third
 
 pub order : OrderRow
 order = (
-  first-refused wide_rules 0 MissingMember (ended_line small_feature)
+  first-refused _ 0 _ _
       (record { content = small_header; lf = false } ∷ []) (feature_first _),
-  second-refused wide_rules 0 MissingMember (ended_line small_header) (header_first _) refl
-      (record { content = small_header; lf = false }) [] header_second,
+  second-refused _ 0 _ _ (header_first _) refl
+      _ [] header_second,
 )
 
 pub bad : BadRow
-bad = third-refused wide_rules 31 IdNotFound (ended_line small_header) (header_first _) refl (ended_line small_feature)
-    (ended_line lost_feature) (ended_line small_feature ∷ []) feature_second lost_third
+bad = third-refused _ _ _ _ (header_first _) refl _
+    _ (ended_line small_feature ∷ []) feature_second lost_third
 
 -- the last line, after the small header
 module _ (c : List ℕ) (place : ℕ) (reason : Reason) where
@@ -230,7 +234,7 @@ module _ (c : List ℕ) (place : ℕ) (reason : Reason) where
       → (ending_of wide_rules (ended_line small_header ∷ l ∷ []) ≡ Refused 2 place reason)
       × (written wide_rules (ended_line small_header ∷ l ∷ []) ≡ small_header ++ 10 ∷ [])
   after_header refused l same =
-      second-refused wide_rules place reason (ended_line small_header) (header_first _) refl l [] (rw same refused)
+      second-refused _ _ _ _ (header_first _) refl l [] (rw same refused)
 
 abbrev pub open_line : List ℕ → Line
 open_line c = record { content = c; lf = false }
@@ -239,38 +243,38 @@ module _ (l : Line) (same : l.content ≡ small_header ++ 32 ∷ []) where
   long_second : (ending_of tight_rules (ended_line small_header ∷ l ∷ []) ≡ Refused 2 116 LineTooLong)
       × (written tight_rules (ended_line small_header ∷ l ∷ []) ≡ small_header ++ 10 ∷ [])
   long_second =
-      second-refused tight_rules 116 LineTooLong (ended_line small_header) (header_tight _) refl l []
-      (rw same (verdict-long tight_rules 2 (tree_of 64 small_header) (small_header ++ 32 ∷ []) (lit< tt)))
+      second-refused _ _ _ _ (header_tight _) refl l []
+      (rw same (verdict-long _ 2 _ _ (lit< tt)))
 
   long_first : (ending_of tight_rules (l ∷ []) ≡ Refused 1 116 LineTooLong) × (written tight_rules (l ∷ []) ≡ [])
   long_first =
-      first-refused tight_rules 116 LineTooLong l []
-      (rw same (verdict-long tight_rules 1 (tree_of 64 []) (small_header ++ 32 ∷ []) (lit< tt)))
+      first-refused _ _ _ l []
+      (rw same (verdict-long _ 1 _ _ (lit< tt)))
 
 pub long : LongRow
 long = (
-  long_first (open_line (small_header ++ 32 ∷ [])) refl,
-  long_first (ended_line (small_header ++ 32 ∷ [])) refl,
-  long_second (open_line (small_header ++ 32 ∷ [])) refl,
-  long_second (ended_line (small_header ++ 32 ∷ [])) refl,
+  long_first _ refl,
+  long_first _ refl,
+  long_second _ refl,
+  long_second _ refl,
 )
 
 pub euro : Gives wide_rules (small_header ++ 10 ∷ euro_feature) Complete (small_header ++ 10 ∷ euro_feature)
-euro = two-good wide_rules (ended_line small_header) (header_first _) (open_line euro_feature) euro_second
+euro = two-good _ _ (header_first _) _ euro_second
 
 pub cut_after : Gives wide_rules (small_header ++ 10 ∷ cut) (Refused 2 6 NotUtf8) (small_header ++ 10 ∷ [])
-cut_after = after_header _ 6 NotUtf8 (cut_second _) (open_line _) refl
+cut_after = after_header _ 6 _ (cut_second _) _ refl
 
 pub comma_after : Gives wide_rules (small_header ++ 10 ∷ comma) (Refused 2 26 Syntax) (small_header ++ 10 ∷ [])
-comma_after = after_header _ 26 Syntax (comma_second _) (open_line _) refl
+comma_after = after_header _ _ _ (comma_second _) _ refl
 
 pub short_after : Gives wide_rules (small_header ++ 10 ∷ take 80 small_feature) (Refused 2 80 Syntax)
     (small_header ++ 10 ∷ [])
-short_after = after_header _ 80 Syntax (short_second _) (open_line _) refl
+short_after = after_header _ _ _ (short_second _) _ refl
 
 pub deep_after : Gives wide_rules (small_header ++ 10 ∷ replicate 65 91) (Refused 2 64 TooDeep)
     (small_header ++ 10 ∷ [])
-deep_after = after_header _ 64 TooDeep (deep_second _) (open_line _) refl
+deep_after = after_header _ _ _ (deep_second _) _ refl
 
 pub open_after : Gives wide_rules (small_header ++ 10 ∷ replicate 64 91) (Refused 2 64 Syntax) (small_header ++ 10 ∷ [])
-open_after = after_header _ 64 Syntax (open_second _) (open_line _) refl
+open_after = after_header _ _ _ (open_second _) _ refl

@@ -20,7 +20,7 @@ kept_of-append (x ∷ xs) ys = grind (arith, kept_of-append xs ys)
 -- neither of two is there where the first of them is not
 pub refusal-step : (first rest : Option End) → cond (is_some first) first rest ≡ None → (first ≡ None) × (rest ≡ None)
 refusal-step None rest e = (refl, e)
-refusal-step (Some x) rest e = absurd (cc e)
+refusal-step (Some x) rest e = cc
 
 -- the same so many lines later
 abbrev pub moved : ℕ → Ruling → Ruling
@@ -49,43 +49,43 @@ module _ (rules : Rules) where
 
   pub rulings-append : (before xs ys : List Line)
       → rulings rules before (xs ++ ys) ≡ rulings rules before xs ++ rulings rules (before ++ xs) ys
-  rulings-append before [] ys = rw (append-nil before) refl
+  rulings-append before [] ys = rw (append-nil before)
   rulings-append before (x ∷ xs) ys =
       rw (rulings-append (before ++ x ∷ []) xs ys, append_assoc before (x ∷ []) xs) refl
 
   pub rulings-next : (xs : List Line) (l : Line)
       → rulings rules [] (xs ++ l ∷ []) ≡ rulings rules [] xs ++ ruling_after rules xs l ∷ []
-  rulings-next xs l = rulings-append [] xs (l ∷ [])
+  rulings-next xs l = rulings-append _ _ _
 
   pub kept-append : (before xs ys : List Line)
       → kept_from rules before (xs ++ ys) ≡ kept_from rules before xs ++ kept_from rules (before ++ xs) ys
-  kept-append before xs ys = rw (rulings-append before xs ys) (kept_of-append (rulings rules before xs) _)
+  kept-append before xs ys = rw (rulings-append) (kept_of-append (rulings rules before xs) _)
 
   pub reported-append : (before xs ys : List Line)
       → reported_from rules before (xs ++ ys) ≡ reported_from rules before xs ++ reported_from rules (before ++ xs) ys
   reported-append before xs ys =
-      rw (rulings-append before xs ys) (flat_map-append (λ r. r.reports) (rulings rules before xs) _)
+      rw (rulings-append) (flat_map-append (λ r. r.reports) (rulings rules before xs) _)
 
   module _ (before xs ys : List Line) where
     pub refusal-both : refusal_from rules before (xs ++ ys)
         ≡ cond (is_some (refusal_from rules before xs)) (refusal_from rules before xs)
         (refusal_from rules (before ++ xs) ys)
-    refusal-both = rw (rulings-append before xs ys) (end-append (rulings rules before xs) _)
+    refusal-both = rw (rulings-append) (end-append (rulings rules before xs) _)
 
     -- none of the first is the end
     pub refusal-append : refusal_from rules before xs ≡ None
         → refusal_from rules before (xs ++ ys) ≡ refusal_from rules (before ++ xs) ys
-    refusal-append h = refusal-both ∙ rw h refl
+    refusal-append h = refusal-both ∙ rw h
 
     -- one of them is
     pub refusal-stays : (e : End) → refusal_from rules before xs ≡ Some e
         → refusal_from rules before (xs ++ ys) ≡ Some e
-    refusal-stays e h = refusal-both ∙ rw h refl
+    refusal-stays e h = refusal-both ∙ rw h
 
     pub good-stays : (e : End) → refusal_from rules before xs ≡ Some e
         → good_from rules before (xs ++ ys) ≡ good_from rules before xs
     good-stays e h =
-        rw (rulings-append before xs ys, before-append (rulings rules before xs), h)
+        rw (rulings-append, before-append, h)
         (append-nil (good_from rules before xs))
 
   -- ---- the lines before an end
@@ -97,7 +97,7 @@ module _ (rules : Rules) where
   pub good-append : (before xs ys : List Line) → refusal_from rules before xs ≡ None
       → good_from rules before (xs ++ ys) ≡ xs ++ good_from rules (before ++ xs) ys
   good-append before xs ys h =
-      rw (rulings-append before xs ys, before-append (rulings rules before xs), h, good-all before xs h) refl
+      rw (rulings-append, before-append, h, good-all)
 
   -- they are a prefix
   pub good-take : (before ls : List Line) → take (length (good_from rules before ls)) ls ≡ good_from rules before ls

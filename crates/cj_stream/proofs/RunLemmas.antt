@@ -1,5 +1,5 @@
 -- How the calls of a run add up.
-use Rattle.cj_stream.proofs.Common.{Complete, Concludes, Consumes, Counts, Delivers, End, Ends, EngineState, Faults, HasRisen, IfSome, IsBelow, IsUnread, Keeps, List, Memory, None, Option, ReadFault, ReadLimit, Reading, Reads, Refused, Rules, Run, Scanned, SinkContract, Some, IsEndAfter, TookOf, WriteFault, [], ap, append-nil, append_assoc, arith, closed, ending, exact_peaks, first_lines, inl, inr, judged, kept_of, length, length-append, limits_of, lines, lines_of, nat_tests, peaks_of, refl, refusal_in, rules_of, rulings_first, stretch, subst, suc, sym, up_to, whole, zero, ℕ, ◌++◌, ◌<◌, ◌∙◌, ◌∷◌, ◌≡◌, ◌≤◌}
+use Rattle.cj_stream.proofs.Common.{Complete, Concludes, Consumes, Counts, Delivers, End, Ends, EngineState, Faults, HasRisen, IfSome, IsBelow, IsUnread, List, Memory, None, Option, ReadFault, ReadLimit, Reading, Reads, Refused, Rules, Run, Scanned, SinkContract, Some, IsEndAfter, TookOf, WriteFault, [], ap, append-nil, arith, closed, ending, exact_peaks, first_lines, inl, inr, judged, kept_of, length, length-append, limits_of, lines, lines_of, nat_tests, peaks_of, refl, refusal_in, rules_of, rulings_first, stretch, subst, suc, sym, up_to, whole, zero, ℕ, ◌++◌, ◌<◌, ◌∙◌, ◌∷◌, ◌≡◌, ◌≤◌}
 use Rattle.std.proofs.Common.{◌≢◌}
 use Rattle.cj_stream.specs.Engine.{EngineFailsToGrow, HasFailedToGrow}
 use Rattle.cj_stream.specs.Run.{Gave, HeldBegun, IsLastRead, IsReadWithin, LacksRoom, Runs, StopsInTime}
@@ -12,18 +12,6 @@ use Rattle.cj_stream.proofs.RulingLemmas.{refusal-stays}
 use Rattle.cj_stream.proofs.TookLemmas.{More-over, More-then, over-kept}
 pub use Rattle.cj_stream.proofs.OutputLemmas.{memory-sink}
 
-pub Consumes-then : (a b c : Option (List ℕ)) (x y : List ℕ) → Consumes a b x → Consumes b c y → Consumes a c (x ++ y)
-Consumes-then None b c x y p q = tt
-Consumes-then (Some a) None c x y p q = absurd p
-Consumes-then (Some a) (Some b) None x y p q = absurd q
-Consumes-then (Some a) (Some b) (Some c) x y p q = p ∙ (ap (λ z. x ++ z) q ∙ sym (append_assoc x y c))
-
-pub Consumes-kept : (a b c : Option (List ℕ)) (x : List ℕ) → Consumes a b x → Keeps b c → Consumes a c x
-Consumes-kept None b c x p q = tt
-Consumes-kept (Some a) None c x p q = absurd p
-Consumes-kept (Some a) (Some b) None x p q = absurd q
-Consumes-kept (Some a) (Some b) (Some c) x p q = p ∙ ap (λ z. x ++ z) (sym q)
-
 -- what a sink takes of two steps, one after the other
 pub Delivers-join : {S : Type 0} {law : SinkContract S} {rules : Rules} {r q : List ℕ} {from n m : ℕ} {s t u : S}
     {e : Option End} → rulings_first rules from q ≡ rulings_first rules from r
@@ -33,9 +21,8 @@ pub Delivers-join : {S : Type 0} {law : SinkContract S} {rules : Rules} {r q : L
 Delivers-join {S} {law} {rules} {r} {q} {from} {n} {m} {s} {t} {u} first same h k = record {
   middle = k.middle;
   took =
-      let now : TookOf law.takes kept_of (stretch rules r from n) s t =
-      subst (λ z. TookOf law.takes kept_of (stretch rules r from n) s z) (sym h.fault) h.took in
-      More-then law.takes over-kept (More-over law.takes over-kept first same now) k.took;
+      More-then _ over-kept (More-over _ over-kept first same
+      (subst (λ z. TookOf law.takes kept_of (stretch rules r from n) s z) (sym h.fault) h.took)) k.took;
   fault = k.fault;
 }
 
@@ -46,31 +33,25 @@ Delivers-then same h k = Delivers-join refl same h k
 
 pub Ends-finished : (rules : Rules) (r : List ℕ) (n : ℕ) (at_end : Type 0) (e : End) → at_end → Concludes rules r n e
     → Ends rules r n at_end e
-Ends-finished rules r n at_end Complete h c = (c.0, c.1, h)
-Ends-finished rules r n at_end (Refused number place reason) h c = (c.0, c.1, inl h)
-Ends-finished rules r n at_end WriteFault h c = tt
-Ends-finished rules r n at_end Memory h c = tt
-Ends-finished rules r n at_end other h c = absurd c
+Ends-finished rules r n at_end x h c = grind (arith, nat_tests)
 
 pub ending-said : (rules : Rules) (q : List ℕ) (e : End) → refusal_in rules (judged rules.limits q) ≡ Some e
     → ending rules q ≡ e
 ending-said rules q e h =
     let x = judged-front rules.limits q in
-    ending-refused rules (lines q) e (rw x.1 (refusal-stays rules [] (judged rules.limits q) x.0 e h))
+    ending-refused _ _ e (rw x.1 (refusal-stays _ _ _ _ e h))
 
 pub Ends-fed : (rules : Rules) (r : List ℕ) (n : ℕ) (at_end : Type 0) (e : End) → IsEndAfter rules r n e
     → Ends rules r n at_end e
 Ends-fed rules r n at_end (Refused number place reason) c =
-    let said = ending-said rules r (Refused number place reason) c.0 in
-    (said, omega (arith, c.1, good-refused rules r number place reason said), inr c.0)
-Ends-fed rules r n at_end WriteFault c = tt
-Ends-fed rules r n at_end Memory c = tt
-Ends-fed rules r n at_end other c = absurd c
+    let said = ending-said _ r _ c.0 in
+    (said, omega (arith, good-refused), inr c.0)
+Ends-fed rules r n at_end other c = search
 
 -- no more bytes came: no whole line was refused
 pub whole-good : (e : EngineState) (r : List ℕ) → Reads e.reading r → (refusal_in (rules_of e) (lines (whole r)) ≡ None)
     × (lines_of e ≡ length (lines (whole r)))
-whole-good e r h = (rw (lines-whole r) h.counted.good, rw (lines-whole r) (h.lines ∙ sym (length-map_lines (closed r))))
+whole-good e r h = (rw (lines-whole) h.counted.good, rw (lines-whole) (h.lines ∙ sym (length-map_lines _)))
 
 -- a step that keeps the sink as it is, with an end
 pub Delivers-ended : {S : Type 0} (law : SinkContract S) (rules : Rules) (r : List ℕ) (n : ℕ) (s t : S) (e : End)
@@ -90,17 +71,12 @@ HasRisen-after a b c le (inr h) =
 
 -- a count that rose is not 0
 rose : (a b : ℕ) → HasRisen a b → 0 < b
-rose a b (inl lt) = omega (arith, lt)
-rose a b (inr h) = omega (arith, h.1)
+rose a b (inl lt) = omega arith
+rose a b (inr h) = omega arith
 
 pub fails-grown : (e f : EngineState) → EngineFailsToGrow e f → HasFailedToGrow f
 fails-grown e f (inl h) = inl (rose _ _ h)
 fails-grown e f (inr h) = inr (rose _ _ h)
-
--- a run that was refused its memory before the first read
-pub Consumes-none : (a : Option (List ℕ)) → Consumes a a []
-Consumes-none None = tt
-Consumes-none (Some a) = refl
 
 pub Runs-memory : {S : Type 0} (law : SinkContract S) (rules : Rules) (at_end : Type 0) (s : S)
     → Runs law (record {
@@ -154,8 +130,8 @@ stops-after f run front last reads same cut short onward memory least begun = re
   last = last;
   cut = cut;
   short = short;
-  good = rw (← same) (begun-good f front reads);
-  done = rw (lines-whole front) (omega (arith, reads.lines, length-map_lines (closed front), onward));
+  good = rw (← same) (begun-good f _ reads);
+  done = rw (lines-whole) (omega (arith, length-map_lines));
   memory = memory;
   least = least;
   begun = begun;
@@ -171,8 +147,7 @@ begun-judged run other u = tt
 pub least-going : (e : EngineState) (r : List ℕ) → Reads e.reading r → Scanned (limits_of e) (closed r) e.scanning
     → IsBelow (exact_peaks (limits_of e) (first_lines (lines_of e) r)) (peaks_of e)
 least-going e r reads scanned =
-    let k = least-read e r [] reads (held-scanned (limits_of e) (closed r) e.scanning scanned) in
-    rw (append-nil r) at k
+    rw (append-nil r) at (least-read e r [] reads (held-scanned (limits_of e) (closed r) e.scanning scanned))
 
 -- a run that was refused memory after a read alone
 pub Stops-read : (run : Run) (at_start : Type 0) → StopsInTime run ⊥ → StopsInTime run at_start
@@ -211,12 +186,6 @@ said-not_complete rules q n WriteFault c h = cc
 said-not_complete rules q n Memory c h = cc
 said-not_complete rules q n other c h = c
 
-pub fault-not_complete : ReadFault ≡ Complete → ⊥
-fault-not_complete h = cc
-
-pub limit-not_complete : ReadLimit ≡ Complete → ⊥
-limit-not_complete h = cc
-
 -- the end of an engine that was finished, where a read was left to find the end of the input
 pub Gave-finished : (reads n : ℕ) (e : End) → n < reads → IsUnread e → Gave reads n e
 Gave-finished reads n Complete lt u = lt
@@ -234,7 +203,7 @@ Gave-fed rules q m reads n other le h = absurd h
 
 -- where the reads ran out, each of them gave a byte
 all-gave : (reads : ℕ) (r : List ℕ) (e : End) → e ≡ ReadLimit → (w : IsReadWithin reads r e) → w.giving ≡ reads
-all-gave reads r e is w = subst (λ z. Gave reads w.giving z) is w.gave
+all-gave reads r e is w = rw is at w.gave
 
 -- one read more than there are bytes is enough
 pub enough-reads : (a b : Option (List ℕ)) (reads : ℕ) (r : List ℕ) (e : End) → Consumes a b r → IsReadWithin reads r e
@@ -244,26 +213,19 @@ enough-reads (Some a) None reads r e c w = absurd c
 enough-reads (Some a) (Some b) reads r e c w =
     λ few is. absurd (omega (arith, all-gave reads r e is w, w.least, ap length c, length-append r b))
 
--- a run that was refused memory has read nothing, has not run out of reads, nor has its sink failed
-pub memory-no_fault : Memory ≡ WriteFault → ⊥
-memory-no_fault h = cc
-
 pub unread-memory : (reads : ℕ) (e : End) → e ≡ Memory → IsReadWithin reads [] e
 unread-memory reads e is = rw is (record { giving = 0; gave = omega arith; least = omega arith; most = omega arith })
 
 pub enough-memory : (a : Option (List ℕ)) (reads : ℕ) (e : End) → e ≡ Memory
     → IfSome a (λ bytes. length bytes < reads → e ≢ ReadLimit)
 enough-memory None reads e is = tt
-enough-memory (Some a) reads e is = λ few limit. absurd (apart (sym is ∙ limit))
-  where
-    apart : Memory ≡ ReadLimit → ⊥
-    apart h = cc
+enough-memory (Some a) reads e is = λ few limit. cc
 
 -- by no read no line is handled
 pub none-counted : (rules : Rules) (reads : ℕ) (r : List ℕ) (n features refusals : ℕ) (e : End) → reads ≡ 0
     → e ≡ ReadLimit → IsReadWithin reads r e → Counts rules r n features refusals → (n ≡ 0) × (features ≡ 0)
 none-counted rules reads [] zero features refusals e nothing is w h = (refl, h.counted.kept)
-none-counted rules reads [] (suc n) features refusals e nothing is w h = let few : suc n ≤ 0 = h.few in
+none-counted rules reads [] (suc n) features refusals e nothing is w h = let few = h.few in
     absurd (omega arith)
 none-counted rules reads (x ∷ r) n features refusals e nothing is w h =
     absurd (omega (arith, all-gave reads (x ∷ r) e is w, w.most))

@@ -8,17 +8,17 @@ use Rattle.cj_stream.proofs.RulingLemmas.{good-all, refusal-step}
 
 map-none : (f : End → End) (o : Option End) → option_map f o ≡ None → o ≡ None
 map-none f None h = refl
-map-none f (Some x) h = absurd (cc h)
+map-none f (Some x) h = cc
 
 module _ (rules : Rules) (e : Line) where
   -- one line more before some others changes nothing
   none-before : (l : Line) (zs : List Line) → refusal_from rules (e ∷ l ∷ []) zs ≡ None
       → refusal_from rules (e ∷ []) zs ≡ None
-  none-before l zs h = map-none (moved_end 1) _ (sym (refusal-moved rules e (l ∷ []) zs) ∙ h)
+  none-before l zs h = map-none _ _ (sym (refusal-moved _ e _ _) ∙ h)
 
   none-after : (l : Line) (zs : List Line) → refusal_from rules (e ∷ []) zs ≡ None
       → refusal_from rules (e ∷ l ∷ []) zs ≡ None
-  none-after l zs h = refusal-moved rules e (l ∷ []) zs ∙ ap (option_map (moved_end 1)) h
+  none-after l zs h = refusal-moved _ e _ _ ∙ ap (option_map (moved_end 1)) h
 
   -- no refusal is an end among the lines that stay
   none-staying : (xs : List (Line × Bool)) → refusal_from rules (e ∷ []) (all_lines xs) ≡ None
@@ -35,7 +35,7 @@ module _ (rules : Rules) (e : Line) where
       grind (
         arith,
         h 0 x (omega arith),
-        kept-moved rules e (x.0 ∷ []) (all_lines xs),
+        kept-moved,
         kept-moved rules e (x.0 ∷ []) (staying xs),
         kept-staying xs (λ k d small. h (suc k) d (omega (arith, small))),
       )
@@ -50,12 +50,12 @@ module _ (rules : Rules) (h a b : List ℕ) (xs : List (Line × Bool)) (free : N
   part = lines-headed h b free ∙ ap (λ z. ended_line h ∷ z) some
 
   none-whole : refusal_in rules (ended_line h ∷ all_lines xs) ≡ None
-  none-whole = let k = complete-none rules (lines (headed h a)) done in rw whole at k
+  none-whole = let k = complete-none _ _ done in rw whole at k
 
   none-part : refusal_in rules (ended_line h ∷ staying xs) ≡ None
   none-part =
       let both = refusal-step (refusal_of rules 1 (verdict rules [] h))
-      (refusal_from rules (ended_line h ∷ []) (all_lines xs)) none-whole in
+      _ none-whole in
       let later = none-staying rules (ended_line h) xs both.1 in
       rw (both.0, later) refl
 
@@ -74,4 +74,4 @@ module _ (rules : Rules) (h a b : List ℕ) (xs : List (Line × Bool)) (free : N
       (kept-staying rules (ended_line h) xs left))
 
   pub output-selection : output rules (headed h b) ≡ output rules (headed h a)
-  output-selection = ap (λ z. flat_map raw_item z) kept-selection
+  output-selection = ap (flat_map raw_item) kept-selection

@@ -11,4 +11,4 @@ pub items-split : (separator : ℕ) (text : List ℕ) {s t : Split ℕ} → sepa
     → split_has_more s ≡ true → split_pattern s ≡ separator → t ≡ s
     → YieldsList steps (λ x. x.now) t (parted separator text)
 items-split separator text low is has_more sign same =
-    YieldsList-at same (YieldsList-from_str_split separator text low is has_more sign)
+    YieldsList-at same (YieldsList-from_str_split _ _ low is has_more sign)

@@ -1,5 +1,5 @@
 -- What a splitter has taken with a part of a line, or with its last part and LF.
-use Rattle.cj_stream.proofs.Common.{End, Err, SplitterState, HoldsFewNext, List, NoLf, Ok, Result, ScansNext, Handles, SinkContract, Stores, TakesAll, TakesSome, Unstored, [], closed, is_lenient, judged_begun, newline, begun_verdict, true, with_sink, ℕ, ◌++◌, ◌∷◌, ◌≡◌}
+use Rattle.cj_stream.proofs.Common.{End, Err, SplitterState, HoldsFewNext, List, NoLf, Ok, Result, ScansNext, Handles, SinkContract, Stores, TakesAll, TakesSome, Unstored, [], is_lenient, judged_begun, newline, begun_verdict, true, with_sink, ℕ, ◌++◌, ◌∷◌, ◌≡◌}
 use Rattle.cj_stream.proofs.PieceLemmas.{Advances-line, Advances-stored, Stops-unhandled, Stops-unstored, Stops-unstored_last}
 use Rattle.cj_stream.proofs.ScanningLemmas.{few-line, few-scanned, first-closed, scanned-begun, scanned-line}
 
@@ -9,24 +9,24 @@ module _ {S : Type 0} (law : SinkContract S) where
     pub TakesAll-stored : (g : SplitterState) → Stores f.reading part g.reading → g.scanning ≡ f.scanning
         → TakesAll law part (with_sink f s) (with_sink g s)
     TakesAll-stored g stored same = record {
-      advances = λ q reads. Advances-stored law reads free stored;
-      scanned = λ q reads scanned. scanned-begun f.reading.rules.limits q part f.scanning g.scanning free same scanned;
+      advances = λ q reads. Advances-stored _ reads free stored;
+      scanned = λ q reads scanned. scanned-begun _ q _ _ _ free same scanned;
     }
 
     -- and one that is not, where LF comes after it or not
     pub TakesSome-unstored : (more : List ℕ) (e : End) → Unstored f.reading part e
         → TakesSome law (part ++ newline ∷ more) (with_sink f s) e (with_sink f s)
     TakesSome-unstored more e unstored = record {
-      stops = λ q reads. Stops-unstored law part more reads free unstored;
-      held = λ q reads scanned. few-scanned f.reading.rules.limits (closed q) f.scanning _ scanned
-          (first-closed q (part ++ newline ∷ more));
+      stops = λ q reads. Stops-unstored _ _ _ reads free unstored;
+      held = λ q reads scanned. few-scanned _ _ _ _ scanned
+          (first-closed q _);
     }
 
     pub TakesSome-last : (e : End) → Unstored f.reading part e → TakesSome law part (with_sink f s) e (with_sink f s)
     TakesSome-last e unstored = record {
-      stops = λ q reads. Stops-unstored_last law reads free unstored;
-      held = λ q reads scanned. few-scanned f.reading.rules.limits (closed q) f.scanning _ scanned
-          (first-closed q part);
+      stops = λ q reads. Stops-unstored_last _ reads free unstored;
+      held = λ q reads scanned. few-scanned _ _ _ _ scanned
+          (first-closed q _);
     }
 
     module _ (g h : SplitterState) (t : S) (stored : Stores f.reading part g.reading) (same : g.scanning ≡ f.scanning)
@@ -37,8 +37,8 @@ module _ {S : Type 0} (law : SinkContract S) where
       pub TakesAll-line : r ≡ Ok tt → ScansNext g.reading g.scanning h.scanning
           → TakesAll law (part ++ newline ∷ []) (with_sink f s) (with_sink h t)
       TakesAll-line ok scans = record {
-        advances = λ q reads. Advances-line law reads free stored handles ok;
-        scanned = λ q reads scanned. scanned-line f.reading g.reading q part f.scanning g.scanning h.scanning reads free
+        advances = λ q reads. Advances-line _ reads free stored handles ok;
+        scanned = λ q reads scanned. scanned-line f.reading _ q _ f.scanning _ _ reads free
             stored same scanned scans;
       }
 
@@ -46,7 +46,7 @@ module _ {S : Type 0} (law : SinkContract S) where
       pub TakesSome-line : (more : List ℕ) (e : End) → r ≡ Err e → HoldsFewNext g.reading g.scanning h.scanning
           → TakesSome law (part ++ newline ∷ more) (with_sink f s) e (with_sink h t)
       TakesSome-line more e err few = record {
-        stops = λ q reads. Stops-unhandled law more reads free stored handles err;
-        held = λ q reads scanned. few-line f.reading g.reading q part f.scanning g.scanning h.scanning reads free stored
-            same scanned more few;
+        stops = λ q reads. Stops-unhandled _ _ reads free stored handles err;
+        held = λ q reads scanned. few-line f.reading _ q _ f.scanning _ h.scanning reads free stored
+            same scanned _ few;
       }

@@ -1,5 +1,5 @@
 -- Tallies of what a sink took.
-use Rattle.cj_stream.proofs.Common.{End, IsTallyOf, Item, LeavesNext, List, Memory, None, Number, Option, Puts, PutsPieces, ReadFault, ReadLimit, Rules, Some, Tally, Took, Tree, Widens, WriteFault, [], ap, arith, beside, capped, chars, codes, cond, filter, filter-append, get_or, how_often, in_pieces, is_feature, is_header, is_some, joined, kept, last_or, length, length-append, lod_classes, map, nat_eq, nat_tests, never_fails, numbers_on, option_map, over_features, refl, replicate, stream_of, subst, suc, sym, take, transform_values, type_numbers, whole, zero, ℕ, ℤ, ◌++◌, ◌+◌, ◌-◌, ◌<◌, ◌^◌, ◌∙◌, ◌∷◌, ◌≡◌, ◌≤◌}
+use Rattle.cj_stream.proofs.Common.{End, IsTallyOf, Item, LeavesNext, List, None, Number, Option, Puts, PutsPieces, Rules, Some, Tally, Took, Tree, Widens, [], ap, arith, beside, capped, chars, codes, cond, filter, filter-append, get_or, how_often, in_pieces, is_feature, is_header, is_some, last_or, length, length-append, lod_classes, map, nat_eq, nat_tests, never_fails, numbers_on, option_map, over_features, refl, replicate, stream_of, subst, suc, transform_values, type_numbers, zero, ℕ, ℤ, ◌++◌, ◌+◌, ◌-◌, ◌<◌, ◌^◌, ◌∙◌, ◌∷◌, ◌≡◌, ◌≤◌}
 use Rattle.cj_stream.specs.TallySink.{no_tally, Shows, TalliesBy, Tallies, TalliesRun, TalliesPieces}
 use Rattle.cj_stream.proofs.Ranges.{Widens-no, Widens-two}
 
@@ -8,7 +8,7 @@ use Rattle.cj_stream.proofs.Ranges.{Widens-no, Widens-two}
 -- how often a number is among two lists
 pub how_often-append : (n : ℕ) (xs ys : List ℕ) → how_often n (xs ++ ys) ≡ how_often n xs + how_often n ys
 how_often-append n xs ys = ap length (filter-append (nat_eq n) xs ys)
-    ∙ length-append (filter (nat_eq n) xs) (filter (nat_eq n) ys)
+    ∙ length-append _ _
 
 -- a count that each item raises by a number of its own is raised by their sum
 module _ (count : Tally → ℕ) (own : Item → ℕ) (sum : List Item → ℕ)
@@ -17,15 +17,14 @@ module _ (count : Tally → ℕ) (own : Item → ℕ) (sum : List Item → ℕ)
     → count b ≡ capped (count a + own i)) where
   count-more : (a b : Tally) (is : List Item) → count a ≤ 2 ^ 64 - 1 → Took Tallies a is b
       → count b ≡ capped (count a + sum is)
-  count-more a b [] fits took = omega (arith, ap count took, none, fits)
+  count-more a b [] fits took = omega (arith, ap count took)
   count-more a b (i ∷ is) fits took =
-      let first : count took.0 ≡ capped (count a + own i) = step a i took.0 took.1 fits in
-      let rest : count b ≡ capped (count took.0 + sum is) = count-more took.0 b is (omega (arith, first)) took.2 in
-      omega (arith, first, rest, some i is)
+      let first = step a i took.0 took.1 fits in
+      omega (arith, count-more took.0 b is (omega (arith, first)) took.2, some i is)
 
 features-more : (a b : Tally) (is : List Item) → a.features ≤ 2 ^ 64 - 1 → Took Tallies a is b
     → b.features ≡ capped (a.features + length (filter is_feature is))
-features-more = count-more (λ t. t.features) (λ i. one i.header) (λ is. length (filter is_feature is)) refl
+features-more = count-more _ (λ i. one i.header) _ refl
     (λ i is. split i.header i (filter is_feature is)) (λ a i b. step a i.header i.tree b)
   where
     one : Option Tree → ℕ
@@ -39,8 +38,8 @@ features-more = count-more (λ t. t.features) (λ i. one i.header) (λ is. lengt
 
     step : (a : Tally) (o : Option Tree) (t : Tree) (b : Tally) → TalliesBy a o t b → a.features ≤ 2 ^ 64 - 1
         → b.features ≡ capped (a.features + one o)
-    step a None t b h fits = omega (arith, h.features, fits)
-    step a (Some header) t b h fits = omega (arith, h.features)
+    step a None t b h fits = omega arith
+    step a (Some header) t b h fits = omega arith
 
 -- how often a number is among what features have
 module _ (part : Tree → Tree → List ℕ) (n : ℕ) where
@@ -50,29 +49,29 @@ module _ (part : Tree → Tree → List ℕ) (n : ℕ) where
   often-some : (i : Item) (is : List Item)
       → how_often n (over_features part (i ∷ is)) ≡ how_often n (beside part i.header i.tree)
       + how_often n (over_features part is)
-  often-some i is = how_often-append n (beside part i.header i.tree) (over_features part is)
+  often-some i is = how_often-append n _ _
 
 types-more : (n : ℕ) → n < 34 → (a b : Tally) (is : List Item) → get_or a.types n 0 ≤ 2 ^ 64 - 1 → Took Tallies a is b
     → get_or b.types n 0 ≡ capped (get_or a.types n 0 + how_often n (over_features (λ header t. type_numbers t) is))
 types-more n inside =
-    count-more (λ t. get_or t.types n 0) (λ i. how_often n (beside (λ header t. type_numbers t) i.header i.tree))
-    (λ is. how_often n (over_features (λ header t. type_numbers t) is)) refl
+    count-more _ (λ i. how_often n (beside (λ header t. type_numbers t) i.header i.tree))
+    _ refl
     (often-some (λ header t. type_numbers t) n) (λ a i b. step a i.header i.tree b)
   where
     step : (a : Tally) (o : Option Tree) (t : Tree) (b : Tally) → TalliesBy a o t b → get_or a.types n 0 ≤ 2 ^ 64 - 1
         → get_or b.types n 0 ≡ capped (get_or a.types n 0 + how_often n (beside (λ header t. type_numbers t) o t))
-    step a None t b h fits = omega (arith, ap (λ ns. get_or ns n 0) h.types, fits)
+    step a None t b h fits = omega (arith, ap (λ ns. get_or ns n 0) h.types)
     step a (Some header) t b h fits = h.types n inside
 
 lods-more : (n : ℕ) → n < 6 → (a b : Tally) (is : List Item) → get_or a.lods n 0 ≤ 2 ^ 64 - 1 → Took Tallies a is b
     → get_or b.lods n 0 ≡ capped (get_or a.lods n 0 + how_often n (over_features lod_classes is))
-lods-more n inside = count-more (λ t. get_or t.lods n 0) (λ i. how_often n (beside lod_classes i.header i.tree))
-    (λ is. how_often n (over_features lod_classes is)) refl
+lods-more n inside = count-more _ (λ i. how_often n (beside lod_classes i.header i.tree))
+    _ refl
     (often-some lod_classes n) (λ a i b. step a i.header i.tree b)
   where
     step : (a : Tally) (o : Option Tree) (t : Tree) (b : Tally) → TalliesBy a o t b → get_or a.lods n 0 ≤ 2 ^ 64 - 1
         → get_or b.lods n 0 ≡ capped (get_or a.lods n 0 + how_often n (beside lod_classes o t))
-    step a None t b h fits = omega (arith, ap (λ ns. get_or ns n 0) h.lods, fits)
+    step a None t b h fits = omega (arith, ap (λ ns. get_or ns n 0) h.lods)
     step a (Some header) t b h fits = h.lods n inside
 
 -- ---- ranges
@@ -80,18 +79,17 @@ lods-more n inside = count-more (λ t. get_or t.lods n 0) (λ i. how_often n (be
 ranges-more : (axis : ℕ) → axis < 3 → (a b : Tally) (is : List Item) → Took Tallies a is b
     → Widens (get_or a.ranges axis None) (over_features (λ header. numbers_on axis) is) (get_or b.ranges axis None)
 ranges-more axis inside a b [] took =
-    subst (λ (t : Tally). Widens (get_or a.ranges axis None) [] (get_or t.ranges axis None)) (sym took)
-    (Widens-no (get_or a.ranges axis None))
+    rw took
+    (Widens-no _)
 ranges-more axis inside a b (i ∷ is) took =
-    Widens-two (beside (λ header. numbers_on axis) i.header i.tree) (over_features (λ header. numbers_on axis) is)
-    (get_or a.ranges axis None) (get_or took.0.ranges axis None) (get_or b.ranges axis None)
+    Widens-two _ _
+    _ _ _
     (step i.header i.tree took.0 took.1) (ranges-more axis inside took.0 b is took.2)
   where
     step : (o : Option Tree) (t : Tree) (m : Tally) → TalliesBy a o t m
         → Widens (get_or a.ranges axis None) (beside (λ header. numbers_on axis) o t) (get_or m.ranges axis None)
     step None t m h =
-        subst (λ (rs : List (Option (ℤ × ℤ))). Widens (get_or a.ranges axis None) [] (get_or rs axis None))
-        (sym h.ranges) (Widens-no (get_or a.ranges axis None))
+        rw h.ranges (Widens-no _)
     step (Some header) t m h = h.ranges axis inside
 
 -- ---- the transform
@@ -128,7 +126,7 @@ translate-set a (Some header) t b h = h.translate
 zeros : (size n : ℕ) → n < size → get_or {A = ℕ} (replicate size 0) n 0 ≡ 0
 zeros zero n b = refl
 zeros (suc size) zero b = refl
-zeros (suc size) (suc n) b = zeros size n (omega (arith, b))
+zeros (suc size) (suc n) b = zeros size n (omega arith)
 
 no_ranges : (size axis : ℕ) → get_or {A = Option (ℤ × ℤ)} (replicate size None) axis None ≡ None
 no_ranges zero axis = refl
@@ -146,15 +144,15 @@ tally-new t is took = record {
     zeros 6 n (omega (arith, b)),
   );
   ranges = λ axis b. subst
-      (λ (r : Option (ℤ × ℤ)). Widens r (over_features (λ header. numbers_on axis) is) (get_or t.ranges axis None))
-      (no_ranges 3 axis) (ranges-more axis b no_tally t is took) [] refl;
+      (λ r. Widens r (over_features (λ header. numbers_on axis) is) (get_or t.ranges axis None))
+      (no_ranges 3 _) (ranges-more _ b _ t _ took) [] refl;
   scale = shown-more (codes "scale") (λ s. s.scale) (λ a i b. scale-set a i.header i.tree b) no_tally t is took;
   translate =
       shown-more (codes "translate") (λ s. s.translate) (λ a i b. translate-set a i.header i.tree b) no_tally t is took;
 }
 
 tally-all : (start t : Tally) (is : List Item) → start ≡ no_tally → Took Tallies start is t → IsTallyOf is t
-tally-all start t is new took = tally-new t is (subst (λ (s : Tally). Took Tallies s is t) new took)
+tally-all start t is new took = tally-new t _ (rw new at took)
 
 never : (others : List Item) (m t : Tally) → LeavesNext (λ a i b. ⊥) others m t → ⊥
 never [] m t k = k
@@ -163,29 +161,10 @@ never (i ∷ is) m t k = k
 -- what a run has tallied, by its end
 pub TalliesRun-puts : (rules : Rules) (r : List ℕ) (start t : Tally) (e : End) → start ≡ no_tally
     → Puts (never_fails Tallies) (stream_of rules r) e start t → TalliesRun (stream_of rules r) e t
-TalliesRun-puts rules r start t ReadFault new h = tally-all start t (kept rules (whole r)) new h
-TalliesRun-puts rules r start t ReadLimit new h = tally-all start t (kept rules (whole r)) new h
-TalliesRun-puts rules r start t WriteFault new h = never h.others h.middle t h.left
-TalliesRun-puts rules r start t Memory new h =
-    record {
-      more = h.more;
-      others = h.others;
-      front = h.front;
-      tally = tally-all start t h.more new (rw h.left h.took);
-    }
-TalliesRun-puts rules r start t other new h = tally-all start t (kept rules r) new h
+TalliesRun-puts rules r start t x new h = grind (arith, nat_tests, tally-all, never)
 
 -- what was tallied of pieces
 pub TalliesPieces-puts : (rules : Rules) (pieces : List (List ℕ)) (n : ℕ) (start t : Tally) (e : End) → start ≡ no_tally
     → PutsPieces (never_fails Tallies) (in_pieces rules pieces n) e start t
     → TalliesPieces (in_pieces rules pieces n) e t
-TalliesPieces-puts rules pieces n start t ReadFault new h = h
-TalliesPieces-puts rules pieces n start t ReadLimit new h = h
-TalliesPieces-puts rules pieces n start t WriteFault new h = never h.others h.middle t h.left
-TalliesPieces-puts rules pieces n start t Memory new h = record {
-  more = h.more;
-  others = h.others;
-  front = h.front;
-  tally = tally-all start t (kept rules (whole (joined (take n pieces))) ++ h.more) new (rw h.left h.took);
-}
-TalliesPieces-puts rules pieces n start t other new h = (h.0, tally-all start t (kept rules (joined pieces)) new h.1)
+TalliesPieces-puts rules pieces n start t x new h = grind (arith, nat_tests, never, tally-all)

@@ -1,13 +1,13 @@
 -- What a sink has taken of lines, by a function from their results to what it gets: of no line, of some and then
 -- others, of one line more, and of all at an end. What is kept and what is reported are two such functions.
-use Rattle.cj_stream.proofs.Common.{Line, List, None, Rules, Ruling, Took, TookFront, TookMore, TookOf, [], ap, append-nil, append_assoc, drop, drop-append_seam, flat_map-append, good, kept_of, length, lines, prefixes, refl, refusal_in, reported_of, ruling_after, rulings_first, rulings_good, stretch, subst, sym, take, whole, ℕ, ◌++◌, ◌∙◌, ◌∷◌, ◌≡◌}
+use Rattle.cj_stream.proofs.Common.{Line, List, None, Rules, Ruling, Took, TookFront, TookMore, TookOf, [], ap, append-nil, append_assoc, drop, drop-append_seam, flat_map-append, good, kept_of, length, lines, prefixes, refl, refusal_in, reported_of, ruling_after, rulings_first, rulings_good, stretch, sym, take, whole, ℕ, ◌++◌, ◌∙◌, ◌∷◌, ◌≡◌}
 use Rattle.cj_stream.proofs.FirstLemmas.{first-good, first-whole}
 use Rattle.cj_stream.proofs.RulingLemmas.{kept_of-append, rulings-next}
 
 module _ {S X : Type 0} (step : S → X → S → Type 0) where
   -- steps, and then others
   pub Took-append : (a b c : S) (xs ys : List X) → Took step a xs b → Took step b ys c → Took step a (xs ++ ys) c
-  Took-append a b c [] ys h k = subst (λ z. Took step z ys c) h k
+  Took-append a b c [] ys h k = rw h at k
   Took-append a b c (x ∷ xs) ys h k = (h.0, h.1, Took-append h.0 b c xs ys h.2 k)
 
   -- and taken apart
@@ -25,29 +25,29 @@ pub over-kept : Distributes kept_of
 over-kept = record { none = refl; both = kept_of-append }
 
 pub over-reported : Distributes reported_of
-over-reported = record { none = refl; both = flat_map-append (λ (r : Ruling). r.reports) }
+over-reported = record { none = refl; both = flat_map-append _ }
 
 module _ {S X : Type 0} (step : S → X → S → Type 0) {f : List Ruling → List X} (over : Distributes f) where
   pub More-none : (before after : List Ruling) (s t : S) → after ≡ before → t ≡ s → TookMore step f before after s t
   More-none before after s t e same =
-      rw (e, same) (record { done = []; grown = sym (append-nil before); took = rw over.none refl })
+      rw (e, same) (record { done = []; grown = sym (append-nil before); took = rw over.none })
 
   pub More-then : {a b c : List Ruling} {s t u : S} → TookMore step f a b s t → TookMore step f b c t u
       → TookMore step f a c s u
   More-then {a} {b} {c} {s} {t} {u} x y = record {
     done = x.done ++ y.done;
-    grown = y.grown ∙ (ap (λ z. z ++ y.done) x.grown ∙ append_assoc a x.done y.done);
-    took = subst (λ xs. Took step s xs u) (sym (over.both x.done y.done))
-        (Took-append step s t u (f x.done) (f y.done) x.took y.took);
+    grown = y.grown ∙ ap (λ z. z ++ y.done) x.grown ∙ append_assoc a x.done y.done;
+    took = rw (over.both x.done y.done)
+        (Took-append _ s t u _ _ x.took y.took);
   }
 
   -- of lines with the same results
   pub More-over : {a b c d : List Ruling} {s t : S} → c ≡ a → d ≡ b → TookMore step f a b s t → TookMore step f c d s t
-  More-over e g x = record { done = x.done; grown = g ∙ (x.grown ∙ ap (λ z. z ++ x.done) (sym e)); took = x.took }
+  More-over e g x = record { done = x.done; grown = g ∙ x.grown ∙ ap (λ z. z ++ x.done) (sym e); took = x.took }
 
   -- of all lines from the start
   pub More-all : {all : List Ruling} {s t : S} → TookMore step f [] all s t → Took step s (f all) t
-  More-all {all} {s} {t} x = subst (λ rs. Took step s (f rs) t) (sym x.grown) x.took
+  More-all {all} {s} {t} x = rw x.grown x.took
 
   -- one line more, of a text whose first lines are these and then this one
   pub More-line : (rules : Rules) (q : List ℕ) (i j : ℕ) (xs : List Line) (l : Line) (s t : S) → take i (lines q) ≡ xs
@@ -55,7 +55,7 @@ module _ {S X : Type 0} (step : S → X → S → Type 0) {f : List Ruling → L
       → TookOf step f (stretch rules q i j) s t
   More-line rules q i j xs l s t front all took = record {
     done = ruling_after rules xs l ∷ [];
-    grown = rw (all, front) (rulings-next rules xs l);
+    grown = rw (all, front) (rulings-next _ _ l);
     took = took;
   }
 
@@ -65,11 +65,11 @@ module _ {S X : Type 0} (step : S → X → S → Type 0) {f : List Ruling → L
     -- as many lines as are handled, and the whole lines
     pub took-good : (m : ℕ) (s t : S) → m ≡ length (good rules q) → TookOf step f (stretch rules q 0 m) s t
         → Took step s (f (rulings_good rules q)) t
-    took-good m s t e x = subst (λ rs. Took step s (f rs) t) (first-good rules m q e) (More-all x)
+    took-good m s t e x = rw (first-good rules m q e) at (More-all x)
 
     pub took-whole : (m : ℕ) (s t : S) → refusal_in rules (lines (whole q)) ≡ None → m ≡ length (lines (whole q))
         → TookOf step f (stretch rules q 0 m) s t → Took step s (f (rulings_good rules (whole q))) t
-    took-whole m s t none e x = subst (λ rs. Took step s (f rs) t) (first-whole rules m q none e) (More-all x)
+    took-whole m s t none e x = rw (first-whole rules m q none e) at (More-all x)
 
     module _ (n : ℕ) where
       -- what comes after the first n lines
@@ -77,12 +77,12 @@ module _ {S X : Type 0} (step : S → X → S → Type 0) {f : List Ruling → L
           → drop (length (f (rulings_first rules n q))) (f (rulings_good rules q)) ≡ f ds
       after-first ds h =
           let first = f (rulings_first rules n q) in
-          ap (drop (length first)) (ap f h ∙ over.both (rulings_first rules n q) ds) ∙ drop-append_seam first (f ds)
+          ap (drop (length first)) (ap f h ∙ over.both (rulings_first rules n q) ds) ∙ drop-append_seam first _
 
       pub took-after : (m : ℕ) (s t : S) → m ≡ length (good rules q) → TookOf step f (stretch rules q n m) s t
           → Took step s (drop (length (f (rulings_first rules n q))) (f (rulings_good rules q))) t
       took-after m s t e x =
-          subst (λ xs. Took step s xs t) (sym (after-first x.done (sym (first-good rules m q e) ∙ x.grown))) x.took
+          rw (after-first x.done (sym (first-good rules m q e) ∙ x.grown)) x.took
 
       module _ (then : List X → S → S → Type 0) (m : ℕ) (rest : List Ruling)
           (next : rulings_good rules q ≡ rulings_first rules m q ++ rest) (u t : S) (left : then (f rest) u t) where
@@ -94,15 +94,14 @@ module _ {S X : Type 0} (step : S → X → S → Type 0) {f : List Ruling → L
         unfolding More-then
         two-took i s v x y =
             let ds = x.done ++ y.done in
-            let all = next ∙ (ap (λ z. z ++ rest) (More-then x y).grown
-            ∙ append_assoc (rulings_first rules n q) (x.done ++ y.done) rest) in
             record {
               more = f y.done;
               others = f rest;
               middle = u;
-              front = after-first (ds ++ rest) all
-                  ∙ (over.both ds rest ∙ ap (λ z. z ++ f rest) (over.both x.done y.done));
-              took = Took-append step s v u (f x.done) (f y.done) x.took y.took;
+              front = after-first _ (next ∙ ap (λ z. z ++ rest) (More-then x y).grown
+                  ∙ append_assoc (rulings_first rules n q) (x.done ++ y.done) rest)
+                  ∙ over.both ds rest ∙ ap (λ z. z ++ f rest) (over.both x.done y.done);
+              took = Took-append _ s v u _ _ x.took y.took;
               left = left;
             }
 
@@ -111,8 +110,10 @@ module _ {S X : Type 0} (step : S → X → S → Type 0) {f : List Ruling → L
             → TookFront step then
             (prefixes (drop (length (f (rulings_first rules n q))) (f (rulings_good rules q))) []) s t
         front-took s y =
-            let none : TookOf step f (stretch rules q n n) s s =
-            record { done = []; grown = sym (append-nil (rulings_first rules n q)); took = rw over.none refl } in
-            subst (λ xs. TookFront step then
-            (prefixes (drop (length (f (rulings_first rules n q))) (f (rulings_good rules q))) xs) s t) over.none
-            (two-took n s s none y)
+            rw over.none at
+            (two-took n s s (record {
+              done = [];
+              grown = sym (append-nil (rulings_first rules n q));
+              took = rw
+                  over.none refl;
+            }) y)

@@ -16,8 +16,8 @@ and-both false y h = cc
 -- bytes that are all blank are ASCII
 blank-ascii : (c : List ℕ) → list_all is_blank_byte c ≡ true → IsAscii c
 blank-ascii [] h i = omega arith
-blank-ascii (b ∷ c) h zero = blank-byte b (and-both (is_blank_byte b) (list_all is_blank_byte c) h).0
-blank-ascii (b ∷ c) h (suc i) = blank-ascii c (and-both (is_blank_byte b) (list_all is_blank_byte c) h).1 i
+blank-ascii (b ∷ c) h zero = blank-byte b (and-both _ _ h).0
+blank-ascii (b ∷ c) h (suc i) = blank-ascii c (and-both _ _ h).1 i
 
 pub verdict-long : (rules : Rules) (n : ℕ) (header : Tree) (c : List ℕ) → rules.limits.line < length c
     → verdict_at rules n header c ≡ Invalid rules.limits.line LineTooLong
@@ -29,16 +29,15 @@ pub verdict-bytes : (rules : Rules) (n : ℕ) (header : Tree) (c : List ℕ) →
 unfolding verdict_at
 verdict-bytes rules n header c h not_text =
     let e : ltb rules.limits.line (length c) ≡ false = grind (arith, nat_tests) in
-    let u : is_utf8 c ≡ false = not_true (is_utf8 c) (λ y. not_text (IsUtf8-from_is_utf8 c y)) in
-    rw (e, u)
+    rw (e, not_true (is_utf8 c) (λ y. not_text (IsUtf8-from_is_utf8 c y)))
 
 pub verdict-blank : (rules : Rules) (n : ℕ) (header : Tree) (c : List ℕ) → length c ≤ rules.limits.line
     → nat_lt 1 n && list_all is_blank_byte c ≡ true → verdict_at rules n header c ≡ Blank
 unfolding verdict_at
 verdict-blank rules n header c h blank =
     let e : ltb rules.limits.line (length c) ≡ false = grind (arith, nat_tests) in
-    let only = (and-both (nat_lt 1 n) (list_all is_blank_byte c) blank).1 in
-    rw (e, is_utf8-from_IsUtf8 c (IsUtf8-from_ascii c (blank-ascii c only)), blank) refl
+    let only = (and-both _ _ blank).1 in
+    rw (e, is_utf8-from_IsUtf8 c (IsUtf8-from_ascii c (blank-ascii c only)), blank)
 
 pub verdict-json : (rules : Rules) (n : ℕ) (header : Tree) (c : List ℕ) → length c ≤ rules.limits.line → IsUtf8 c
     → nat_lt 1 n && list_all is_blank_byte c ≡ false
@@ -46,7 +45,7 @@ pub verdict-json : (rules : Rules) (n : ℕ) (header : Tree) (c : List ℕ) → 
 unfolding verdict_at
 verdict-json rules n header c h is_text not_blank =
     let e : ltb rules.limits.line (length c) ≡ false = grind (arith, nat_tests) in
-    rw (e, is_utf8-from_IsUtf8 c is_text, not_blank) refl
+    rw (e, is_utf8-from_IsUtf8 c is_text, not_blank)
 
 -- the first line has no header before it
 pub verdict-first : (rules : Rules) (x y : Tree) (c : List ℕ) → verdict_at rules 1 x c ≡ verdict_at rules 1 y c
@@ -56,22 +55,22 @@ verdict-first rules x y c = grind arith
 -- ---- the verdict by findings
 
 least-is : (fs : List Finding) (f : Finding) → IsLeast fs (Some f) → least None fs ≡ Some f
-least-is fs f h = least_only fs fs (Some f) (least None fs) (λ g. (λ x. x, λ x. x)) h (fold_least None fs)
+least-is fs f h = least_only _ _ _ _ (λ g. (λ x. x, λ x. x)) h (fold_least None fs)
 
 pub tree-refused : (rules : Rules) (n : ℕ) (header t : Tree) (f : Finding)
     → IsLeast (findings rules n header t) (Some f) → tree_verdict rules n header t ≡ Invalid f.place f.reason
 tree-refused rules n header t f h =
-    ap (by_least (is_kept_if_valid rules n header t)) (least-is (findings rules n header t) f h)
+    ap (by_least (is_kept_if_valid rules n header t)) (least-is _ f h)
 
 pub tree-valid : (rules : Rules) (n : ℕ) (header t : Tree) → findings rules n header t ≡ []
     → is_kept_if_valid rules n header t ≡ true → tree_verdict rules n header t ≡ Kept
 tree-valid rules n header t h keep = ap (λ fs. by_least (is_kept_if_valid rules n header t) (least None fs)) h
-    ∙ rw keep refl
+    ∙ rw keep
 
 pub tree-unasked : (rules : Rules) (n : ℕ) (header t : Tree) → findings rules n header t ≡ []
     → is_kept_if_valid rules n header t ≡ false → tree_verdict rules n header t ≡ LeftOut
 tree-unasked rules n header t h leave = ap (λ fs. by_least (is_kept_if_valid rules n header t) (least None fs)) h
-    ∙ rw leave refl
+    ∙ rw leave
 
 -- a first line that is not refused is kept
 pub valid-first : (rules : Rules) (x : Tree) (c : List ℕ) → refusal_of rules 1 (verdict_at rules 1 x c) ≡ None

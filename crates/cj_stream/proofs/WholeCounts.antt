@@ -1,5 +1,5 @@
 -- The counts of a run over pieces are of the whole stream.
-use Rattle.cj_stream.proofs.Common.{Complete, Counts, CountsAll, End, Ends, IsUnhindered, IsUnread, List, Memory, Peaks, Refused, Rules, Some, WriteFault, [], ap, ending, filter, good, inl, is_feature, joined, judged, kept, kept_of, length, refusal_in, reported_of, take, ℕ, ◌+◌, ◌∙◌, ◌≡◌, ◌⊎◌}
+use Rattle.cj_stream.proofs.Common.{Complete, Counts, CountsAll, End, Ends, IsUnhindered, IsUnread, List, Peaks, Refused, Rules, Some, [], ap, ending, filter, good, inl, is_feature, joined, judged, kept, kept_of, length, refusal_in, reported_of, take, ℕ, ◌+◌, ◌∙◌, ◌≡◌, ◌⊎◌}
 use Rattle.cj_stream.proofs.CutLemmas.{given-said}
 use Rattle.cj_stream.proofs.FirstLemmas.{first-good}
 
@@ -9,8 +9,8 @@ module _ (rules : Rules) (count features refusals : ℕ) (peaks : Peaks) where
       → CountsAll rules r (record { lines = count; kept = features; refused = refusals; peaks = peaks; ended = e })
   all-counted r e h all = record {
     lines = all;
-    kept = h.counted.kept ∙ ap (λ rs. length (filter is_feature (kept_of rs))) (first-good rules count r all);
-    refused = h.counted.refused ∙ ap (λ rs. length (reported_of rs)) (first-good rules count r all);
+    kept = h.counted.kept ∙ ap (λ rs. length (filter is_feature (kept_of rs))) (first-good _ _ r all);
+    refused = h.counted.refused ∙ ap (λ rs. length (reported_of rs)) (first-good _ _ r all);
   }
 
   -- the same of a stream with the same good lines
@@ -32,9 +32,8 @@ module _ (rules : Rules) (count features refusals : ℕ) (peaks : Peaks) where
       → CountsAll rules (joined pieces)
       (record { lines = count; kept = features; refused = refusals; peaks = peaks; ended = e })
   given-counted pieces k e h said ends all =
-      let same = given-said rules [] pieces k e said ends in
-      same-counted (joined (take (k + 1) pieces)) (joined pieces) e same.1
-      (all-counted (joined (take (k + 1) pieces)) e h all)
+      same-counted _ _ e (given-said rules [] pieces k e said ends).1
+      (all-counted _ e h all)
 
   -- what was counted of the pieces that were given, by the end
   pub CountsAll-ends : (pieces : List (List ℕ)) (k : ℕ) (e : End)
@@ -44,9 +43,7 @@ module _ (rules : Rules) (count features refusals : ℕ) (peaks : Peaks) where
       → CountsAll rules (joined pieces)
       (record { lines = count; kept = features; refused = refusals; peaks = peaks; ended = e })
   CountsAll-ends pieces k Complete h ends u free =
-      given-counted pieces k Complete h (inl ends.2) ends.0 ends.1
+      given-counted _ k _ h (inl ends.2) ends.0 ends.1
   CountsAll-ends pieces k (Refused number place reason) h ends u free =
-      given-counted pieces k (Refused number place reason) h ends.2 ends.0 ends.1
-  CountsAll-ends pieces k WriteFault h ends u free = absurd free
-  CountsAll-ends pieces k Memory h ends u free = absurd free
-  CountsAll-ends pieces k other h ends u free = absurd u
+      given-counted _ k _ h ends.2 ends.0 ends.1
+  CountsAll-ends pieces k other h ends u free = search

@@ -3,7 +3,7 @@ use Rattle.cj_stream.proofs.FirstLemmas.{first-good}
 use Rattle.cj_stream.proofs.laws.good_lines_are_kept.Goals as goal
 
 pub returns-clause-kept : goal.returns-clause-kept
-returns-clause-kept c = λ rules r n all. ap kept_of (first-good rules n r all)
+returns-clause-kept c = λ rules r n all. ap kept_of (first-good _ n r all)
 
 pub returns-clause-reported : goal.returns-clause-reported
-returns-clause-reported c = λ rules r n all. ap reported_of (first-good rules n r all)
+returns-clause-reported c = λ rules r n all. ap reported_of (first-good _ n r all)

@@ -2,16 +2,16 @@ use Rattle.cj_stream.proofs.HeadlineLemmas.{headline-writes, headline-gives, hea
 use Rattle.cj_stream.proofs.laws.headlines_tell_all.Goals as goal
 
 pub returns-clause-writes : goal.returns-clause-writes
-returns-clause-writes g c = λ fate old new h u. headline-writes g.N.ReportSink.notes fate old new h u
+returns-clause-writes g c = λ fate old new h u. headline-writes _ _ _ _ h u
 
 pub returns-clause-gives : goal.returns-clause-gives
-returns-clause-gives g c = λ fate old new h u. headline-gives g.N.ReportSink.notes fate old new h u
+returns-clause-gives g c = λ fate old new h u. headline-gives _ _ _ _ h u
 
 pub returns-clause-ends : goal.returns-clause-ends
-returns-clause-ends g c = λ fate old new h u. headline-ends g.N.ReportSink.notes fate old new h u
+returns-clause-ends g c = λ fate old new h u. headline-ends _ _ _ _ h u
 
 pub returns-clause-exact : goal.returns-clause-exact
-returns-clause-exact g c = λ fate old new h e. headline-exact g.N.ReportSink.notes fate old new h e
+returns-clause-exact g c = λ fate old new h e. headline-exact _ _ _ _ h e
 
 pub returns-clause-memory : goal.returns-clause-memory
-returns-clause-memory g c = λ fate old new h e. headline-memory g.N.ReportSink.notes fate old new h e
+returns-clause-memory g c = λ fate old new h e. headline-memory _ _ _ _ h e

@@ -4,7 +4,7 @@ use Rattle.cj_stream.proofs.TallyPartsLemmas.{tally-parts}
 use Rattle.cj_stream.proofs.laws.parts_are_joined.Goals as goal
 
 pub returns-clause-judged : goal.returns-clause-judged
-returns-clause-judged c = λ rules h a b cut done. judged-parts rules h a b cut done
+returns-clause-judged c = λ rules h a b cut done. judged-parts _ h a b cut done
 
 pub returns-clause-kept : goal.returns-clause-kept
 returns-clause-kept c = λ rules h a b cut done. kept-parts rules h a cut done b
@@ -28,7 +28,7 @@ pub returns-clause-refused : goal.returns-clause-refused
 returns-clause-refused c = λ rules h a b cut done. refused-counted rules h a cut done b
 
 pub returns-clause-peaks : goal.returns-clause-peaks
-returns-clause-peaks c = λ limits h a b cut. exact-parts limits h a b cut
+returns-clause-peaks c = λ limits h a b cut. exact-parts _ h a b cut
 
 pub returns-clause-tally : goal.returns-clause-tally
 returns-clause-tally c = λ rules h a b first second both cut done x y joins.

@@ -1,12 +1,13 @@
 use Rattle.cj_stream.proofs.Common.{Collects, IsAtEnd, Keeps, [], channel, output_failures, output_law, output_writer, reported_first, subst, sym}
-use Rattle.cj_stream.proofs.HeadlineLemmas.{Headline-run, Keeps-same, unhandled, unput}
+use Rattle.cj_stream.proofs.HeadlineLemmas.{Headline-run, unhandled, unput}
 use Rattle.cj_stream.proofs.NoteLemmas.{Noting-collected}
 use Rattle.cj_stream.proofs.OutputLemmas.{Writes-puts}
 use Rattle.cj_stream.proofs.laws.reports_are_collected.Goals as goal
+use Rattle.std.proofs.KnownBytes.{Keeps-refl}
 
 pub returns-clause-runs : goal.returns-clause-runs
 returns-clause-runs g c =
-    λ run left account none. Noting-collected run (IsAtEnd left) account none
+    λ run left account none. Noting-collected _ _ account none
 
 pub returns-clause-headline : goal.returns-clause-headline
 returns-clause-headline g c = λ run left a b runs lacks cause.
@@ -17,4 +18,4 @@ returns-clause-headline g c = λ run left a b runs lacks cause.
     (Noting-collected run (IsAtEnd left) runs.account
     (λ is. unhandled run (IsAtEnd left) runs.account (lacks is))).noted cause lacks
     (λ is. subst (λ s. Keeps (contents (output_writer a)) (contents (output_writer s)))
-    (sym (unput (output_law contents) run (IsAtEnd left) a b runs is (lacks is))) (Keeps-same _))
+    (sym (unput (output_law contents) run (IsAtEnd left) a b runs is (lacks is))) (Keeps-refl _))

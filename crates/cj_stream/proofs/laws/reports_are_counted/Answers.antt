@@ -2,7 +2,7 @@ use Rattle.cj_stream.proofs.CountReportsLemmas.{counts-lines, counts-run, counts
 use Rattle.cj_stream.proofs.laws.reports_are_counted.Goals as goal
 
 pub returns-clause-lines : goal.returns-clause-lines
-returns-clause-lines c = λ rules q n t notes. counts-lines rules q n t notes
+returns-clause-lines c = λ rules q n t notes. counts-lines _ q n t notes
 
 pub returns-clause-runs : goal.returns-clause-runs
 returns-clause-runs c = λ r e t notes. counts-run r.rules r.bytes t e notes

@@ -1,4 +1,4 @@
-use Rattle.cj_stream.proofs.Common.{Err, List, StandsFor, [], ap, arith, get_or, joined, length, length-append, length-map, line_end, lines_of, map, refl, rules_of, sym, take, ℕ}
+use Rattle.cj_stream.proofs.Common.{Err, [], ap, arith, get_or, joined, length-append, length-map, line_end, map, refl, sym, take, List, StandsFor, length, lines_of, rules_of, ℕ}
 use Rattle.cj_stream.proofs.GivingLemmas.{Given-none, Given-next, Given-fed, Given-finished}
 use Rattle.cj_stream.proofs.JoinedLemmas.{joined-more, joined-short}
 use Rattle.cj_stream.proofs.RunLemmas.{HasRisen-after}
@@ -14,8 +14,8 @@ pub loop-taken-init : goal.loop-taken-init
 loop-taken-init g c = record {
   going = c.requires.going;
   taken = omega arith;
-  given = λ p st. Given-none g.S.LineSink.law g.N.ReportSink.notes (rules_of c.args.reader.now) p
-      (lines_of c.args.reader.now) _ c.args.reader.now _ _ c.requires.going refl refl st;
+  given = λ p st. Given-none _ _ _ p
+      _ _ _ _ _ c.requires.going refl refl st;
   counts = omega arith;
 }
 

@@ -1,4 +1,4 @@
-use Rattle.cj_stream.proofs.Common.{line_end, lines_of, map, rules_of}
+use Rattle.cj_stream.proofs.Common.{lines_of, line_end, map, rules_of}
 use Rattle.cj_stream.proofs.LinePieceLemmas.{Delivers-whole, lines-noted, lines-put}
 use Rattle.cj_stream.proofs.line_pieces.put_lines.Goals as goal
 

@@ -1,4 +1,4 @@
-use Rattle.cj_stream.proofs.Common.{Err, [], ap, arith, get_or, length, length-map, refl, rules_of, sym}
+use Rattle.cj_stream.proofs.Common.{Err, [], ap, arith, get_or, length-map, refl, sym, length, rules_of}
 use Rattle.cj_stream.proofs.GivingLemmas.{Given-none, Given-next, Given-fed, Given-finished}
 use Rattle.cj_stream.proofs.JoinedLemmas.{joined-more, joined-short}
 use Rattle.cj_stream.proofs.RunLemmas.{HasRisen-after, fails-grown}
@@ -13,7 +13,7 @@ feed-requires g c =
 
 pub loop-taken-init : goal.loop-taken-init
 loop-taken-init g c = record {
-  given = Given-none g.S.LineSink.law g.N.ReportSink.notes (rules_of c.args.engine.now) [] 0 _ c.args.engine.now _ _
+  given = Given-none _ _ _ _ 0 _ _ _ _
       c.requires.fresh.1 refl (c.requires.fresh.0.going c.requires.fresh.1).0.lines c.requires.fresh.0;
   counts = omega arith;
 }

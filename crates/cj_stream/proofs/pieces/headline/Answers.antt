@@ -1,8 +1,9 @@
-use Rattle.cj_stream.proofs.Common.{BeginsWell, Keeps, channel, drop, joined, judged_lines, lines_of, map, output_failures, output_writer, outputs, rules_of, subst, sym, take, ◌+◌}
+use Rattle.cj_stream.proofs.Common.{map, rules_of, ◌+◌, BeginsWell, Keeps, channel, drop, joined, judged_lines, lines_of, output_failures, output_writer, outputs, subst, sym, take}
 use Rattle.cj_stream.proofs.CutLemmas.{Copies-puts}
-use Rattle.cj_stream.proofs.HeadlineLemmas.{Copies-writes, Copies-ends, Headline-said, Keeps-same, NotesPieces-gives, begins-well}
+use Rattle.cj_stream.proofs.HeadlineLemmas.{Copies-writes, Copies-ends, Headline-said, NotesPieces-gives, begins-well}
 use Rattle.cj_stream.proofs.JoinedLemmas.{joined-cut}
 use Rattle.cj_stream.proofs.pieces.headline.Goals as goal
+use Rattle.std.proofs.KnownBytes.{Keeps-refl}
 
 pub returns-clause-headline : goal.returns-clause-headline
 returns-clause-headline g c =
@@ -22,7 +23,7 @@ returns-clause-headline g c =
     (Copies-ends rules pieces r.taken _ _ r.ended e) said.cause
     (λ m. record {
       unwritten = subst (λ s. Keeps (contents (output_writer c.args.sink.now)) (contents (output_writer s)))
-          (sym (said.memory m).1) (Keeps-same _);
+          (sym (said.memory m).1) (Keeps-refl _);
       unreported = (said.memory m).2;
       header = subst (λ s. BeginsWell (judged_lines rules s)) (joined-cut (r.taken + 1) pieces)
           (begins-well rules (joined (take (r.taken + 1) pieces)) (joined (drop (r.taken + 1) pieces))

@@ -1,4 +1,4 @@
-use Rattle.cj_stream.proofs.Common.{[], joined, lines_of, map, refl, rules_of, take, ◌+◌}
+use Rattle.cj_stream.proofs.Common.{joined, map, rules_of, take, ◌+◌, [], lines_of, refl}
 use Rattle.cj_stream.proofs.CutLemmas.{unread-at}
 use Rattle.cj_stream.proofs.LinePieceLemmas.{Delivers-whole, PutsPieces-ends}
 use Rattle.cj_stream.proofs.NoteLemmas.{NotesRun-said, NotesPieces-said, noted-none}

@@ -1,19 +1,14 @@
-use Rattle.cj_stream.proofs.Common.{Err, IsAtEnd, Memory, ReadFault, ReadLimit, Run, [], ap, append-nil, arith, inr, is_err, length, length-append, length-take, lines_of, outcome_of, refl, rules_of, sym, take, ◌++◌, ◌+◌, ◌∙◌, ◌≡◌}
-use Rattle.cj_stream.proofs.RunLemmas.{Consumes-then, Consumes-kept, Delivers-then, Ends-finished, Ends-fed, whole-good, HasRisen-after, said-not_complete, fault-not_complete, limit-not_complete, Gave-finished, Gave-fed, last-none, last-piece, least-going, begun-judged, stops-after}
+use Rattle.cj_stream.proofs.Common.{Err, Run, ap, append-nil, arith, inr, is_err, length, length-append, length-take, lines_of, outcome_of, refl, rules_of, sym, take, ◌++◌, ◌+◌, ◌∙◌, IsAtEnd, Memory, ReadFault, ReadLimit, [], ◌≡◌}
+use Rattle.cj_stream.proofs.RunLemmas.{Delivers-then, Ends-finished, Ends-fed, whole-good, HasRisen-after, said-not_complete, Gave-finished, Gave-fed, last-none, last-piece, least-going, begun-judged, stops-after}
 use Rattle.cj_stream.proofs.LeastLemmas.{begun-held}
 use Rattle.cj_stream.proofs.CutLemmas.{unread-said, unread-concludes}
 use Rattle.cj_stream.proofs.FirstLemmas.{first-same}
 use Rattle.cj_stream.proofs.NoteLemmas.{Both-left, Both-said}
 use Rattle.cj_stream.proofs.TookLemmas.{More-over, More-then, over-reported}
-use Rattle.cj_stream.specs.Source.{source_reader}
 use Rattle.cj_stream.proofs.DeviceLemmas.{unfailed-end, unfailed-limit, unread-limit}
 use Rattle.cj_stream.proofs.running.drive.Goals as goal
-
-fault-apart : ReadFault ≡ Memory → ⊥
-fault-apart h = cc
-
-limit-apart : ReadLimit ≡ Memory → ⊥
-limit-apart h = cc
+use Rattle.std.proofs.KnownBytes.{Consumes-trans, Consumes-kept}
+use Rattle.cj_stream.specs.Source.{source_reader}
 
 pub returns-in-Err-clause-runs : goal.returns-in-Err-clause-runs
 returns-in-Err-clause-runs g c =
@@ -21,7 +16,7 @@ returns-in-Err-clause-runs g c =
     let r = i.5.0 in
     let stands = i.5.2 in
     let both = Both-left g.S.LineSink.law g.N.ReportSink.notes c.loop-i.engine (rules_of c.args.engine.now) r
-    (IsAtEnd (g.R.Read.remaining (source_reader c.read.new.self))) _ _ _ _ ReadFault i.3 fault-not_complete fault-apart
+    (IsAtEnd (g.R.Read.remaining (source_reader c.read.new.self))) _ _ _ _ ReadFault i.3 (λ h. cc) (λ h. cc)
     (whole-good c.loop-i.engine r (stands.going i.2).0) (λ m u e. e) stands i.5.3 i.5.5 in (
       r,
       Consumes-kept _ _ _ r i.5.1 c.in-Err.ensures.bytes,
@@ -34,7 +29,7 @@ returns-in-Err-clause-runs g c =
       both.0,
       both.1,
       stops-after c.loop-i.engine.reading _ r [] (stands.going i.2).0 i.3 (sym (append-nil r)) refl (omega arith)
-          (λ h. absurd (fault-apart h))
+          (λ h. cc)
           (let k = least-going c.loop-i.engine r (stands.going i.2).0 (stands.going i.2).1 in rw i.3 at k)
           (let k = begun-held c.loop-i.engine.reading r (stands.going i.2).0 in rw i.3 at k),
     )
@@ -66,7 +61,7 @@ returns-in-Ok-eq0-clause-runs g c =
     (let k = c.finish.ensures.reports r i.5.2 i.2 in
     More-then g.N.ReportSink.notes over-reported i.5.5 (rw i.3 at k)) in (
       r,
-      let k = Consumes-then _ _ _ r (take c.in-Ok-eq0.field-0 c.read.new.buffer) i.5.1 c.in-Ok-eq0.ensures.bytes.0 in
+      let k = Consumes-trans _ _ _ r (take c.in-Ok-eq0.field-0 c.read.new.buffer) i.5.1 c.in-Ok-eq0.ensures.bytes.0 in
           rw (c.in-Ok-eq0.field-0-test, append-nil r) at k,
       record {
         giving = c.loop-i._i;
@@ -124,7 +119,7 @@ returns-in-Err-feed-clause-runs g c =
     More-then g.N.ReportSink.notes over-reported (More-over g.N.ReportSink.notes over-reported refl same i.5.5)
     (rw i.3 at k)) in (
       r ++ piece,
-      Consumes-then _ _ _ r piece i.5.1 c.in-Ok.ensures.bytes.0,
+      Consumes-trans _ _ _ r piece i.5.1 c.in-Ok.ensures.bytes.0,
       record {
         giving = c.loop-i._i + 1;
         gave = Gave-fed _ (r ++ piece) _ _ _ c.in-Err-feed.end (omega arith) said;
@@ -171,7 +166,7 @@ loop-i-preserved g c =
       omega (arith, i.4, c.feed.ensures.feeds.counts),
       (
         r ++ piece,
-        Consumes-then _ _ _ r piece i.5.1 c.in-Ok.ensures.bytes.0,
+        Consumes-trans _ _ _ r piece i.5.1 c.in-Ok.ensures.bytes.0,
         let k = c.feed.ensures.feeds.stands r i.5.2 in rw i.2 at k,
         let k = c.feed.ensures.feeds.sink r i.5.2 i.2 in
             let j = rw (i.3, c.in_default.ensures.feeds.unended) at k in
@@ -210,7 +205,7 @@ returns-clause-runs g c =
     let r = i.5.0 in
     let stands = i.5.2 in
     let both = Both-left g.S.LineSink.law g.N.ReportSink.notes c.loop-i.engine (rules_of c.args.engine.now) r
-    (IsAtEnd (g.R.Read.remaining (source_reader c.loop-i.source))) _ _ _ _ ReadLimit i.3 limit-not_complete limit-apart
+    (IsAtEnd (g.R.Read.remaining (source_reader c.loop-i.source))) _ _ _ _ ReadLimit i.3 (λ h. cc) (λ h. cc)
     (whole-good c.loop-i.engine r (stands.going i.2).0) (λ m u e. e) stands i.5.3 i.5.5 in (
       r,
       i.5.1,
@@ -223,7 +218,7 @@ returns-clause-runs g c =
       both.0,
       both.1,
       stops-after c.loop-i.engine.reading _ r [] (stands.going i.2).0 i.3 (sym (append-nil r)) refl (omega arith)
-          (λ h. absurd (limit-apart h))
+          (λ h. cc)
           (let k = least-going c.loop-i.engine r (stands.going i.2).0 (stands.going i.2).1 in rw i.3 at k)
           (let k = begun-held c.loop-i.engine.reading r (stands.going i.2).0 in rw i.3 at k),
     )

@@ -1,8 +1,10 @@
-use Rattle.std.proofs.Common.{◌≡◌, ◌∙◌, [], inl, inr, refl, ap, sym}
-use Rattle.cj_stream.specs.Source.{source_reader}
+use Rattle.std.proofs.Common.{◌∙◌, [], inl, inr, refl, ap, sym, ◌≡◌}
 use Rattle.cj_stream.proofs.NoteLemmas.{Noting-memory, noted-none}
-use Rattle.cj_stream.proofs.RunLemmas.{Consumes-none, Runs-memory, Stops-memory, Stops-read, memory-sink, memory-no_fault, unread-memory, enough-memory, enough-reads, none-counted}
+use Rattle.cj_stream.proofs.RunLemmas.{Runs-memory, Stops-memory, Stops-read, memory-sink, unread-memory, enough-memory, enough-reads, none-counted}
 use Rattle.cj_stream.proofs.running.run_within.Goals as goal
+use Rattle.std.proofs.KnownBytes.{Consumes-nil}
+use Rattle.cj_stream.proofs.Common.{ap, sym, ◌∙◌}
+use Rattle.cj_stream.specs.Source.{source_reader}
 
 -- The source holds the same loan to the end, so what is left in it is what the lender finds.
 pub returns : goal.returns
@@ -37,13 +39,13 @@ pub returns-in-Err : goal.returns-in-Err
 returns-in-Err g c = record {
   runs = (
     [],
-    Consumes-none _,
+    Consumes-nil _,
     unread-memory _ _ (ap (λ o. o.ended) c.without_memory.ensures),
-    rw c.without_memory.ensures (Runs-memory g.S.LineSink.law _ _ c.args.sink.now),
-    rw c.without_memory.ensures (Noting-memory g.N.ReportSink.notes _ c.args.reports.now),
+    rw c.without_memory.ensures (Runs-memory _ _ _ _),
+    rw c.without_memory.ensures (Noting-memory _ _ _),
     rw c.without_memory.ensures (Stops-memory _ _ refl),
   );
-  cause = λ fault. absurd (memory-no_fault (sym (ap (λ o. o.ended) c.without_memory.ensures) ∙ fault));
+  cause = λ fault. absurd (cc (sym (ap (λ o. o.ended) c.without_memory.ensures) ∙ fault));
   enough = enough-memory _ _ _ (ap (λ o. o.ended) c.without_memory.ensures);
   none = λ _. (
     refl,

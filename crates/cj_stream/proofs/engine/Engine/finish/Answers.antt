@@ -1,4 +1,4 @@
-use Rattle.cj_stream.proofs.Common.{answer_of, arith, header_end, line_end, refl, ◌∙◌}
+use Rattle.cj_stream.proofs.Common.{answer_of, arith, header_end, refl, ◌∙◌}
 use Rattle.cj_stream.proofs.FeedingLemmas.{header-lacks, never-lacks, IsFinished-finishes}
 use Rattle.cj_stream.proofs.FinishLemmas.{Counts-finished}
 use Rattle.cj_stream.proofs.NoteLemmas.{Notes-first}
@@ -9,14 +9,14 @@ pub returns-clause-finished : goal.returns-clause-finished
 returns-clause-finished g c =
     elim c.if-lines-gt0.branch [
       | then-lines-gt0 w ↦ rw (← c.self.view_is, c.in_default.is, w.self-inside-is, w.sink-is)
-          (IsFinished-finishes g.S.LineSink.law c.self.inside.splitter w.finish.new.self _ _ c.self.inside.taken
-          (answer_of line_end w.finish.result) _ (w.end-is ∙ (w.from-end.ensures ∙ w.after.ensures))
-          w.finish.ensures.carries (never-lacks w.finish.result) w.finish.ensures.finishes)
+          (IsFinished-finishes _ _ _ _ _ _
+          _ _ (w.end-is ∙ w.from-end.ensures ∙ w.after.ensures)
+          w.finish.ensures.carries (never-lacks _) w.finish.ensures.finishes)
       | else-lines-gt0 w ↦ rw (← c.self.view_is, c.in_default.is, w.self-inside-is, w.sink-is)
-          (IsFinished-finishes g.S.LineSink.law c.self.inside.splitter w.finish_first.new.self _ _ c.self.inside.taken
-          (answer_of header_end w.finish_first.result) _
-          (w.end-is ∙ (w.from-end-else-lines-gt0.ensures ∙ w.after-else-lines-gt0.ensures))
-          w.finish_first.ensures.carries (λ h. w.finish_first.ensures.memory (header-lacks w.finish_first.result h))
+          (IsFinished-finishes _ _ _ _ _ _
+          _ _
+          (w.end-is ∙ w.from-end-else-lines-gt0.ensures ∙ w.after-else-lines-gt0.ensures)
+          w.finish_first.ensures.carries (λ h. w.finish_first.ensures.memory (header-lacks _ h))
           w.finish_first.ensures.finishes)
     ]
 

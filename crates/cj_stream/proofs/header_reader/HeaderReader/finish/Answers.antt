@@ -5,7 +5,7 @@ use Rattle.cj_stream.proofs.header_reader.HeaderReader.finish.Goals as goal
 
 pub returns-in-Some-clause-finished : goal.returns-in-Some-clause-finished
 returns-in-Some-clause-finished g c =
-    IsFinished-again g.S.LineSink.law c.args.self.now c.args.sink.now (header_end c.in-Some.end) _ _
+    IsFinished-again _ _ _ _ _ _
     (rw (← c.self.view_is) (ap (option_map header_end) c.in-Some.is)) refl refl
 
 pub returns-clause-finished : goal.returns-clause-finished

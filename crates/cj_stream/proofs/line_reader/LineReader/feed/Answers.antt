@@ -5,7 +5,7 @@ use Rattle.cj_stream.proofs.line_reader.LineReader.feed.Goals as goal
 
 pub returns-in-Some-clause-feeds : goal.returns-in-Some-clause-feeds
 returns-in-Some-clause-feeds g c =
-    Feeds-again g.S.LineSink.law c.args.self.now c.args.sink.now c.args.piece.now (line_end c.in-Some.end) _ _
+    Feeds-again _ _ _ _ _ _ _
     (rw (← c.self.view_is) (ap (option_map line_end) c.in-Some.is)) refl refl
 
 pub returns-in-Ok-clause-feeds : goal.returns-in-Ok-clause-feeds

@@ -40,7 +40,6 @@ returns-clause-finishes g c = record {
   answers = search rules;
   scanned = λ p reads s.
       let none = c.has_begun.ensures.none c.if-has_begun.false in
-      let nothing = sym (held-whole c.args.self.now.reading (begun p) reads.begun none.1).0 ∙ none.0 in
-      scanned-closed c.args.self.now.reading.rules.limits p c.args.self.now.scanning nothing s;
+      scanned-closed _ p _ (sym (held-whole c.args.self.now.reading (begun p) reads.begun none.1).0 ∙ none.0) s;
   held = search rules;
 }

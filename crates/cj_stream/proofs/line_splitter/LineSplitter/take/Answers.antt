@@ -6,8 +6,8 @@ use Rattle.cj_stream.proofs.line_splitter.LineSplitter.take.Goals as goal
 -- a piece, by its front and the rest
 whole : (bytes : List ℕ) (k : ℕ) → take k bytes ++ take (length bytes - k) (drop k bytes) ≡ bytes
 whole bytes k =
-    let rest = take_all (length bytes - k) (drop k bytes) (omega (arith, length-drop k bytes)) in
-    ap (λ z. take k bytes ++ z) rest ∙ take-append-drop k bytes
+    ap (λ z. take k bytes ++ z) (take_all (length bytes - k) (drop k bytes) (omega (arith, length-drop k bytes)))
+    ∙ take-append-drop k _
 
 pub returns-in_err-progress-clause-reports : goal.returns-in_err-progress-clause-reports
 returns-in_err-progress-clause-reports g c = λ p reads.

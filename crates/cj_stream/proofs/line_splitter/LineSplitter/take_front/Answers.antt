@@ -1,4 +1,4 @@
-use Rattle.cj_stream.proofs.Common.{TakesAll, TakesSome, arith, drop, err_from_is_err_and, header_end, length, refl, subst, sym, take, take_all, with_sink, ◌+◌, ◌∙◌, ◌≡◌}
+use Rattle.cj_stream.proofs.Common.{TakesSome, arith, drop, err_from_is_err_and, header_end, length, refl, subst, sym, take, take_all, with_sink, ◌+◌, ◌∙◌}
 use Rattle.cj_stream.proofs.PieceSlices.{lf_found, lf_front, NoLf-before, NoLf-not_found}
 use Rattle.cj_stream.proofs.LeastLemmas.{held-now}
 use Rattle.cj_stream.proofs.TakingLemmas.{TakesAll-stored, TakesSome-last}
@@ -14,21 +14,19 @@ returns-in_err-store_first-clause-err g c =
 pub returns-in_default-clause-front : goal.returns-in_default-clause-front
 returns-in_default-clause-front g c = record {
   within = omega arith;
-  all = λ _. (refl, NoLf-not_found c.args.piece.now c.memchr.result c.memchr.ensures c.in_default.not-Some);
+  all = λ _. (refl, NoLf-not_found _ _ c.memchr.ensures c.in_default.not-Some);
   first = λ e. cc;
 }
 
 pub returns-in_default-clause-ok : goal.returns-in_default-clause-ok
 returns-in_default-clause-ok g c =
     let piece = c.args.piece.now in
-    let none = NoLf-not_found piece c.memchr.result c.memchr.ensures c.in_default.not-Some in
-    let all : take (length c.args.piece.now) c.args.piece.now ≡ c.args.piece.now =
-    take_all (length piece) piece (omega arith) in
-    rw all (TakesAll-stored g.S.LineSink.law c.args.self.now c.args.sink.now piece none c.store_first.new.self
+    rw (take_all (length piece) piece (omega arith)) (TakesAll-stored _ _ _ _ (NoLf-not_found piece c.memchr.result
+    c.memchr.ensures c.in_default.not-Some) _
     c.in_ok-store_first.ensures.ok c.store_first.ensures.lists)
 
 pub take_first-requires-clause-one : goal.take_first-requires-clause-one
-take_first-requires-clause-one g c = NoLf-before c.args.piece.now c.in-Some.at c.in-Some.ensures
+take_first-requires-clause-one g c = NoLf-before _ _ c.in-Some.ensures
 
 pub returns-in_err-take_first-clause-err : goal.returns-in_err-take_first-clause-err
 returns-in_err-take_first-clause-err g c =
@@ -58,6 +56,4 @@ returns-clause-front g c = record {
 
 pub returns-clause-ok : goal.returns-clause-ok
 returns-clause-ok g c =
-    subst (λ z. TakesAll g.S.LineSink.law z (with_sink c.args.self.now c.args.sink.now)
-    (with_sink c.take_first.new.self c.take_first.new.sink))
-    (sym (lf_front c.args.piece.now c.in-Some.at c.in-Some.ensures)) c.in_ok-take_first.ensures.ok
+    rw (lf_front c.args.piece.now c.in-Some.at c.in-Some.ensures) c.in_ok-take_first.ensures.ok

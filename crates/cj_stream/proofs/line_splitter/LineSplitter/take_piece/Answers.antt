@@ -107,8 +107,10 @@ returns-in_err-handle_line-clause-err g c =
 pub returns-in_err-handle_line-clause-reports : goal.returns-in_err-handle_line-clause-reports
 returns-in_err-handle_line-clause-reports g c = λ q reads.
     let handles = rw c.in_err-handle_line.was at c.handle_line.ensures.handles in
-    let unhandled = handled-err g.S.LineSink.law _ _ _ _ _ _ _ _ handles ∙ c.in_ok-store.ensures.ok.lines in
-    rw (unhandled, c.in_err-handle_line.ensures.silent) (c.loop-at.invariant.reports q reads)
+    rw (
+      handled-err g.S.LineSink.law _ _ _ _ _ _ _ _ handles ∙ c.in_ok-store.ensures.ok.lines,
+      c.in_err-handle_line.ensures.silent,
+    ) (c.loop-at.invariant.reports q reads)
 
 pub returns-in_err-store-2-clause-err : goal.returns-in_err-store-2-clause-err
 returns-in_err-store-2-clause-err g c =

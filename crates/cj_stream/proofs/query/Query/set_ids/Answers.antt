@@ -9,4 +9,4 @@ returns-clause-ok c =
     items-split c.args.separator c.args.list.now c.requires split.text split.has_more split.pattern
     c.into_iter-id-iterator.ensures.into_iter_gives in
     let all = YieldsList-end texts c.loop-id.yielded _ c.loop-id.yielded_by _ _ c.in-None.is c.next.ensures.steps in
-    c.sort_ids.ensures.asks ∙ (rw all.0 at c.loop-id.invariant.asks)
+    c.sort_ids.ensures.asks ∙ rw all.0 at c.loop-id.invariant.asks

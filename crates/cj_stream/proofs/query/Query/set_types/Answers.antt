@@ -3,7 +3,7 @@ use Rattle.std.proofs.Common.{◌||◌, option_and_then}
 use Rattle.std.proofs.lemmas.List.{at_drop_more, at_drop_all, length_push}
 use Rattle.cj_geometry.specs.Meaning.ObjectTypes.{ObjectRow}
 use Rattle.cj_geometry.specs.ObjectTypes.{row_named}
-use Rattle.cj_stream.specs.Adding.{adding_type, has_extension, is_extension, is_type, no_types, with_name, with_type, with_types, DeclinesType, DeclinesTypes}
+use Rattle.cj_stream.specs.Adding.{has_extension, is_extension, is_type, no_types, with_name, with_type, with_types, DeclinesType, DeclinesTypes}
 use Rattle.cj_stream.specs.declared.query.fault.QueryFault.TheVariants.{Memory, UnknownTypeName, BadBox, BoxRange, EmptyBox}
 use Rattle.cj_stream.proofs.SplitLemmas.{items-split}
 use Rattle.cj_stream.proofs.query.Query.set_types.Goals as goal
@@ -41,24 +41,24 @@ module _ (old new : Criteria) where
       → Adds old new (with_name row extension name types) → (is_some row || extension) ≡ true
   is-known (Some row) extension name types h = refl
   is-known None true name types h = refl
-  is-known None false name types h = absurd (cc h)
+  is-known None false name types h = cc
 
 -- a name that no type has adds none
 none-added : (row : Option ObjectRow) (extension : Bool) (name : List ℕ) (types : ChosenTypes)
     → (is_some row || extension) ≡ false → with_name row extension name types ≡ None
-none-added (Some row) extension name types h = absurd (cc h)
-none-added None true name types h = absurd (cc h)
+none-added (Some row) extension name types h = cc
+none-added None true name types h = cc
 none-added None false name types h = refl
 
 -- some name of an extension comes, where this is one, or where this is known and one comes after it
 more-here : (known extension more : Bool) → known ≡ true → more ≡ true → (known && (extension || more)) ≡ true
-more-here known true more is one = rw is refl
-more-here known false more is one = rw (is, one) refl
+more-here known true more is one = rw is
+more-here known false more is one = rw (is, one)
 
 this-here : (row : Option ObjectRow) (extension more : Bool) → extension ≡ true
     → ((is_some row || extension) && (extension || more)) ≡ true
-this-here (Some row) extension more is = rw is refl
-this-here None extension more is = rw is refl
+this-here (Some row) extension more is = rw is
+this-here None extension more is = rw is
 
 -- the name that comes next, and those after it
 here : (all : List (List ℕ)) (i : ℕ) (name : List ℕ) → (i < length all) × (name ≡ get_or all i name)
@@ -72,20 +72,20 @@ module _ (extensions : Bool) (all : List (List ℕ)) (i : ℕ) (name : List ℕ)
     (more : has_extension extensions (drop i all) ≡ true → has_extension extensions all ≡ true) where
   types-here : option_and_then (with_types extensions (drop (i + 1) all)) (with_type extensions name types)
       ≡ with_types extensions all no_types
-  types-here = sym (ap (λ names. with_types extensions names types) (here all i name next)) ∙ left
+  types-here = sym (ap (λ names. with_types extensions names types) (here _ i _ next)) ∙ left
 
   has-here : has_extension extensions (name ∷ drop (i + 1) all) ≡ true → has_extension extensions all ≡ true
-  has-here h = more (ap (has_extension extensions) (here all i name next) ∙ h)
+  has-here h = more (ap (has_extension extensions) (here _ i _ next) ∙ h)
 
   -- a name that is declined is why the list is
   declined-here : (fault : QueryFault) → DeclinesType extensions name fault → DeclinesTypes extensions all fault
   declined-here UnknownTypeName h =
       sym types-here
       ∙ ap (option_and_then (with_types extensions (drop (i + 1) all)))
-      (none-added (row_named name) (is_extension extensions name) name types h)
+      (none-added _ _ _ _ h)
   declined-here Memory h =
       has-here
-      (this-here (row_named name) (is_extension extensions name) (has_extension extensions (drop (i + 1) all)) h)
+      (this-here _ _ _ h)
   declined-here BadBox h = absurd h
   declined-here BoxRange h = absurd h
   declined-here EmptyBox h = absurd h

@@ -15,11 +15,10 @@ meets-requires c =
 
 pub meets-requires-else-meets : goal.meets-requires-else-meets
 meets-requires-else-meets c =
-    let first : c.alone-first.result ≡ alone c.in-Some.number = search rules in
-    let numbers = sym c.coordinates-numbers.ensures.numbers ∙ c.in-Some.ensures.steps in
-    let range = ap range_of numbers
-    ∙ ap Some (ap (λ r. widened r (coordinates_left c.next.new.self)) (sym first) ∙ sym c.widened_by.ensures) in
-    range_small c.args.axis c.widened_by.result (vertices (feature_tree c.args.feature.now)) range
+    let range = ap range_of (sym c.coordinates-numbers.ensures.numbers ∙ c.in-Some.ensures.steps)
+    ∙ ap Some (ap (λ r. widened r (coordinates_left c.next.new.self)) (sym (search rules))
+    ∙ sym c.widened_by.ensures) in
+    range_small _ _ _ range
 
 pub returns-then-meets-clause-met : goal.returns-then-meets-clause-met
 returns-then-meets-clause-met c =
@@ -33,8 +32,7 @@ returns-then-meets-clause-met c =
 
 pub returns-else-meets-clause-met : goal.returns-else-meets-clause-met
 returns-else-meets-clause-met c =
-    let first : c.alone-first.result ≡ alone c.in-Some.number = search rules in
-    let numbers = sym c.coordinates-numbers.ensures.numbers ∙ c.in-Some.ensures.steps in
-    let range = ap range_of numbers
-    ∙ ap Some (ap (λ r. widened r (coordinates_left c.next.new.self)) (sym first) ∙ sym c.widened_by.ensures) in
+    let range = ap range_of (sym c.coordinates-numbers.ensures.numbers ∙ c.in-Some.ensures.steps)
+    ∙ ap Some (ap (λ r. widened r (coordinates_left c.next.new.self)) (sym (search rules))
+    ∙ sym c.widened_by.ensures) in
     c.meets-else-meets.ensures _ range

@@ -1,22 +1,24 @@
-use Rattle.cj_stream.proofs.Common.{AreIndexed, Ascend, Entry, IsPermutation, List, [], ap, arith, drop, keys_at, length, length-append, pieces, rules, string_bytes, subst, sym, take, take_at, vec_items, ℕ, ◌++◌, ◌+◌, ◌-◌, ◌∙◌, ◌∷◌, ◌≡◌}
+use Rattle.cj_stream.proofs.Common.{AreIndexed, Ascend, Entry, [], ap, arith, drop, keys_at, length, length-append, pieces, rules, string_bytes, subst, sym, take, take_at, vec_items, ◌++◌, ◌+◌, ◌-◌, ◌∙◌, ◌∷◌, ◌≡◌}
 use Rattle.std.proofs.lemmas.List.Sorted.{length_permutation}
 use Rattle.cj_stream.proofs.IdLemmas.{indexed_more, pieces_more, runs_held}
 use Rattle.cj_stream.proofs.query.ids.add_entry.Goals as goal
 
 pub join_last-count-requires : goal.join_last-count-requires
 join_last-count-requires c =
-    let held = runs_held (string_bytes c.args.text.now) (vec_items c.args.lengths.now) (vec_items c.args.entries.now)
-    (vec_items c.args.runs.now) c.requires.indexed in
-    omega (arith, held, c.args.entries.now.ok.0, c.args.entries.now.ok.1, c.args.entries.now.small)
+    let held = runs_held _ _ _
+    _ c.requires.indexed in
+    omega arith
 
 pub overflow_sub-start : goal.overflow_sub-start
 overflow_sub-start c =
     let entries = vec_items c.args.entries.now in
-    let held = runs_held (string_bytes c.args.text.now) (vec_items c.args.lengths.now) entries
-    (vec_items c.args.runs.now) c.requires.indexed in
-    let longer : length (vec_items c.put-2.new.list) ≡ length entries + 1 = ap (λ es. length es) c.put-2.ensures
-    ∙ length-append entries _ in
-    omega (arith, held, longer, c.join_last-count.ensures.count, c.len-2.ensures, c.put-2.new.list.ok.0)
+    let held = runs_held _ _ _
+    _ c.requires.indexed in
+    omega (
+      arith,
+      ap (λ es. length es) c.put-2.ensures
+          ∙ length-append entries _,
+    )
 
 pub returns-clause-added : goal.returns-clause-added
 returns-clause-added c =
@@ -37,40 +39,34 @@ returns-clause-indexed c =
     let runs = vec_items c.args.runs.now in
     let left = vec_items c.join_last-count.new.runs in
     let count = c.join_last-count.result in
-    let start : ℕ = c.len-2.result - count in
+    let start = c.len-2.result - count in
     let sorted = c.sort_from.new.entries in
     let entry : Entry = record { number = c.tail_of_string.result; start = c.len-begin.result; end = c.len.result } in
-    let more : List ℕ = lengths ++ length id ∷ [] in
+    let more = lengths ++ length id ∷ [] in
     let pushed : string_bytes c.push_str-never_fails.new.self ≡ bytes ++ id = search rules in
     let put : vec_items c.put.new.list ≡ more = search rules in
-    let held = runs_held bytes lengths entries runs c.requires.indexed in
-    let longer : length (vec_items c.put-2.new.list) ≡ length entries + 1 = ap (λ es. length es) c.put-2.ensures
-    ∙ length-append entries _ in
-    let base : c.as_mut_slice.result.now ≡ entries ++ entry ∷ [] = c.as_mut_slice.ensures.value ∙ c.put-2.ensures in
-    let kept : take start sorted ≡ take start (entries ++ entry ∷ []) = c.sort_from.ensures.kept
+    let base = c.as_mut_slice.ensures.value ∙ c.put-2.ensures in
+    let kept = c.sort_from.ensures.kept
     ∙ ap (take start) base in
-    let moved : IsPermutation (entries ++ entry ∷ []) sorted =
-    subst (λ es. IsPermutation es sorted) base c.sort_from.ensures.moved in
-    let text : c.as_str.result.now ≡ bytes ++ id = c.as_str.ensures.value ∙ pushed in
-    let up : Ascend (keys_at (bytes ++ id) (drop start sorted)) =
-    subst (λ t. Ascend (keys_at t (drop start sorted))) text c.sort_from.ensures.ascends in
+    let moved =
+    rw base at c.sort_from.ensures.moved in
+    let up =
+    subst (λ t. Ascend (keys_at t (drop start sorted))) (c.as_str.ensures.value ∙ pushed) c.sort_from.ensures.ascends in
     let begins : c.len-begin.result ≡ length bytes = search rules in
     let ends : c.len.result ≡ length (bytes ++ id) = search rules in
     let starts : start + count ≡ length entries + 1 =
-    omega (arith, held, longer, c.join_last-count.ensures.count, c.len-2.ensures, c.put-2.new.list.ok.0) in
-    let indexed : AreIndexed (bytes ++ id) more sorted (left ++ count ∷ []) =
-    indexed_more bytes id c.utf8.id lengths entries sorted runs left entry count start c.requires.indexed
+    omega (
+      arith,
+      runs_held bytes lengths entries runs c.requires.indexed,
+      ap (λ es. length es) c.put-2.ensures
+          ∙ length-append entries _,
+    ) in
+    let fits = length_permutation (entries ++ entry ∷ []) sorted moved
+    ∙ sym (ap length c.put-2.ensures) ∙ sym c.put-2.new.list.ok.0 in
+    rw pushed
+    (rw put
+    (subst (λ es. AreIndexed (bytes ++ id) more es (vec_items c.put-3.new.list)) (sym (take_at sorted _ _ fits))
+    (rw c.put-3.ensures (indexed_more bytes id c.utf8.id lengths entries sorted runs left entry count start
+    c.requires.indexed
     c.tail_of_string.ensures begins ends c.join_last-count.ensures.front c.join_last-count.ensures.count starts kept
-    moved up in
-    let fits : length sorted ≡ c.put-2.new.list.len = length_permutation (entries ++ entry ∷ []) sorted moved
-    ∙ sym (ap (λ es. length es) c.put-2.ensures) ∙ sym c.put-2.new.list.ok.0 in
-    let whole : take c.put-2.new.list.len (sorted ++ drop (length sorted) c.put-2.new.list.items) ≡ sorted =
-    take_at sorted _ _ fits in
-    subst (λ t. AreIndexed t (vec_items c.put.new.list)
-    (take c.put-2.new.list.len (sorted ++ drop (length sorted) c.put-2.new.list.items))
-    (vec_items c.put-3.new.list)) (sym pushed)
-    (subst (λ ls. AreIndexed (bytes ++ id) ls
-    (take c.put-2.new.list.len (sorted ++ drop (length sorted) c.put-2.new.list.items))
-    (vec_items c.put-3.new.list)) (sym put)
-    (subst (λ es. AreIndexed (bytes ++ id) more es (vec_items c.put-3.new.list)) (sym whole)
-    (subst (λ ns. AreIndexed (bytes ++ id) more sorted ns) (sym c.put-3.ensures) indexed)))
+    moved up))))

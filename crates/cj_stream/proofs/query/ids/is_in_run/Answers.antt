@@ -5,7 +5,7 @@ use Rattle.cj_stream.proofs.query.ids.is_in_run.Goals as goal
 pub returns : goal.returns
 returns c =
     let key : Key = record { number = c.args.number; text = text_of (tree c.args.node) } in
-    let result = c.binary_search_by.ensures.position (λ entry. compare_keys (key_at c.args.text.now entry) key)
-    (always_returns_same _ _ _ (λ a r g h. search rules)) in
-    c.is_ok.ensures.value ∙ found (key_at c.args.text.now) key c.args.run.now c.binary_search_by.result c.requires
-    c.binary_search_by.ensures.bound result
+    c.is_ok.ensures.value ∙ found _ _ _ _ c.requires
+    c.binary_search_by.ensures.bound (c.binary_search_by.ensures.position
+    (λ entry. compare_keys (key_at c.args.text.now entry) key)
+    (always_returns_same _ _ _ (λ a r g h. search rules)))

@@ -5,11 +5,11 @@ use Rattle.cj_stream.proofs.query.ids.part_between.Goals as goal
 
 pub returns : goal.returns
 returns c =
-    part_has c.args.number (record { number = 0; start = 0; end = 0 }) c.args.run.now c.args.start c.min-end.result
+    part_has _ _ _ _ _
     c.requires (omega arith) (omega arith)
     (λ h. elim c.if-start-gt0.branch [
       | then-start-gt0 w ↦
-          grind (arith, nat_tests, w.value-is, c.if-run-start.false)
+          grind (arith, nat_tests)
       | else-start-gt0 w ↦ absurd (omega arith)
     ])
     (λ h. elim c.else-end-run.branch [

@@ -10,9 +10,8 @@ loop-geometry-init c =
 pub loop-geometry-preserved : goal.loop-geometry-preserved
 loop-geometry-preserved c =
     let own = ap class_of (sym c.get.ensures.value) ∙ sym c.class_of-class.ensures.class in
-    let first = ap own_classes c.in-Some.ensures.steps.0
-    ∙ ap (λ n. n ∷ own_classes (geometries_left c.next.new.self)) own in
-    Counting-step 6 _ _ c.loop-geometry.counts c.class_of-class.result _ _ _ c.class_of-class.ensures.below first
+    Counting-step 6 _ _ _ _ _ _ _ c.class_of-class.ensures.below (ap own_classes c.in-Some.ensures.steps.0
+    ∙ ap (λ n. n ∷ own_classes (geometries_left c.next.new.self)) own)
     c.saturating_add.ensures c.loop-geometry.invariant
 
 pub returns : goal.returns

@@ -1,8 +1,7 @@
-use Rattle.cj_stream.proofs.Common.{feature_header, templates_of}
 use Rattle.cj_stream.proofs.Counted.{RisesBy-own}
 use Rattle.cj_stream.proofs.tally.adding.count_lods.Goals as goal
 
 pub returns-then-has_own_lods : goal.returns-then-has_own_lods
 returns-then-has_own_lods c =
-    RisesBy-own (templates_of (feature_header c.args.feature.now)) _ _ _ (c.has_own_lods.ensures c.if-has_own_lods.true)
+    RisesBy-own _ _ _ _ (c.has_own_lods.ensures c.if-has_own_lods.true)
     c.count_alone.ensures

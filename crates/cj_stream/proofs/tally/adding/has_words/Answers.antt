@@ -3,23 +3,23 @@ use Rattle.cj_stream.proofs.Ranges.{words-some, words-top, wider-none, wider-wit
 use Rattle.cj_stream.proofs.tally.adding.has_words.Goals as goal
 
 pub word_value-requires : goal.word_value-requires
-word_value-requires c = let n = words-top c.args.words c.requires.0 c.requires.1 in (n.0, n.1)
+word_value-requires c = let n = words-top _ _ c.requires.1 in (n.0, n.1)
 
 -- a range with these ends has the numbers of the words
 inside : (range r : Option (ℤ × ℤ)) (least greatest : ℤ) (a b : ℕ) → range ≡ Some (least, greatest)
     → r ≡ Some (pos a, pos b) → least ≤ℤ pos a → pos b ≤ℤ greatest → wider range r ≡ range
 inside range r least greatest a b e f l h =
     ap (wider range) f ∙ ap (λ q. wider q (Some (pos a, pos b))) e
-    ∙ wider-within least greatest (pos a) (pos b) l h
+    ∙ wider-within _ _ _ _ l h
     ∙ sym e
 
 -- one that begins at 0 or below has them if it has the greatest
 inside-low : (range r : Option (ℤ × ℤ)) (words : ℕ × ℕ) (least greatest : ℤ) → AreWordsOf words r
     → range ≡ Some (least, greatest) → least ≤ℤ pos 0
     → ((n : ℕ) → IsWordOf words.1 n → pos n ≤ℤ greatest) → wider range r ≡ range
-inside-low range None words least greatest are e l h = wider-none range
+inside-low range None words least greatest are e l h = wider-none _
 inside-low range (Some q) words least greatest are e l h =
-    inside range (Some q) least greatest are.0 are.1 e (ap (λ (p : ℤ × ℤ). Some p) are.4) (grind (arith, ints, l))
+    inside _ _ _ _ _ _ e (ap (λ p. Some p) are.4) (grind (arith, ints))
     (h are.1 are.3)
 
 pub returns-then-least-le0 : goal.returns-then-least-le0

@@ -1,6 +1,6 @@
-use Rattle.cj_stream.proofs.Common.{Bool, IsTrue, List, None, Option, TakesNumber, WidensFront, ap, arith, get_or, inl, inr, map, number_on, subst, suc, vertices_left, zero, ℕ, ℤ, ◌<◌, ◌∷◌, ◌≡◌, ◌⊎◌}
+use Rattle.cj_stream.proofs.Common.{Bool, IsTrue, List, Option, TakesNumber, ap, inl, inr, map, number_on, subst, vertices_left, ℕ, ℤ, ◌∷◌, ◌≡◌, ◌⊎◌}
 use Rattle.cj_stream.specs.TallySink.{TakesSome}
-use Rattle.cj_stream.proofs.Ranges.{OnWay, axis-next, way-joined, way-shorter, way-step}
+use Rattle.cj_stream.proofs.Ranges.{OnWay, axis-next, way-joined, way-shorter, way-step, on_axes}
 use Rattle.cj_stream.proofs.tally.adding.widen_front.Goals as goal
 
 -- what a step makes of the words on an axis, and of the way
@@ -8,7 +8,7 @@ gone-on : (b : Bool) (axis : ℕ) (whole left : List (List (Option ℤ))) (old n
     → (IsTrue b → (v : List (Option ℤ)) × (whole ≡ v ∷ left) × TakesNumber old (number_on axis v) new) → IsTrue b
     → (n : ℤ) × (map (number_on axis) whole ≡ n ∷ map (number_on axis) left) × TakesNumber old n new
 gone-on b axis whole left old new gone holds =
-    let g = gone holds in (number_on axis g.0, axis-next axis whole left g.0 g.1, g.2)
+    let g = gone holds in (number_on axis g.0, axis-next _ _ _ _ g.1, g.2)
 
 pub loop-going-preserved : goal.loop-going-preserved
 loop-going-preserved c =
@@ -43,23 +43,13 @@ loop-going-preserved c =
 
 pub loop-going-smaller : goal.loop-going-smaller
 loop-going-smaller c =
-    way-shorter c.widen_next-going.result c.loop-going.going (vertices_left c.loop-going.left)
-    (vertices_left c.widen_next-going.new.vertices) c.loop-going-test.true
+    way-shorter _ _ _
+    _ c.loop-going-test.true
     (λ holds. let g = c.widen_next-going.ensures.gone holds in (g.0, g.1))
     (elim c.widen_next-going.ensures.stays [
       | inl holds ↦ inl holds
       | inr k ↦ inr (ap vertices_left k.0)
     ])
-
-on_axis : (old new : List (Option (ℤ × ℤ))) (all left : ℕ → List ℤ)
-    → WidensFront (get_or old 0 None) (all 0) (get_or new 0 None) (left 0)
-    → WidensFront (get_or old 1 None) (all 1) (get_or new 1 None) (left 1)
-    → WidensFront (get_or old 2 None) (all 2) (get_or new 2 None) (left 2)
-    → (axis : ℕ) → axis < 3 → WidensFront (get_or old axis None) (all axis) (get_or new axis None) (left axis)
-on_axis old new all left x y z zero b = x
-on_axis old new all left x y z (suc zero) b = y
-on_axis old new all left x y z (suc (suc zero)) b = z
-on_axis old new all left x y z (suc (suc (suc n))) b = absurd (omega arith)
 
 pub returns : goal.returns
 returns c =
@@ -67,7 +57,7 @@ returns c =
     let off = c.loop-going-test.false in
     let all = λ (axis : ℕ). map (number_on axis) (vertices_left c.args.vertices) in
     let left = λ (axis : ℕ). map (number_on axis) (vertices_left c.loop-going.left) in
-    on_axis c.args.ranges.now c.join_to.new.ranges all left
+    on_axes _
     (way-joined _ _ _ _ _ (subst (λ b. OnWay b (all 0) c.loop-going.on_x (left 0)) off s.on_x) c.join_to.ensures.on_x)
     (way-joined _ _ _ _ _ (subst (λ b. OnWay b (all 1) c.loop-going.on_y (left 1)) off s.on_y) c.join_to.ensures.on_y)
     (way-joined _ _ _ _ _ (subst (λ b. OnWay b (all 2) c.loop-going.on_z (left 2)) off s.on_z) c.join_to.ensures.on_z)

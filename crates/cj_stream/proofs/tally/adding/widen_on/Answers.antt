@@ -1,4 +1,3 @@
-use Rattle.cj_stream.proofs.Common.{TakesNumber, subst, sym, ℤ}
 use Rattle.cj_stream.proofs.tally.adding.widen_on.Goals as goal
 
 pub returns-in-Some-clause-taken : goal.returns-in-Some-clause-taken
@@ -7,6 +6,6 @@ returns-in-Some-clause-taken c holds =
       e.0,
       e.1,
       e.2,
-      subst (λ (n : ℤ). TakesNumber c.args.words.now n c.widened_words.result) (sym e.5)
+      rw e.5
           (c.widened_words.ensures e.3 e.4),
     )

@@ -1,4 +1,4 @@
-use Rattle.cj_stream.proofs.Common.{IsLeast, Some, arith, document, false, findings, header_tree, is_blank_byte, list_all, nat_tests, refl, rules_for, scanning, sym, tree_of, true, ◌∙◌, ◌≡◌}
+use Rattle.cj_stream.proofs.Common.{IsLeast, Some, arith, document, false, findings, header_tree, is_blank_byte, list_all, nat_tests, refl, rules_for, sym, tree_of, true, ◌∙◌, ◌≡◌}
 use Rattle.std.proofs.Common.{eqb, ltb}
 use Rattle.cj_stream.proofs.BlankLemmas.{blank-tree}
 use Rattle.cj_stream.proofs.ScanningLemmas.{scans-none}
@@ -15,8 +15,8 @@ returns-then-is_blank-clause-hands g c = λ number later.
 pub returns-then-is_blank-clause-scans : goal.returns-then-is_blank-clause-scans
 returns-then-is_blank-clause-scans g c =
     let limits = c.args.self.now.limits in
-    scans-none limits c.args.content.now (scanning c.args.self.now) _ refl
-    (blank-tree limits c.args.content.now (sym c.is_blank.ensures ∙ c.if-is_blank.true))
+    scans-none _ _ _ _ refl
+    (blank-tree _ _ (sym c.is_blank.ensures ∙ c.if-is_blank.true))
 
 pub returns-in-Err-check_feature-clause-hands : goal.returns-in-Err-check_feature-clause-hands
 returns-in-Err-check_feature-clause-hands g c = λ number later.

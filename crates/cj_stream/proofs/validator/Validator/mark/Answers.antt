@@ -8,5 +8,5 @@ returns-then-asks_for_trees-clause-marks c =
 
 pub returns-then-asks_for_trees-clause-count : goal.returns-then-asks_for_trees-clause-count
 returns-then-asks_for_trees-clause-count c =
-    sym (length-bare c.mark_reached.new.tokens.elements)
-    ∙ (ap (λ ts. length ts) c.mark_reached.ensures.kept.tokens ∙ length-bare c.args.self.now.line_tokens.elements)
+    sym (length-bare _)
+    ∙ ap length c.mark_reached.ensures.kept.tokens ∙ length-bare _

@@ -1,4 +1,4 @@
-use Rattle.cj_stream.proofs.Common.{refl, scanning}
+use Rattle.cj_stream.proofs.Common.{refl}
 use Rattle.cj_stream.proofs.ScanningLemmas.{scans-unread, unread-said}
 use Rattle.cj_stream.proofs.validator.Validator.scan_later.Goals as goal
 
@@ -6,7 +6,6 @@ pub returns-in_err-judge-clause-scans : goal.returns-in_err-judge-clause-scans
 returns-in_err-judge-clause-scans c =
     let limits = c.args.self.now.limits in
     let content = c.args.content.now in
-    let unread = unread-said limits content c.requires.not_blank (rw c.requires.lists.opened
-    at c.in_err-judge.ensures.unread) in
-    scans-unread limits content (scanning c.args.self.now) _ c.requires.lists c.requires.short refl c.judge.ensures.law
-    unread
+    scans-unread _ _ _ _ c.requires.lists c.requires.short refl c.judge.ensures.law
+    (unread-said limits content c.requires.not_blank (rw c.requires.lists.opened
+    at c.in_err-judge.ensures.unread))

@@ -4,11 +4,13 @@ use Rattle.cj_stream.proofs.query.extent.Range.meets.Goals as goal
 
 pub returns-then-is_at_most : goal.returns-then-is_at_most
 returns-then-is_at_most c = λ ns e.
-    let below = at_most-range c.args.map.now c.args.high c.args.self ns e in
-    let above = at_least-range c.args.map.now c.args.low c.args.self ns e in
-    grind (arith, below, above)
+    grind (
+      arith,
+      at_most-range c.args.map.now c.args.high c.args.self ns e,
+      at_least-range c.args.map.now c.args.low
+          c.args.self ns e,
+    )
 
 pub returns-else-is_at_most : goal.returns-else-is_at_most
 returns-else-is_at_most c = λ ns e.
-    let below = at_most-range c.args.map.now c.args.high c.args.self ns e in
-    grind (arith, below)
+    grind (arith, at_most-range c.args.map.now c.args.high c.args.self ns e)
