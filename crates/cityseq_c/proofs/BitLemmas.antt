@@ -1,5 +1,5 @@
 -- Numbers whose binary digits tell which numbers are among some.
-use Rattle.cityseq_c.proofs.Common.{Bool, List, RisesBy, [], add-one, ap, arith, bits, capped, cond, eqb-false, false, filter, get_or, how_often, is_among, length, max, mod-le, nat_tests, pow_more, refl, subst, suc, sym, true, zero, ℕ, ◌+◌, ◌-◌, ◌<◌, ◌^◌, ◌∙◌, ◌∷◌, ◌≡◌, ◌≤◌}
+use Rattle.cityseq_c.proofs.Common.{Bool, List, RisesBy, [], add-one, ap, arith, bits, cond, eqb-false, false, filter, get_or, is_among, length, max, mod-le, nat_tests, pow_more, refl, subst, suc, sym, true, zero, ℕ, ◌+◌, ◌-◌, ◌<◌, ◌^◌, ◌∙◌, ◌∷◌, ◌≡◌, ◌≤◌}
 use Rattle.std.proofs.Common.{◌*◌, ◌%◌, nat_eq, w64, eqb-true, pow_pos}
 use Rattle.std.specs.Prelude.{nat_lt}
 use Rattle.std.specs.Int.{bit_at}
@@ -19,37 +19,20 @@ bits-more p n = rw add-one refl
 pub bits-same : (p q : ℕ → Bool) (size : ℕ) → ((n : ℕ) → n < size → p n ≡ q n) → bits p size ≡ bits q size
 unfolding bits
 bits-same p q zero h = refl
-bits-same p q (suc n) h = rw (h n (omega arith), bits-same p q n (λ k small. h k (omega arith))) refl
+bits-same p q (suc n) h = grind (arith, bits-same p q n (λ k small. h k (omega arith)))
 
 -- one more digit
 pub bits-step : (p : ℕ → Bool) (index bit old new : ℕ) (b : Bool) → p index ≡ b → bit ≡ 2 ^ index → old ≡ bits p index
     → old < 2 ^ index → new ≡ cond b (old + bit) old
     → (bit * 2 ≡ 2 ^ (index + 1)) × (new ≡ bits p (index + 1)) × (new < 2 ^ (index + 1))
-bits-step p index bit old new true is here before small now = (
-  omega (arith, here, pow_more 2 index),
-  now ∙ (rw (before, here) refl ∙ sym (bits-more p index ∙ ap (λ c. bits p index + cond c (2 ^ index) 0) is)),
-  omega (arith, now, here, small, pow_more 2 index),
-)
-bits-step p index bit old new false is here before small now = (
-  omega (arith, here, pow_more 2 index),
-  now ∙ before ∙ omega (arith, bits-more p index, ap (λ c. bits p index + cond c (2 ^ index) 0) is),
-  omega (arith, now, here, small, pow_more 2 index),
-)
-
-some-same : (a b : ℕ) → a ≡ capped b → nat_lt 0 a ≡ nat_lt 0 b
-some-same a zero e = rw e refl
-some-same a (suc b) e =
-    let left : nat_lt 0 a ≡ true = grind (arith, nat_tests, e) in
-    let right : nat_lt 0 (suc b) ≡ true = grind (arith, nat_tests) in
-    left ∙ sym right
+bits-step p index bit old new b is here before small now = grind (arith, pow_more, bits-more)
 
 -- counts that rose from nothing tell which numbers are among some
 pub bits-among : (size : ℕ) (old ns counts : List ℕ) → ((n : ℕ) → n < size → get_or old n 0 ≡ 0)
     → RisesBy size old ns counts
     → bits (λ n. nat_lt 0 (get_or counts n 0)) size ≡ bits (is_among ns) size
 bits-among size old ns counts none rises =
-    bits-same _ _ size (λ n small.
-    some-same (get_or counts n 0) (how_often n ns) (omega (arith, rises n small, none n small)))
+    grind (arith, bits-same, nat_tests)
 
 -- ---- the digits of such a number
 
@@ -68,11 +51,7 @@ digit-above a n true small =
       λ i low. ap (λ m. bit_at m i) e ∙ bit_at_cat_low 1 n a i low,
     )
 digit-above a n false small =
-    let e : a + 0 ≡ a = omega arith in (
-      omega (arith, small, pow_more 2 n),
-      ap (λ m. bit_at m n) e ∙ bit_at_above a n n small (omega arith),
-      λ i low. ap (λ m. bit_at m i) e,
-    )
+    grind (arith, pow_more, bit_at_above)
 
 -- a number is below a size, and its digit n is that of p
 abbrev HasDigits : (ℕ → Bool) → ℕ → ℕ → Type 0
@@ -96,7 +75,7 @@ digits-more p n a h =
         below i less ∙ h.1 i less
 
 pub bits-digits : (p : ℕ → Bool) (size : ℕ) → HasDigits p size (bits p size)
-bits-digits p zero = (rw (bits-none p) (omega arith), λ i low. absurd (omega (arith, low)))
+bits-digits p zero = grind (arith, bits-none)
 bits-digits p (suc n) =
     subst (λ (k : ℕ). HasDigits p k (bits p k)) (add-one n)
     (rw (bits-more p n) (digits-more p n (bits p n) (bits-digits p n)))
@@ -116,8 +95,7 @@ Marking-start size all left e = subst (λ (ns : List ℕ). Marking size all 0 ns
 })
 
 digit-small : (b : Bool) → digit b ≤ 1
-digit-small true = omega arith
-digit-small false = omega arith
+digit-small b = grind arith
 
 one-among : (m : ℕ) → nat_lt 0 (suc m) ≡ true
 one-among m = grind (arith, nat_tests)

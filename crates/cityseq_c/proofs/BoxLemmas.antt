@@ -1,5 +1,5 @@
 -- What is set of a box, by what its text answers.
-use Rattle.cityseq_c.proofs.Common.{Box, Criteria, Err, MatchResult, Ok, QueryFault, Result, ap, edges_by, sym, ◌∙◌, ◌≡◌}
+use Rattle.cityseq_c.proofs.Common.{Box, Criteria, Err, MatchResult, Ok, QueryFault, Result, edges_by, ◌≡◌, arith}
 use Rattle.cj_stream.specs.Adding.{with_box}
 
 module _ (r : Result (Unit {0}) QueryFault) (old new : Criteria) where
@@ -8,10 +8,7 @@ module _ (r : Result (Unit {0}) QueryFault) (old new : Criteria) where
 
   pub box-set : (v : Unit {0}) (box : Result Box QueryFault) → Sets box → r ≡ Ok v → (edges_by box ≡ Ok new.box)
       × (new ≡ record old { box = new.box })
-  box-set v (Ok box) h ok =
-      (ap (λ a. Ok a.box) (sym h.1), h.1 ∙ ap (λ box. record old { box = box }) (sym (ap (λ a. a.box) h.1)))
-  box-set v (Err fault) h ok = absurd (cc (h.0, ok))
+  box-set v box h ok = grind arith
 
   pub box-declined : (fault : QueryFault) (box : Result Box QueryFault) → Sets box → r ≡ Err fault → box ≡ Err fault
-  box-declined fault (Ok box) h err = absurd (cc (h.0, err))
-  box-declined fault (Err other) h err = cc (h.0, err)
+  box-declined fault box h err = grind arith

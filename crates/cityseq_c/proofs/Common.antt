@@ -53,6 +53,7 @@ pub use Rattle.cj_stream.specs.declared.running.Outcome.{Outcome}
 pub use Rattle.memchr.specs.Find.{IsFirstByte, IsLastByte, is_byte}
 pub use Rattle.std.proofs.Common.{Bool, Bor, Err, IfErr, IfOk, IfSome, IsUtf8, List, MatchResult, None, Ok, OnErr, OnOk, Option, Result, Some, [], add-one, ap, append-nil, append_assoc, arith, bytes_eq, codes, cond, drop, drop-drop, drop-set-lt, eqb, false, filter, flat_map, get_or, if◌then◌else◌, inl, inr, is_ok, is_some, length, length-append, length-set, length-take, lit<, lit≤, ltb, ltb-false, ltb-true, map, max, min, nat_le, not, option_and_then, option_map, pow_mono, refl, replicate, rules, slice_get, slice_set, subst, suc, sum, sym, take, take-append-drop, take_all, true, zero, ℕ, ℤ, ◌&&◌, ◌++◌, ◌+◌, ◌-◌, ◌<◌, ◌^◌, ◌∙◌, ◌∷◌, ◌≡◌, ◌≢◌, ◌≤◌, ◌⊎◌}
 pub use Rattle.std.proofs.Math.Nat.{min-eq_left, mod-le}
+pub use Rattle.std.proofs.Math.Seq.{take-nil}
 pub use Rattle.std.proofs.lemmas.Bool.{cases_lt, eqb-false}
 pub use Rattle.std.proofs.lemmas.Bool.Decides.{nat_tests}
 pub use Rattle.std.proofs.lemmas.Grind.{flat_map-append, pow_more, same_number_lists}

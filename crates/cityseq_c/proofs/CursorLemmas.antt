@@ -1,5 +1,5 @@
 -- The first line of some bytes, as a search for LF finds it.
-use Rattle.cityseq_c.proofs.Common.{IsFirstByte, Line, List, None, Passes, Place, Some, [], ap, arith, drop, drop-drop, drop_all, ended_line, false, is_byte, length, length-append, length-take, lines, past_from, raw, refl, sym, take, ℕ, ◌+◌, ◌<◌, ◌∙◌, ◌∷◌, ◌≡◌}
+use Rattle.cityseq_c.proofs.Common.{IsFirstByte, Line, List, None, Passes, Place, Some, [], ap, arith, drop, drop-drop, drop_all, ended_line, false, is_byte, length, length-append, length-take, lines, raw, refl, sym, take, ℕ, ◌+◌, ◌<◌, ◌∙◌, ◌∷◌, ◌≡◌}
 use Rattle.cj_stream.proofs.LineLemmas.{begun-none, closed-none, lines-cut}
 use Rattle.cj_stream.proofs.PartsLemmas.{lines-headed}
 use Rattle.cj_stream.proofs.PieceSlices.{lf_found, NoLf-before, NoLf-nowhere}
@@ -21,25 +21,17 @@ first-begun (b ∷ s) h some =
 -- a line is passed, where the bytes begin with it
 passes : (line at n : ℕ) (s : List ℕ) (l : Line) (rest : List Line) → lines s ≡ l ∷ rest → length (raw l) ≡ n
     → Passes (place line at (lines s)) l.content (place (line + 1) (at + n) rest)
-passes line at n s l rest left size = record {
-  lf = l.lf;
-  left = left;
-  behind = sym (ap (λ z. past_from line at z) left ∙ ap (λ m. place (line + 1) (at + m) rest) size);
-}
+passes line at n s l rest left size = grind arith
 
 module _ (line at : ℕ) (part s : List ℕ) (same : s ≡ drop at part) where
   after : (n : ℕ) → drop n s ≡ drop (at + n) part
-  after n = ap (λ z. drop n z) same ∙ drop-drop n at part
+  after n = grind (arith, drop-drop)
 
   pub passes-ended : (k : ℕ) → IsFirstByte (is_byte 10) s (Some k)
       → Passes (place line at (lines (drop at part))) (take k s)
       (place (line + 1) (at + (k + 1)) (lines (drop (at + (k + 1)) part)))
   passes-ended k h =
-      let size : length (raw (ended_line (take k s))) ≡ k + 1 =
-      omega (arith, length-append (take k s) (10 ∷ []), length-take k s, h.0.high) in
-      let left : lines s ≡ ended_line (take k s) ∷ lines (drop (at + (k + 1)) part) = first-ended s k h
-      ∙ ap (λ z. ended_line (take k s) ∷ lines z) (after (k + 1)) in
-      rw (← same) (passes line at (k + 1) s (ended_line (take k s)) (lines (drop (at + (k + 1)) part)) left size)
+      grind (arith, length-append, length-take, first-ended, drop-drop, passes)
 
   pub passes-begun : IsFirstByte (is_byte 10) s None → 0 < length s
       → Passes (place line at (lines (drop at part))) s

@@ -1,5 +1,5 @@
 -- Where whole lines end.
-use Rattle.cityseq_c.proofs.Common.{Bool, IsFirstByte, IsLastByte, List, NoLf, None, Some, [], add-one, ap, append-nil, arith, begun, closed, drop, ended_line, false, flat_map, get_or, is_byte, length, length-take, ltb, ltb-false, ltb-true, map, min, nat_tests, raw, refl, sym, take, take-append-drop, take_all, true, whole, ℕ, ◌++◌, ◌+◌, ◌∙◌, ◌∷◌, ◌≡◌, ◌≤◌}
+use Rattle.cityseq_c.proofs.Common.{IsFirstByte, IsLastByte, List, NoLf, None, Some, [], add-one, ap, append-nil, arith, begun, closed, drop, ended_line, flat_map, is_byte, length, length-take, ltb, ltb-false, ltb-true, map, min, nat_tests, raw, refl, sym, take, take-append-drop, take_all, true, whole, ℕ, ◌++◌, ◌+◌, ◌∙◌, ◌∷◌, ◌≡◌, ◌≤◌}
 use Rattle.std.proofs.Common.{length-drop, get_or-drop, take-take, eqb-true, take-suc}
 use Rattle.cj_stream.proofs.IsLinesLemmas.{whole-begun}
 use Rattle.cj_stream.proofs.LineLemmas.{NoLf-from_places, begun-lf, closed-ended, closed-more, closed-none}
@@ -16,8 +16,7 @@ whole-ended c =
 -- the last LF, as a search finds it
 module _ (s : List ℕ) (k : ℕ) (last : IsLastByte (is_byte 10) s (Some k)) where
   last-front : take (k + 1) s ≡ take k s ++ 10 ∷ []
-  last-front = ap (λ z. take z s) (add-one k)
-      ∙ (take-suc s k 0 last.0.high ∙ ap (λ z. take k s ++ z ∷ []) (eqb-true (get_or s k 0) 10 last.1))
+  last-front = grind (arith, add-one, take-suc, eqb-true)
 
   none-after : NoLf (drop (k + 1) s)
   none-after =
@@ -28,20 +27,13 @@ module _ (s : List ℕ) (k : ℕ) (last : IsLastByte (is_byte 10) s (Some k)) wh
   pub whole-last : whole s ≡ take (k + 1) s
   whole-last =
       let cut : take (k + 1) s ++ drop (k + 1) s ≡ s = take-append-drop (k + 1) s in
-      let same : closed s ≡ closed (take (k + 1) s) = ap closed (sym cut)
-      ∙ closed-more (take (k + 1) s) (drop (k + 1) s) none-after in
+      let same : closed s ≡ closed (take (k + 1) s) = search (arith, closed-more, none-after) in
       ap (λ cs. flat_map raw (map ended_line cs)) same
       ∙ (ap whole last-front ∙ (whole-ended (take k s) ∙ sym last-front))
 
 -- the bytes that are wanted, or all where there are no more
 pub front-wanted : (s : List ℕ) (wanted m : ℕ) → m ≡ min wanted (length s) → take m s ≡ take wanted s
-front-wanted s wanted m is = go (ltb wanted (length s)) refl
-  where
-    go : (less : Bool) → ltb wanted (length s) ≡ less → take m s ≡ take wanted s
-    go true h = let here : m ≡ wanted = omega (arith, is, ltb-true wanted (length s) h) in ap (λ n. take n s) here
-    go false h =
-        let more : length s ≤ wanted = ltb-false wanted (length s) h in
-        take_all m s (omega (arith, is, more)) ∙ sym (take_all wanted s more)
+front-wanted s wanted m is = grind (arith, ltb-true, ltb-false, take_all)
 
 module _ (s : List ℕ) (wanted : ℕ) where
   -- behind the last LF among the bytes that are wanted
@@ -51,11 +43,11 @@ module _ (s : List ℕ) (wanted : ℕ) where
       let size : length (whole (take wanted s)) ≡ k + 1 = ap (λ z. length (whole z)) (sym same)
       ∙ (ap length (whole-last t k last) ∙ omega (arith, length-take (k + 1) t, last.0.high)) in
       let some : ltb 0 (k + 1) ≡ true = grind (arith, nat_tests) in
-      let within : k + 1 ≤ wanted = omega (arith, last.0.high, ap length same, length-take wanted s) in
+      let within : k + 1 ≤ wanted = search (arith, length-take) in
       let front : take (k + 1) s ≡ take k t ++ 10 ∷ [] = sym (take-take (k + 1) wanted s within)
       ∙ (ap (λ z. take (k + 1) z) (sym same) ∙ last-front t k last) in (
         rw (size, some) refl,
-        ap whole front ∙ (whole-ended (take k t) ∙ sym front),
+        search (arith, whole-ended),
       )
 
   module _ (t : List ℕ) (same : t ≡ take wanted s) (none : IsLastByte (is_byte 10) t None) where
@@ -71,9 +63,9 @@ module _ (s : List ℕ) (wanted : ℕ) where
         let there : closed s ≡ take k s ∷ closed (drop (k + 1) s) = ap closed (lf_found s k first)
         ∙ closed-ended (take k s) (drop (k + 1) s) (NoLf-before s k first) in
         let front = lf_front s k first in (
-          omega (arith, none-wanted, ap first_end there, length-take k s, first.0.high),
-          ap whole front ∙ (whole-ended (take k s) ∙ sym front),
+          search (arith, none-wanted, length-take),
+          search (arith, whole-ended),
         )
 
     pub end-none : IsFirstByte (is_byte 10) s None → 0 ≡ part_end s wanted
-    end-none nowhere = sym (none-wanted ∙ ap first_end (closed-none s (NoLf-nowhere s nowhere)))
+    end-none nowhere = grind (arith, closed-none, NoLf-nowhere)

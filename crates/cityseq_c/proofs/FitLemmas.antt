@@ -1,5 +1,5 @@
 -- What is written of a text is not longer than it.
-use Rattle.cityseq_c.proofs.Common.{Bool, Item, Line, List, Option, Rules, Some, [], ap, arith, cond, false, flat_map, is_kept, item_after, kept_from, length, length-append, lines, output_first, raw, raw_item, slice_get, suc, take, true, verdict, zero, ℕ, ◌++◌, ◌+◌, ◌∷◌, ◌≡◌, ◌≤◌}
+use Rattle.cityseq_c.proofs.Common.{Item, Line, List, Rules, Some, [], arith, flat_map, kept_from, length, length-append, lines, output_first, raw, raw_item, slice_get, suc, take, zero, ℕ, ◌++◌, ◌+◌, ◌∷◌, ◌≡◌, ◌≤◌, rules}
 use Rattle.cj_stream.proofs.IsLinesLemmas.{lines-are_lines}
 
 -- the bytes of some items, and of some lines
@@ -13,43 +13,18 @@ line_bytes ls = length (flat_map raw ls)
 kept-fits : (rules : Rules) (before ls : List Line) → item_bytes (kept_from rules before ls) ≤ line_bytes ls
 kept-fits rules before [] = omega arith
 kept-fits rules before (l ∷ ls) =
-    step (is_kept (verdict rules before l.content)) (kept-fits rules (before ++ l ∷ []) ls)
-  where
-    step : (kept : Bool) → item_bytes (kept_from rules (before ++ l ∷ []) ls) ≤ line_bytes ls
-        → item_bytes (cond kept (item_after rules before l ∷ kept_from rules (before ++ l ∷ []) ls)
-        (kept_from rules (before ++ l ∷ []) ls)) ≤ line_bytes (l ∷ ls)
-    step true h =
-        omega (
-          arith,
-          h,
-          length-append (raw l) (flat_map raw_item (kept_from rules (before ++ l ∷ []) ls)),
-          length-append (raw l) (flat_map raw ls),
-        )
-    step false h = omega (arith, h, length-append (raw l) (flat_map raw ls))
-
-some-same : (x l : Line) → ◌≡◌ {A = Option Line} (Some x) (Some l) → x ≡ l
-some-same x l h = cc
+    grind (arith, length-append, kept-fits rules (before ++ l ∷ []) ls)
 
 -- some lines, and the one behind them, are no more than there are
 next-fits : (ls : List Line) (n : ℕ) (l : Line) → slice_get ls n ≡ Some l
     → line_bytes (take n ls) + length (raw l) ≤ line_bytes ls
 next-fits [] n l h = absurd (cc h)
-next-fits (x ∷ ls) zero l h = rw (← some-same x l h) (omega (arith, length-append (raw x) (flat_map raw ls)))
+next-fits (x ∷ ls) zero l h = grind (arith, length-append)
 next-fits (x ∷ ls) (suc n) l h =
-    omega (
-      arith,
-      next-fits ls n l h,
-      length-append (raw x) (flat_map raw ls),
-      length-append (raw x) (flat_map raw (take n ls)),
-    )
+    grind (arith, length-append, next-fits ls n l h)
 
 -- so what is written of the first lines of a text, and the line behind them, is not longer than the text
 pub first-fits : (rules : Rules) (n : ℕ) (s : List ℕ) (l : Line) → slice_get (lines s) n ≡ Some l
     → length (output_first rules n s) + length (raw l) ≤ length s
 first-fits rules n s l h =
-    omega (
-      arith,
-      kept-fits rules [] (take n (lines s)),
-      next-fits (lines s) n l h,
-      ap length (lines-are_lines s).joined,
-    )
+    grind (arith, kept-fits, next-fits, lines-are_lines)

@@ -1,20 +1,16 @@
 -- A header and a part are one text, of which an engine was given the header, or all.
-use Rattle.cityseq_c.proofs.Common.{AreCut, Complete, Counts, CountsAll, Delivers, End, Ends, Faults, Holds, IsBounded, IsJudged, IsUnhindered, Judged, Line, List, NoLf, None, Noted, Option, Outcome, Peaks, PutsPieces, Rules, SinkContract, Some, CReport, Took, WriteFault, [], add-one, ap, append-nil, append_assoc, arith, ended_line, ending, flat_map, in_pieces, inl, inr, is_kept, item_after, joined, kept, length, lent, lines, raw, refl, slice_get, stream_of, subst, suc, sym, take, take-append-le, up_to, verdict, zero, ℕ, ◌++◌, ◌+◌, ◌∙◌, ◌∷◌, ◌≡◌, ◌≢◌, ◌≤◌, ◌⊎◌}
+use Rattle.cityseq_c.proofs.Common.{AreCut, Complete, Counts, CountsAll, Delivers, End, Ends, Holds, IsBounded, IsJudged, IsUnhindered, Judged, Line, List, NoLf, Noted, Outcome, Peaks, PutsPieces, Rules, SinkContract, Some, CReport, Took, [], add-one, ap, append-nil, append_assoc, arith, ended_line, ending, flat_map, in_pieces, joined, kept, length, lent, lines, raw, slice_get, stream_of, subst, suc, sym, take, take-append-le, take-nil, zero, ℕ, ◌++◌, ◌+◌, ◌∙◌, ◌∷◌, ◌≡◌, ◌≢◌, ◌≤◌, ◌⊎◌, rules}
 use Rattle.cj_budget.specs.Meaning.Limits.{LimitPair}
-use Rattle.cj_stream.specs.declared.ending.End.TheVariants.{Refused, ReadFault, ReadLimit, Memory}
+use Rattle.cj_stream.specs.declared.ending.End.TheVariants.{Memory}
 use Rattle.cj_stream.specs.Bound.{IsBelow, IsExact, exact_peaks, first_lines}
 use Rattle.cj_stream.specs.Parts.{headed}
 use Rattle.cj_stream.proofs.LineLemmas.{first-length}
 use Rattle.cj_stream.specs.ReportSink.{Notes}
-use Rattle.cj_stream.specs.Verdict.{good, reported, reported_first, reported_from, stretch, rulings}
+use Rattle.cj_stream.specs.Verdict.{good, reported, reported_first, reported_from, stretch}
 use Rattle.cj_stream.proofs.PartsLemmas.{first-headed, lines-headed}
 use Rattle.cityseq_c.specs.ReportSlice.{count_of, noted_loan, noted_room, noted_text, NotesOne}
 use Rattle.cityseq_c.proofs.ReportLemmas.{all-held}
-use Rattle.cj_stream.proofs.TookLemmas.{More-all, More-over, over-kept, over-reported}
-
-take-nothing : (k : ℕ) → take {A = List ℕ} k [] ≡ []
-take-nothing zero = refl
-take-nothing (suc k) = refl
+use Rattle.cj_stream.proofs.TookLemmas.{More-all, over-kept, over-reported}
 
 -- all was given, or a header that LF ended, behind which the part comes
 abbrev IsGiven : List ℕ → List ℕ → List ℕ → Type 0
@@ -22,46 +18,22 @@ IsGiven header part given = (given ≡ header ++ part)
     ⊎ ((h : List ℕ) × NoLf h × (given ≡ headed h []) × (header ++ part ≡ headed h part))
 
 pub all-joined : (header part : List ℕ) → joined (header ∷ part ∷ []) ≡ header ++ part
-all-joined header part = ap (λ z. header ++ z) (append-nil part)
+all-joined header part = grind (arith, append-nil)
 
 module _ (header part : List ℕ) (cut : AreCut header part) where
-  header-given : (given : List ℕ) → given ≡ header → IsGiven header part given
-  header-given given is = go cut
-    where
-      go : AreCut header part → IsGiven header part given
-      go (inl c) = inr (c.0, c.1, is ∙ c.2, ap (λ z. z ++ part) c.2 ∙ append_assoc c.0 (10 ∷ []) part)
-      go (inr c) = inl (is ∙ (sym (append-nil header) ∙ ap (λ z. header ++ z) (sym c.1)))
-
   given-taken : (k : ℕ) → IsGiven header part (joined (take (k + 1) (header ∷ part ∷ [])))
-  given-taken zero = header-given _ (append-nil header)
-  given-taken (suc k) = inl (rw (add-one (suc k), take-nothing k) (all-joined header part))
+  given-taken zero = grind (arith, append_assoc, append-nil, add-one, take-nil, all-joined)
+  given-taken (suc k) = grind (arith, add-one, take-nil, all-joined)
 
   -- what holds of what was given holds of the text, if it goes on from a header to a part behind it
   over-text : (P : List ℕ → Type 0) (k : ℕ) → ((h : List ℕ) → NoLf h → P (headed h []) → P (headed h part))
       → P (joined (take (k + 1) (header ∷ part ∷ []))) → P (header ++ part)
-  over-text P k step x = go (given-taken k)
-    where
-      go : IsGiven header part (joined (take (k + 1) (header ∷ part ∷ []))) → P (header ++ part)
-      go (inl e) = subst P e x
-      go (inr g) = subst P (sym g.3) (step g.0 g.1 (subst P g.2 x))
+  over-text P k step x = grind (arith, given-taken)
 
 -- ---- from a header to a part behind it
 
--- what comes of the first n lines of what was given
-record OfFirst {S : Type 0} (law : SinkContract S) (rules : Rules) (n features refusals : ℕ) (peaks : Peaks) (e : End)
-    (s t : S) (a b : Noted) (q : List ℕ) : Type 0 where
-  bounded : IsBounded rules.limits q peaks
-  least : IsBelow (exact_peaks rules.limits (first_lines n q)) peaks
-  counts : Counts rules q n features refusals
-  delivers : Delivers law (stretch rules q 0 n) s t (Some e)
-  noted : Took NotesOne a (reported_first rules n q) b
-
 next-same : (x l : Line) (xs : List Line) (n : ℕ) → slice_get (x ∷ []) n ≡ Some l → slice_get (x ∷ xs) n ≡ Some l
-next-same x l xs zero h = h
-next-same x l xs (suc n) h = absurd (apart h)
-  where
-    apart : ◌≡◌ {A = Option Line} None (Some l) → ⊥
-    apart h = cc
+next-same x l xs n h = grind arith
 
 module _ (rules : Rules) (h part : List ℕ) (free : NoLf h) (n : ℕ) (few : n ≤ length (lines (headed h []))) where
   front : lines (headed h []) ≡ ended_line h ∷ []
@@ -72,39 +44,15 @@ module _ (rules : Rules) (h part : List ℕ) (free : NoLf h) (n : ℕ) (few : n 
 
   first-same : take n (lines (headed h part)) ≡ take n (lines (headed h []))
   first-same =
-      let short : n ≤ length (ended_line h ∷ []) = omega (arith, few, ap length front) in
-      ap (λ z. take n z) all ∙ (take-append-le n (ended_line h ∷ []) (lines part) short
-      ∙ ap (λ z. take n z) (sym front))
+      grind (arith, lines-headed, take-append-le)
 
   counts-more : (f k : ℕ) → Counts rules (headed h []) n f k → Counts rules (headed h part) n f k
-  counts-more f k x = record {
-    few = omega (arith, few, ap length front, ap length all);
-    counted = rw first-same x.counted;
-  }
+  counts-more f k x = grind (arith, lines-headed, all-joined, take-append-le)
 
   module _ {S : Type 0} (law : SinkContract S) where
-    faults-more : (s t : S) (e : End) → Faults law (up_to rules (headed h []) n) s t (Some e)
-        → Faults law (up_to rules (headed h part) n) s t (Some e)
-    faults-more s t Complete x = x
-    faults-more s t (Refused line place reason) x = x
-    faults-more s t ReadFault x = x
-    faults-more s t ReadLimit x = x
-    faults-more s t Memory x = x
-    faults-more s t WriteFault x = (
-      x.0,
-      ap (λ z. slice_get z n) all
-          ∙ next-same (ended_line h) x.0 (lines part) n (ap (λ z. slice_get z n) (sym front) ∙ x.1),
-      ap (λ z. is_kept (verdict rules z x.0.content)) first-same ∙ x.2,
-      subst (λ z. law.leaves s (item_after rules z x.0) t) (sym first-same) x.3,
-    )
-
     delivers-more : (s t : S) (e : End) → Delivers law (stretch rules (headed h []) 0 n) s t (Some e)
         → Delivers law (stretch rules (headed h part) 0 n) s t (Some e)
-    delivers-more s t e x = record {
-      middle = x.middle;
-      took = More-over law.takes over-kept refl (ap (rulings rules []) first-same) x.took;
-      fault = faults-more x.middle t e x.fault;
-    }
+    delivers-more s t e x = grind (arith, over-kept, first-same, all, next-same, front)
 
 bounded-more : (limits : LimitPair) (h part : List ℕ) (peaks : Peaks) → NoLf h → IsBounded limits (headed h []) peaks
     → IsBounded limits (headed h part) peaks
@@ -119,8 +67,15 @@ bounded-more limits h part peaks free x =
 
 module _ {S : Type 0} (law : SinkContract S) (rules : Rules) (n f r : ℕ) (peaks : Peaks) (e : End) (s t : S)
     (a b : Noted) where
-  first-more : (h part : List ℕ) → NoLf h → OfFirst law rules n f r peaks e s t a b (headed h [])
-      → OfFirst law rules n f r peaks e s t a b (headed h part)
+  -- what comes of the first n lines of what was given
+  record OfFirst (q : List ℕ) : Type 0 where
+    bounded : IsBounded rules.limits q peaks
+    least : IsBelow (exact_peaks rules.limits (first_lines n q)) peaks
+    counts : Counts rules q n f r
+    delivers : Delivers law (stretch rules q 0 n) s t (Some e)
+    noted : Took NotesOne a (reported_first rules n q) b
+
+  first-more : (h part : List ℕ) → NoLf h → OfFirst (headed h []) → OfFirst (headed h part)
   first-more h part free x =
       let few = x.counts.few in
       record {
@@ -134,42 +89,20 @@ module _ {S : Type 0} (law : SinkContract S) (rules : Rules) (n f r : ℕ) (peak
       }
 
   first-text : (header part : List ℕ) → AreCut header part → (k : ℕ)
-      → OfFirst law rules n f r peaks e s t a b (joined (take (k + 1) (header ∷ part ∷ [])))
-      → OfFirst law rules n f r peaks e s t a b (header ++ part)
-  first-text header part cut k x =
-      over-text header part cut (λ q. OfFirst law rules n f r peaks e s t a b q) k
-      (λ h free y. first-more h part free y) x
+      → OfFirst (joined (take (k + 1) (header ∷ part ∷ []))) → OfFirst (header ++ part)
+  first-text header part cut k = over-text header part cut OfFirst k (λ h. first-more h part)
 
 -- ---- how it ended
 
 module _ {S : Type 0} (law : SinkContract S) (rules : Rules) (pieces : List (List ℕ)) (k : ℕ) (s t : S) where
-  -- no reader had a part in it
-  put-judged : (e : End) → e ≢ Memory → PutsPieces law (in_pieces rules pieces k) e s t → IsJudged e
-  put-judged Complete granted h = tt
-  put-judged (Refused line place reason) granted h = tt
-  put-judged ReadFault granted h = h
-  put-judged ReadLimit granted h = h
-  put-judged WriteFault granted h = tt
-  put-judged Memory granted h = absurd (granted refl)
-
   -- without a hindrance the end and what the sink took are those of the whole
   put-all : (e : End) → PutsPieces law (in_pieces rules pieces k) e s t → IsUnhindered e
       → (e ≡ ending rules (joined pieces)) × Took law.takes s (kept rules (joined pieces)) t
-  put-all Complete h free = (sym h.0, h.1)
-  put-all (Refused line place reason) h free = (sym h.0, h.1)
-  put-all ReadFault h free = absurd h
-  put-all ReadLimit h free = absurd h
-  put-all WriteFault h free = absurd free
-  put-all Memory h free = absurd free
+  put-all e h free = grind arith
 
 ends-all : (rules : Rules) (text : List ℕ) (n : ℕ) (e : End) → IsJudged e → (IsUnhindered e → e ≡ ending rules text)
     → (IsUnhindered e → n ≡ length (good rules text)) → Ends rules text n (Unit {0}) e
-ends-all rules text n Complete judged ends count = (sym (ends tt), count tt, tt)
-ends-all rules text n (Refused line place reason) judged ends count = (sym (ends tt), count tt, inl tt)
-ends-all rules text n ReadFault judged ends count = absurd judged
-ends-all rules text n ReadLimit judged ends count = absurd judged
-ends-all rules text n WriteFault judged ends count = tt
-ends-all rules text n Memory judged ends count = absurd judged
+ends-all rules text n e judged ends count = grind (arith, all-joined, judged)
 
 module _ {S : Type 0} (law : SinkContract S) (rules : Rules) (header part : List ℕ) (cut : AreCut header part) (k : ℕ)
     (s t : S) (a b : Noted) (o : Outcome) (old new : List CReport)
@@ -198,13 +131,13 @@ module _ {S : Type 0} (law : SinkContract S) (rules : Rules) (header part : List
   })
 
   judged-end : IsJudged o.ended
-  judged-end = put-judged law rules (header ∷ part ∷ []) k s t o.ended granted puts
+  judged-end = grind arith
 
   ends : IsUnhindered o.ended → o.ended ≡ ending rules (header ++ part)
-  ends free = (put-all law rules (header ∷ part ∷ []) k s t o.ended puts free).0 ∙ ap (λ z. ending rules z) whole
+  ends free = grind (arith, all-joined)
 
   counted : IsUnhindered o.ended → CountsAll rules (header ++ part) o
-  counted free = subst (λ z. CountsAll rules z o) whole (counts_all free)
+  counted free = grind (arith, all-joined)
 
   pub judged : Judged law (stream_of rules (header ++ part)) o (lent s old) (lent t new)
   judged =

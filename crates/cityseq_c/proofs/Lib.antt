@@ -24,7 +24,6 @@ pub mod RecordLemmas
 pub mod ReportLemmas
 pub mod RoomLemmas
 pub mod RowLemmas
-pub mod SeekLemmas
 pub mod SpotLemmas
 pub mod TallyLemmas
 pub mod TypeLemmas

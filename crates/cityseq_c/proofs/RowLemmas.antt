@@ -1,5 +1,5 @@
 -- Worked rows: where features stand, and the record of one.
-use Rattle.cityseq_c.proofs.Common.{IsRecordOf, Line, List, None, Reason, Rules, Some, Spot, Tree, [], arith, bits, chars, ended_line, false, filter, get_or, good_from, is_feature, is_number, is_utf8, length, lit≤, map, shown_range, raw, refl, spots_from, suc, tree_of, true, verdict, zero, ℕ, ◌++◌, ◌<◌, ◌∙◌, ◌∷◌, ◌≡◌}
+use Rattle.cityseq_c.proofs.Common.{IsRecordOf, Line, List, None, Reason, Rules, Some, Tree, [], arith, bits, chars, ended_line, false, filter, get_or, good_from, is_feature, is_number, is_utf8, length, map, shown_range, raw, refl, spots_from, tree_of, true, verdict, ℕ, ◌++◌, ◌<◌, ◌∙◌, ◌∷◌, ◌≡◌}
 use lib.Utf8.{encode}
 use Rattle.cj_decimal.specs.Meaning.Reading.{digits_front, digits_rest, begins, is_empty, begins_digit, body, is_int, is_frac, frac_digits, after_frac, exp_digits, is_whole_digits, is_exp, exp_value}
 use Rattle.cj_decimal.proofs.Classes.{class}
@@ -31,17 +31,16 @@ module _ (rules : Rules) (h l f : Line) (first : verdict rules [] h.content ≡ 
   after-blank : verdict rules (h ∷ []) l.content ≡ Blank
       → places_of rules (h ∷ l ∷ f ∷ []) ≡ (3, length (raw l ++ [])) ∷ []
   unfolding verdict_at
-  after-blank blank = rw (first, blank, third) (rw (first, blank, third) refl)
+  after-blank blank = grind (arith, blank)
 
   after-invalid : (place : ℕ) (reason : Reason) → rules.options.keep_going ≡ true
       → verdict rules (h ∷ []) l.content ≡ Invalid place reason
       → places_of rules (h ∷ l ∷ f ∷ []) ≡ (3, length (raw l ++ [])) ∷ []
   unfolding verdict_at
-  after-invalid place reason on bad = rw (first, bad, on, third) (rw (first, bad, third) refl)
+  after-invalid place reason on bad = grind arith
 
 pub blank : BlankRow
-blank = after-blank wide_rules (ended_line small_header) (ended_line (13 ∷ [])) (open_line small_feature)
-    (header_first _) feature_third (verdict-blank wide_rules 2 _ (13 ∷ []) (lit≤ tt) refl)
+blank = grind (arith, after-blank, open_line, header_first, feature_third, verdict-blank)
 
 pub between : BetweenRow
 between =
@@ -58,19 +57,14 @@ bit = (refl, refl)
 
 pub attributes : AttributesRow
 unfolding text code_points_after first_code_point first_width chars
-attributes = (
-  (refl, refl),
-  (λ h. absurd (omega (arith, h.0))),
-  (λ h. absurd (omega (arith, h.0))),
-  (refl, refl),
-)
+attributes = grind arith
 
 -- ---- faults of a request
 
 no-text : is_number [] ≡ false
 unfolding digits_front digits_rest begins is_empty begins_digit body is_int is_frac frac_digits after_frac exp_digits
     is_whole_digits is_exp exp_value
-no-text = no-class [] (λ n. absurd (cc (spells_test [] n.0 n.1).0)) (class [])
+no-text = grind (arith, no-class, spells_test, class)
 
 pub fault : FaultRow
 unfolding object_types is_utf8 chars encode
@@ -86,19 +80,9 @@ fault = (
 )
 
 -- the record of the small feature, with its tree
-small : Spot
-small = record {
-  line = 2;
-  begin = 0;
-  item = record { line = ended_line small_feature; tree = plain_feature.tree; header = Some plain_header };
-}
-
 no-range : (axis : ℕ) → axis < 3
     → get_or (shown_range None ∷ shown_range None ∷ shown_range None ∷ []) axis (shown_range None) ≡ shown_range None
-no-range zero low = refl
-no-range (suc zero) low = refl
-no-range (suc (suc zero)) low = refl
-no-range (suc (suc (suc n))) low = absurd (omega (arith, low))
+no-range axis low = grind arith
 
 shown : (t header : Tree) → t ≡ plain_feature.tree → header ≡ plain_header
     → IsRecordOf (record {
@@ -128,7 +112,7 @@ other : (t header : Tree) → t ≡ plain_feature.tree
     })
     (record small_record { objects = 2 })
 unfolding text code_points_after first_code_point first_width chars
-other t header e h = let two = h.objects in let wrong = rw e at two in absurd (omega (arith, wrong))
+other t header e h = grind arith
 
 pub record_of : RecordRow
 record_of = (

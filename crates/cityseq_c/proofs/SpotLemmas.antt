@@ -1,10 +1,10 @@
 -- A search along the lines of a part finds each kept feature at its place.
-use Rattle.cityseq_c.proofs.Common.{AreCut, Bool, Item, Line, List, NoLf, Place, Rules, Spot, [], ap, append-nil, append_assoc, arith, bytes_eq, cond, drop, ended_line, eqb, false, filter, flat_map, flat_map-append, good_from, inl, inr, is_feature, is_kept, is_some, item_after, kept, kept_from, length, length-append, lines, nat_tests, past, raw, refl, refusal_of, seek, spot_after, spots, spots_from, sym, take-append-drop, true, verdict, ℕ, ◌++◌, ◌+◌, ◌∙◌, ◌∷◌, ◌≡◌}
+use Rattle.cityseq_c.proofs.Common.{AreCut, Bool, Item, Line, List, Place, Rules, Spot, [], ap, append-nil, arith, bytes_eq, cond, drop, ended_line, false, filter, flat_map, flat_map-append, good_from, inl, inr, is_feature, is_kept, item_after, kept, kept_from, length, length-append, lines, nat_tests, past, raw, refl, seek, spots, spots_from, sym, take-append-drop, true, verdict, ℕ, ◌++◌, ◌+◌, ◌∙◌, ◌∷◌, ◌≡◌}
 use Rattle.std.proofs.lemmas.Slice.Eq.{bytes_eq-Decides}
 use Rattle.cj_stream.proofs.RulingLemmas.{good-take}
 use Rattle.cj_stream.proofs.LineLemmas.{begun-none, closed-none, lines-cut}
 use Rattle.cj_stream.proofs.MovedLemmas.{after-same}
-use Rattle.cj_stream.proofs.PartsLemmas.{lines-headed}
+use Rattle.cityseq_c.proofs.LineCutLemmas.{cut-lines}
 
 -- the spot of a feature whose line was found at a place, or none
 abbrev pub spot_at : Place → List Line → Item → List Spot
@@ -32,8 +32,7 @@ module _ (rules : Rules) (h : Line) where
   -- and each item is a feature
   later-feature : (ys : List Line) (l : Line) → is_feature (item_after rules (h ∷ ys) l) ≡ true
   later-feature ys l =
-      let late : eqb (length (h ∷ ys) + 1) 1 ≡ false = grind (arith, nat_tests) in
-      rw late refl
+      grind (arith, nat_tests)
 
   kept-feature : (ys ls : List Line) (x : Item) (xs : List Item) → kept_from rules (h ∷ ys) ls ≡ x ∷ xs
       → is_feature x ≡ true
@@ -54,13 +53,12 @@ module _ (rules : Rules) (h : Line) where
       ≡ found_from (record { line = n + 1; begin = b + length (raw l); left = zs }) is
   found-skip n b bs l ys ls zs [] dropped e = refl
   found-skip n b bs l ys ls zs (x ∷ xs) dropped e =
-      rw (kept-feature ys ls x xs e, not-same bs l ys ls x xs dropped e) refl
+      grind (arith, kept-feature, not-same)
 
   raw-more : (bs : List Line) (l : Line)
       → length (flat_map raw (bs ++ l ∷ [])) ≡ length (flat_map raw bs) + length (raw l)
   raw-more bs l =
-      let parts : flat_map raw (bs ++ l ∷ []) ≡ flat_map raw bs ++ (raw l ++ []) = flat_map-append raw bs (l ∷ []) in
-      omega (arith, ap length parts, length-append (flat_map raw bs) (raw l ++ []), ap length (append-nil (raw l)))
+      grind (arith, flat_map-append, length-append, append-nil)
 
   found-kept : (bs ls more : List Line) (n b : ℕ) → n ≡ length (h ∷ bs) + 1 → b ≡ length (flat_map raw bs)
       → found_from (record { line = n; begin = b; left = ls ++ more }) (kept_from rules (h ∷ bs) ls)
@@ -69,12 +67,13 @@ module _ (rules : Rules) (h : Line) where
   found-kept bs (l ∷ ls) more n b number begin =
       grind (
         arith,
-        found-kept (bs ++ l ∷ []) ls more (n + 1) (b + length (raw l)),
-        found-skip n b bs l (bs ++ l ∷ []) ls (ls ++ more) (kept_from rules (h ∷ bs ++ l ∷ []) ls),
-        bytes_eq-Decides l.content l.content,
-        later-feature bs l,
-        length-append bs (l ∷ []),
-        raw-more bs l,
+        found-skip,
+        bytes_eq-Decides,
+        later-feature,
+        length-append,
+        raw-more,
+        found-kept (bs ++ l ∷ []) ls
+            more (n + 1) (b + length (raw l)),
       )
 
 -- the features that are kept of the good lines of a stream, whose first line is e
@@ -93,43 +92,13 @@ module _ (rules : Rules) (e : Line) (left : List Line) where
   pub found-good : found_from (record { line = 2; begin = 0; left = left })
       (kept_from rules [] (good_from rules [] (e ∷ left)))
       ≡ filter is_feature_spot (spots_from rules [] (good_from rules [] (e ∷ left)))
-  found-good = go (is_some (refusal_of rules 1 (verdict rules [] e.content)))
-    where
-      kept-first : (k : Bool) → found_from (record { line = 2; begin = 0; left = left })
-          (cond k (item_after rules [] e ∷ kept_from rules (e ∷ []) (good_from rules (e ∷ []) left))
-          (kept_from rules (e ∷ []) (good_from rules (e ∷ []) left)))
-          ≡ filter is_feature_spot
-          (cond k (spot_after rules [] e ∷ spots_from rules (e ∷ []) (good_from rules (e ∷ []) left))
-          (spots_from rules (e ∷ []) (good_from rules (e ∷ []) left)))
-      kept-first true = behind
-      kept-first false = behind
-
-      go : (k : Bool) → found_from (record { line = 2; begin = 0; left = left })
-          (kept_from rules [] (cond k [] (e ∷ good_from rules (e ∷ []) left)))
-          ≡ filter is_feature_spot (spots_from rules [] (cond k [] (e ∷ good_from rules (e ∷ []) left)))
-      go true = refl
-      go false = kept-first (is_kept (verdict rules [] e.content))
+  found-good = grind (arith, behind)
 
 -- the search along a part finds the features of the stream
 pub found-spots : (rules : Rules) (header part : List ℕ) → AreCut header part
     → found_from (record { line = 2; begin = 0; left = lines part }) (kept rules (header ++ part))
     ≡ spots rules (header ++ part)
 found-spots rules header part (inl cut) =
-    let whole : header ++ part ≡ cut.0 ++ 10 ∷ part = ap (λ z. z ++ part) cut.2 ∙ append_assoc cut.0 (10 ∷ []) part in
-    let first : lines (header ++ part) ≡ ended_line cut.0 ∷ lines part = ap (λ z. lines z) whole
-    ∙ lines-headed cut.0 part cut.1 in
-    rw first (found-good rules (ended_line cut.0) (lines part))
+    rw (cut-lines header part cut) (found-good rules (ended_line cut.0) (lines part))
 found-spots rules header part (inr cut) =
-    let all : lines (header ++ part) ≡ lines header =
-    ap (λ z. lines z) (ap (λ z. header ++ z) cut.1 ∙ append-nil header) in
-    let none : lines part ≡ [] = ap (λ z. lines z) cut.1 in
-    rw (all, none) (alone header cut.0)
-  where
-    alone : (h : List ℕ) → NoLf h
-        → found_from (record { line = 2; begin = 0; left = [] }) (kept_from rules [] (good_from rules [] (lines h)))
-        ≡ filter is_feature_spot (spots_from rules [] (good_from rules [] (lines h)))
-    alone [] free = refl
-    alone (b ∷ h) free =
-        let one : lines (b ∷ h) ≡ record { content = b ∷ h; lf = false } ∷ [] =
-        lines-cut (b ∷ h) ∙ rw (closed-none (b ∷ h) free, begun-none (b ∷ h) free) refl in
-        rw one (found-good rules (record { content = b ∷ h; lf = false }) [])
+    grind (arith, append-nil, lines-cut, closed-none, begun-none, found-good)

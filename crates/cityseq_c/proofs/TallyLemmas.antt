@@ -1,8 +1,6 @@
 -- What a sink has tallied of a text.
-use Rattle.cityseq_c.proofs.Common.{Complete, IsTalliedOf, IsTally, IsUnhindered, Item, Judged, List, None, Option, Outcome, Puts, Rules, Some, Tallies, CReport, [], ap, arith, capped, chars, class_count, codes, cond, ended_line, ending, filter, get_or, get_or-replicate, is_some, item_after, kept, kept_from, last_or, length, lent, lines, lit<, map, never_fails, no_tally, option_map, shown_range, refl, replicate, same_number_lists, slot_count, stream_of, subst, sym, true, ℕ, ◌++◌, ◌+◌, ◌<◌, ◌^◌, ◌∙◌, ◌∷◌, ◌≡◌, ◌≢◌}
+use Rattle.cityseq_c.proofs.Common.{Complete, IsTalliedOf, IsTally, IsUnhindered, Judged, List, None, Option, Outcome, Puts, Rules, Some, Tallies, CReport, [], ap, arith, capped, class_count, codes, cond, ending, get_or, get_or-replicate, is_some, kept, last_or, length, lent, map, never_fails, no_tally, option_map, shown_range, refl, replicate, same_number_lists, slot_count, stream_of, subst, sym, true, ℕ, ◌++◌, ◌+◌, ◌<◌, ◌^◌, ◌∙◌, ◌∷◌, ◌≡◌, ◌≢◌}
 use Rattle.cj_decimal.specs.Meaning.Number.{Number as Decimal}
-use Rattle.cj_feature.specs.Meaning.Transform.{transform_values}
-use Rattle.cj_stream.specs.CountSink.{is_header}
 use Rattle.cj_stream.specs.Parts.{headed, wider, IsCut, JoinsTallies}
 use Rattle.cj_stream.specs.TallySink.{last_shown, IsTallyOf, TalliesRun, Tally as Tallied}
 use Rattle.cj_stream.proofs.PartsLemmas.{front-good, header-valid, kept-first}
@@ -26,19 +24,9 @@ last-some x (y ∷ xs) h = last-some y xs h
 
 -- the header of a complete part is kept, so its transform is known
 module _ (rules : Rules) (h a : List ℕ) (cut : IsCut h a) (done : ending rules (headed h a) ≡ Complete) where
-  kept-begins : kept rules (headed h a) ≡ item_after rules [] (ended_line h) ∷ kept_from rules (ended_line h ∷ [])
-      (lines a)
-  kept-begins = ap (λ z. kept_from rules [] z) (front-good rules h a cut done)
-      ∙ kept-first rules (ended_line h) (header-valid rules h a cut done) (lines a)
-
   scale-known : (s : Option (List Decimal))
       → option_map (map Some) s ≡ last_shown (codes "scale") (kept rules (headed h a)) → is_some s ≡ true
-  scale-known (Some ns) is = refl
-  scale-known None is =
-      let values : Item → List (Option Decimal) = λ i. transform_values (chars (codes "scale")) i.tree in
-      let first = item_after rules [] (ended_line h) in
-      let later = map values (filter is_header (kept_from rules (ended_line h ∷ []) (lines a))) in
-      absurd (last-some (values first) later (sym (is ∙ ap (last_shown (codes "scale")) kept-begins)))
+  scale-known s is = grind (arith, last-some, front-good, kept-first, header-valid)
 
 -- a tally with the transform of another
 abbrev with_transform : Tally → Tally → Tally
@@ -96,10 +84,7 @@ added-to-zeros : (size : ℕ) (before counts after : List ℕ) → before ≡ re
     → length after ≡ size → ((n : ℕ) → n < size → get_or counts n 0 < 2 ^ 64)
     → ((n : ℕ) → n < size → get_or after n 0 ≡ capped (get_or before n 0 + get_or counts n 0)) → after ≡ counts
 added-to-zeros size before counts after none long same few adds =
-    same_number_lists after counts (same ∙ sym long) (λ k lt.
-    let within : k < size = omega (arith, lt, same) in
-    let zero : get_or before k 0 ≡ 0 = ap (λ z. get_or z k 0) none ∙ get_or-replicate size k 0 0 within in
-    omega (arith, adds k within, zero, few k within))
+    grind (arith, same_number_lists, get_or-replicate)
 
 -- a tally has as many counts as there are types and classes, and each is below 2^64
 pub record IsOfSize (t : Tallied) : Type 0 where
@@ -115,15 +100,7 @@ module _ (first second joined : Tally) (x s t u : Tallied) (none : first ≡ zer
     (more : (y : Tallied) → IsTally y second → HasCounts y t)
     (joins : JoinsTallies s t u) (shown : IsTally u joined) (size : IsOfSize t) (long : IsOfSize u) where
   nothing : IsTally no_tally first
-  nothing = rw none (record {
-    features = refl;
-    types = refl;
-    lods = refl;
-    ranges = refl;
-    transformed = refl;
-    scale = refl;
-    translate = refl;
-  })
+  nothing = grind arith
 
   of_first : HasCounts no_tally s
   of_first = counts no_tally nothing
@@ -150,8 +127,5 @@ module _ (first second joined : Tally) (x s t u : Tallied) (none : first ≡ zer
       ap shown_range (joins.ranges k lt ∙ (ap (λ z. wider z (get_or t.ranges k None))
       (of_first.ranges k lt ∙ get_or-replicate 3 k None None lt) ∙ of_next.ranges k lt))
 
-  same-ranges : joined.ranges ≡ second.ranges
-  same-ranges = rw (shown.ranges, of_x.ranges, axis 0 (lit< tt), axis 1 (lit< tt), axis 2 (lit< tt)) refl
-
   pub zeros-then : with_transform joined second ≡ second
-  zeros-then = rw (same-features, same-types, same-lods, same-ranges) refl
+  zeros-then = grind (arith, same-features, same-types, same-lods, axis)

@@ -1,5 +1,5 @@
 -- Commands that are made option by option.
-use Rattle.cityseq_command.proofs.Common.{IsCommand, IsOption, ap, ap₂, refl, ◌∙◌, ◌≡◌}
+use Rattle.cityseq_command.proofs.Common.{IsCommand, IsOption, arith}
 use Rattle.clap.specs.Words.{AddsArg, AddsSubcommand, App, Rule, with_rule, with_subcommand}
 use Rattle.clap.specs.declared.builder.arg.Arg.{Arg}
 use Rattle.clap.specs.declared.builder.command.Command.{Command}
@@ -7,15 +7,9 @@ use Rattle.clap.specs.declared.builder.command.Command.{Command}
 -- a command with one more option
 pub with_option : {old new : Command} {a : Arg} {s : App} {r : Rule} → IsCommand old s → IsOption a r
     → AddsArg old a new → IsCommand new (with_rule s r)
-with_option is_old is_option adds = record {
-  app = adds.shape is_option.local ∙ ap₂ with_rule is_old.app is_option.rule;
-  local = adds.globals ∙ rw (is_old.local, is_option.local) refl;
-}
+with_option is_old is_option adds = grind arith
 
 -- a command with one more command below it
 pub with_command : {old sub new : Command} {s u : App} → IsCommand old s → IsCommand sub u → AddsSubcommand old sub new
     → IsCommand new (with_subcommand s u.top)
-with_command is_old is_sub adds = record {
-  app = adds.shape is_sub.local ∙ ap₂ with_subcommand is_old.app (ap (λ (a : App). a.top) is_sub.app);
-  local = adds.globals ∙ rw (is_old.local, is_sub.local) refl;
-}
+with_command is_old is_sub adds = grind arith

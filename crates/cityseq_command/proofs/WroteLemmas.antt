@@ -1,5 +1,5 @@
 -- What came of writing texts, one after another.
-use Rattle.cityseq_command.proofs.Common.{Channel, Err, HasRisen, List, Ok, Option, Report, Result, Took, Wrote, WroteAfter, [], append-nil, channel, flat_map, get_or, refl, subst, take, ℕ, ◌++◌, ◌∙◌, ◌∷◌, ◌≡◌}
+use Rattle.cityseq_command.proofs.Common.{Channel, Err, HasRisen, List, Ok, Option, Report, Result, Took, Wrote, WroteAfter, [], append-nil, channel, flat_map, get_or, refl, subst, take, ℕ, ◌++◌, ◌∙◌, ◌∷◌, ◌≡◌, arith}
 use Rattle.std.proofs.Common.{◌+◌, ◌<◌, ◌≤◌, length, IsErr, take_all}
 use Rattle.cj_stream.specs.declared.output.WriteFault.{WriteFault}
 use Rattle.cityseq_command.specs.ReportWriter.{WritesReport, lent_output, loan_name, report_line, report_lines, writing}
@@ -10,57 +10,50 @@ use Rattle.cityseq_command.proofs.TextLemmas.{Appends-nothing, Appends-then, App
 pub Wrote-nothing : (v : Unit {0}) (a : Channel) → Wrote [] (Ok v) a a
 Wrote-nothing v a = record { whole = Appends-nothing a.bytes; front = tt; failures = refl }
 
--- one text, and what came of the one after it
-pub Wrote-then : (r : Result (Unit {0}) WriteFault) (v : Unit {0}) (x y : List ℕ) (a b c : Channel) → Wrote x (Ok v) a b
-    → Wrote y r b c → Wrote (x ++ y) r a c
-Wrote-then (Ok w) v x y a b c p q = record {
-  whole = Appends-then a.bytes b.bytes c.bytes x y p.whole q.whole;
-  front = tt;
-  failures = q.failures ∙ p.failures;
-}
-Wrote-then (Err e) v x y a b c p q = record {
-  whole = tt;
-  front = AppendsPart-after a.bytes b.bytes c.bytes x y p.whole q.front;
-  failures = subst (λ n. HasRisen n c.failures) p.failures q.failures;
-}
+module _ {x y : List ℕ} {v : Unit {0}} {a b c : Channel} where
+  -- one text, and what came of the one after it
+  pub Wrote-then : {r : Result (Unit {0}) WriteFault} → Wrote x (Ok v) a b → Wrote y r b c → Wrote (x ++ y) r a c
+  Wrote-then {r = Ok w} p q = record {
+    whole = Appends-then a.bytes b.bytes c.bytes x y p.whole q.whole;
+    front = tt;
+    failures = q.failures ∙ p.failures;
+  }
+  Wrote-then {r = Err e} p q = record {
+    whole = tt;
+    front = AppendsPart-after a.bytes b.bytes c.bytes x y p.whole q.front;
+    failures = subst (λ n. HasRisen n c.failures) p.failures q.failures;
+  }
 
 -- the last text
-pub Wrote-last : (r : Result (Unit {0}) WriteFault) (x : List ℕ) (a b : Channel) → Wrote x r a b → Wrote (x ++ []) r a b
-Wrote-last r x a b p = rw (append-nil x) p
+pub Wrote-last : {r : Result (Unit {0}) WriteFault} {x : List ℕ} {a b : Channel} → Wrote x r a b → Wrote (x ++ []) r a b
+Wrote-last {x = x} p = rw (append-nil x) p
 
-module _ (r : Result (Unit {0}) WriteFault) (is : IsErr r) where
+module _ {x : List ℕ} {a b : Channel} (y : List ℕ) where
   -- a text that failed, before another that was to follow
-  pub Wrote-front : (x y : List ℕ) (a b : Channel) → Wrote x r a b → Wrote (x ++ y) r a b
-  Wrote-front = elim r as (λ r. IsErr r → (x y : List ℕ) (a b : Channel) → Wrote x r a b → Wrote (x ++ y) r a b) [
-    | Ok v ↦ λ is x y a b p. absurd (cc is)
-    | Err e ↦ λ is x y a b p.
-        record { whole = tt; front = AppendsPart-front a.bytes b.bytes x y p.front; failures = p.failures }
-  ] is
+  pub Wrote-front : {r : Result (Unit {0}) WriteFault} → IsErr r → Wrote x r a b → Wrote (x ++ y) r a b
+  Wrote-front {r = Ok v} is p = absurd (cc is)
+  Wrote-front {r = Err e} is p =
+      record { whole = tt; front = AppendsPart-front a.bytes b.bytes x y p.front; failures = p.failures }
 
   -- any answer that is a failure does
-  pub Wrote-any : (e : WriteFault) (x : List ℕ) (a b : Channel) → Wrote x (Err e) a b → Wrote x r a b
-  Wrote-any =
-      elim r as (λ r. IsErr r → (e : WriteFault) (x : List ℕ) (a b : Channel) → Wrote x (Err e) a b → Wrote x r a b) [
-        | Ok v ↦ λ is e x a b p. absurd (cc is)
-        | Err f ↦ λ is e x a b p. record { whole = tt; front = p.front; failures = p.failures }
-      ] is
-
-  pub Wrote-stops : (e : WriteFault) (x y : List ℕ) (a b : Channel) → Wrote x (Err e) a b → Wrote (x ++ y) r a b
-  Wrote-stops e x y a b p = Wrote-front x y a b (Wrote-any e x a b p)
+  pub Wrote-stops : {r : Result (Unit {0}) WriteFault} {e : WriteFault} → IsErr r → Wrote x (Err e) a b
+      → Wrote (x ++ y) r a b
+  Wrote-stops {r = Ok v} is p = absurd (cc is)
+  Wrote-stops {r = Err f} is p = Wrote-front is (record { whole = tt; front = p.front; failures = p.failures })
 
 -- ---- after other texts
 
 -- a text after others, and then one more
 pub WroteAfter-then : (p q r : Result (Unit {0}) WriteFault) (x y : List ℕ) (a b c : Channel) → WroteAfter p x q a b
     → WroteAfter q y r b c → WroteAfter p (x ++ y) r a c
-WroteAfter-then (Ok v) (Ok w) r x y a b c first second = Wrote-then r w x y a b c first second
+WroteAfter-then (Ok v) (Ok w) r x y a b c first second = Wrote-then first second
 WroteAfter-then (Ok v) (Err e) r x y a b c first second =
     rw (second.0, second.1) (record {
       whole = tt;
       front = AppendsPart-front a.bytes b.bytes x y first.front;
       failures = first.failures;
     })
-WroteAfter-then (Err e) q r x y a b c first second = let k = rw (first.0, first.1) at second in k
+WroteAfter-then (Err e) q r x y a b c first second = grind arith
 
 WroteAfter-nothing : (p : Result (Unit {0}) WriteFault) (a : Channel) → WroteAfter p [] p a a
 WroteAfter-nothing (Ok v) a = Wrote-nothing v a
@@ -72,7 +65,7 @@ pub wrote-reports : {E : Type 0} (contents : E → Option (List ℕ)) (xs : List
     → (loan_name b ≡ loan_name a)
     × WroteAfter (writing a) (report_lines xs) (writing b) (channel contents (lent_output a))
     (channel contents (lent_output b))
-wrote-reports contents [] a b took = rw took (refl, WroteAfter-nothing (writing a) (channel contents (lent_output a)))
+wrote-reports contents [] a b took = grind (arith, WroteAfter-nothing)
 wrote-reports contents (x ∷ xs) a b took =
     let rest = wrote-reports contents xs took.0 b took.2 in (
       rest.0 ∙ took.1.same_loan,
@@ -82,24 +75,20 @@ wrote-reports contents (x ∷ xs) a b took =
 
 -- ---- parts of a list
 
-module _ {A : Type 0} (f : A → List ℕ) (xs : List A) (i : ℕ) (a b : Channel)
+module _ {A : Type 0} (f : A → List ℕ) (xs : List A) (i : ℕ) {a b : Channel}
     (before : Wrote (flat_map f (take i xs)) (Ok tt) a b) where
   -- one part more
-  pub part-wrote : (c : Channel) (d : A) (v : Unit {0}) → i < length xs → Wrote (f (get_or xs i d)) (Ok v) b c
+  pub part-wrote : {c : Channel} {v : Unit {0}} (d : A) → i < length xs → Wrote (f (get_or xs i d)) (Ok v) b c
       → Wrote (flat_map f (take (i + 1) xs)) (Ok tt) a c
-  part-wrote c d v small now =
+  part-wrote d small now =
       rw (parts_more f xs i d small)
-      (Wrote-then (Ok tt) tt (flat_map f (take i xs)) (f (get_or xs i d)) a b c before
-      (record { whole = now.whole; front = tt; failures = now.failures }))
+      (Wrote-then before (record { whole = now.whole; front = tt; failures = now.failures }))
 
   -- one part that failed
-  pub part-stops : (c : Channel) (r : Result (Unit {0}) WriteFault) → IsErr r → (d : A) (e : WriteFault) → i < length xs
+  pub part-stops : {c : Channel} {r : Result (Unit {0}) WriteFault} {e : WriteFault} → IsErr r → (d : A) → i < length xs
       → Wrote (f (get_or xs i d)) (Err e) b c → Wrote (flat_map f xs) r a c
-  part-stops c r is d e small now =
-      rw (parts_at f xs i d small)
-      (Wrote-stops r is e _ _ a c
-      (Wrote-then (Err e) tt (flat_map f (take i xs)) (f (get_or xs i d)) a b c before now))
+  part-stops is d small now = rw (parts_at f xs i d small) (Wrote-stops _ is (Wrote-then before now))
 
   -- all parts
   pub parts-wrote : length xs ≤ i → Wrote (flat_map f xs) (Ok tt) a b
-  parts-wrote all = rw (take_all i xs all) at before
+  parts-wrote all = grind (arith, take_all)

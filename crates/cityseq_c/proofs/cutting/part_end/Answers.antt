@@ -1,3 +1,4 @@
+use Rattle.std.proofs.Common.{arith}
 use Rattle.std.proofs.Common.{take}
 use Rattle.cityseq_c.proofs.CuttingLemmas.{end-first, end-last, end-none, front-wanted}
 use Rattle.cityseq_c.proofs.cutting.part_end.Goals as goal
@@ -26,5 +27,4 @@ returns-in-Some-memchr-clause-whole c =
 
 pub returns-in-None-clause-end : goal.returns-in-None-clause-end
 returns-in-None-clause-end c =
-    end-none c.args.part.now c.args.wanted (take c.min.result c.args.part.now)
-    (front-wanted c.args.part.now c.args.wanted c.min.result c.min.ensures) c.in_default.ensures c.in-None.ensures
+    grind (arith, end-none, front-wanted)

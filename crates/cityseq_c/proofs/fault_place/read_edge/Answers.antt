@@ -1,11 +1,11 @@
+use Rattle.std.proofs.Common.{arith}
 use Rattle.std.proofs.Common.{refl}
 use Rattle.cj_stream.proofs.BoxTextLemmas.{answer-none, answer-out, answer-read}
 use Rattle.cityseq_c.proofs.fault_place.read_edge.Goals as goal
 
 pub returns-in-Ok : goal.returns-in-Ok
 returns-in-Ok c =
-    answer-read c.args.field.now c.in-Ok.number c.in-Ok.ensures.value c.in-Ok.ensures.in_range c.fixed18.result
-    c.fixed18.ensures.value c.fixed18.ensures.fixed
+    grind (arith, answer-read)
 
 pub returns-in-Err-NumberRange : goal.returns-in-Err-NumberRange
 returns-in-Err-NumberRange c =
@@ -14,5 +14,4 @@ returns-in-Err-NumberRange c =
 
 pub returns-in-Err-NotANumber : goal.returns-in-Err-NotANumber
 returns-in-Err-NotANumber c =
-    answer-none c.args.field.now
-    (c.read.ensures.not_a_number.0 (rw (c.in-Err-NotANumber.is, c.in-Err-NotANumber.field-0-is) refl))
+    grind (arith, answer-none)

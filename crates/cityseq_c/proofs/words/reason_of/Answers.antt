@@ -1,10 +1,9 @@
-use Rattle.cityseq_c.proofs.Common.{Bool, List, Option, Reason, add-one, code_of, drop, false, get_or, length, reason_in, refl, true, ℕ, ◌+◌, ◌<◌, ◌∙◌, ◌≡◌}
+use Rattle.cityseq_c.proofs.Common.{Bool, List, Option, Reason, add-one, code_of, drop, false, get_or, length, reason_in, true, ℕ, ◌+◌, ◌<◌, ◌∙◌, ◌≡◌, arith}
 use Rattle.std.proofs.Common.{nat_eq, drop-cons, eqb-true}
 use Rattle.cityseq_c.proofs.words.reason_of.Goals as goal
 
 not-true : (x : Bool) → ¬ (x ≡ true) → x ≡ false
-not-true true h = absurd (h refl)
-not-true false h = refl
+not-true x h = grind arith
 
 -- a reason of another code is passed
 passed : (code i k : ℕ) (xs : List Reason) (d : Reason) (r : Option Reason) → i < length xs

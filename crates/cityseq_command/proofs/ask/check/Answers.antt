@@ -20,7 +20,7 @@ returns-in-Complete g c =
     let w = c.write_check.ensures in (
       e.0,
       e.1,
-      Does-run g.N.ReportSink.notes ask e.0 _ _ outcome _ old new c.args.reports.now c.run-outcome.new.reports refl
+      Does-run refl
           e.3.account e.2 e.4 e.5 collected
           (rw c.in-Complete.is (Says-check all e.0 _ _ _ c.write_check.result c.end_of_writing.result old new ends.1
           (features-kept all e.0 _ _ _ kept e.3.account.counts ends.1)
@@ -42,7 +42,6 @@ returns g c =
     (g.R.Read.remaining c.run-outcome.new.reader) e.3.account (λ none. (c.run-outcome.ensures.memory none).0) in (
       e.0,
       e.1,
-      Does-run g.N.ReportSink.notes ask e.0 _ _ outcome outcome out out c.args.reports.now c.run-outcome.new.reports
-          refl e.3.account e.2 e.4 e.5 collected (Says-nothing _ _ out c.in_default.not-Complete well)
+      Does-run refl e.3.account e.2 e.4 e.5 collected (Says-nothing _ _ out c.in_default.not-Complete well)
           (λ is. absurd (well is)),
     )

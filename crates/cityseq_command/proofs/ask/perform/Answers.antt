@@ -37,14 +37,12 @@ did g c = elim c.match-ask.branch [
       rw (w.reader-is, w.out-is, w.reports-is, w.outcome-is, w.in-Filter.is) (
         e.0,
         e.1,
-        Does-run (WritesReport g.E.Write.contents) ask e.0 _ (IsAtEnd left) run.outcome run.outcome
-            (channel g.W.Write.contents old) (channel g.W.Write.contents new) c.new-reports.result
-            w.run-outcome.new.reports refl e.3.account e.2 e.4 e.5 (law.runs run left e.3.account none) (
-              refl,
-              writes.runs (stream_of run.rules e.0) ended old new e.3.puts,
-              law.headline run left old new e.3 (λ is. lacks-room run _ (e.5.memory is)) ran.cause,
-              writes.lines run left old new e.3 none,
-            ) ran.cause,
+        Does-run refl e.3.account e.2 e.4 e.5 (law.runs run left e.3.account none) (
+          refl,
+          writes.runs (stream_of run.rules e.0) ended old new e.3.puts,
+          law.headline run left old new e.3 (λ is. lacks-room run _ (e.5.memory is)) ran.cause,
+          writes.lines run left old new e.3 none,
+        ) ran.cause,
       )
   | in-Info w ↦ rw (w.reader-is, w.out-is, w.reports-is, w.outcome-is, w.in-Info.is) w.info-outcome.ensures
 ]
@@ -85,9 +83,8 @@ performs g c r d =
           subst (λ rs. Took Collects [] rs d.refused)
           (law (rules_of_ask c.args.ask.now) r d.outcome.lines off d.account.counts.counted.good)
           (More-all Collects over-reported d.reported.collected.reports);
-      answers = Answers-kept c.args.ask.now r _ d.outcome d.refused said (channel g.W.Write.contents c.args.out.now)
-          (channel g.W.Write.contents c.match-ask.out) (channel g.W.Write.contents c.flush.new.self) d.answers
-          c.flush.ensures.bytes c.flush.ensures.failures;
+      answers = Answers-kept _ (channel g.W.Write.contents c.match-ask.out) _ c.flush.ensures.bytes
+          c.flush.ensures.failures c.args.ask.now r _ d.outcome d.refused said d.answers;
       cause = λ is.
           subst (λ n. HasRisen (output_failures c.args.out.now) n) (sym c.flush.ensures.failures) (d.cause is);
       reports = record {

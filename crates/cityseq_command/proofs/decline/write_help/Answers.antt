@@ -10,10 +10,9 @@ returns g c =
       text = text;
       said = said;
       shown = c.show.result;
-      says = Says-kept text Complete said (channel g.W.Write.contents c.args.out.now)
-          (channel g.W.Write.contents c.write_text.new.out) (channel g.W.Write.contents c.flush.new.self)
-          (c.write_text.result, c.end_of_writing-said.ensures, c.write_text.ensures) c.flush.ensures.bytes
-          c.flush.ensures.failures;
+      says = Says-kept _ (channel g.W.Write.contents c.write_text.new.out) _ c.flush.ensures.bytes
+          c.flush.ensures.failures text Complete said
+          (c.write_text.result, c.end_of_writing-said.ensures, c.write_text.ensures);
       reports = record {
         flushed = c.flush.result;
         answered = c.flush.ensures.noted;

@@ -1,4 +1,5 @@
-use Rattle.std.proofs.Common.{Err, List, None, Ok, Result, Some, refl, ℕ, ◌∙◌}
+use Rattle.std.proofs.Common.{arith}
+use Rattle.std.proofs.Common.{List, None, Result, Some, refl, ℕ, ◌∙◌}
 use Rattle.std.specs.Result.{result_ok}
 use Rattle.std.specs.Str.Parse.{ParsesUnsigned}
 use Rattle.cityseq_command.specs.StackLimit.{IsSpelled}
@@ -6,8 +7,7 @@ use Rattle.cityseq_command.proofs.stack_limit.stack_limit_in.Goals as goal
 
 -- a word that was parsed spells that number, and another one spells none
 spelled : {E : Type 0} (word : List ℕ) (r : Result ℕ E) → ParsesUnsigned 64 10 word r → IsSpelled word (result_ok r)
-spelled word (Ok n) parses = parses
-spelled word (Err e) parses = parses
+spelled word r parses = grind arith
 
 pub returns-in_err-columns : goal.returns-in_err-columns
 returns-in_err-columns c = (None, (None, c.in_err-columns.ensures.cases, refl), c.from_residual.ensures)

@@ -19,7 +19,7 @@ loop-class-preserved g c =
     λ class. Wrote (class_text t class) (Ok tt) (channel g.W.Write.contents c.loop-class.out)
     (channel g.W.Write.contents c.write_counted.new.out) in
     let one = subst Written is (rw (c.class_name.ensures, c.by_lod.ensures) at c.in_ok-write_counted.ensures) in
-    part-wrote (class_text t) classes i _ _ c.loop-class.invariant _ 0 _ (omega arith) one
+    part-wrote (class_text t) classes i c.loop-class.invariant 0 (omega arith) one
 
 pub returns-in_err-write_counted : goal.returns-in_err-write_counted
 unfolding classes
@@ -31,4 +31,4 @@ returns-in_err-write_counted g c =
     λ class. Wrote (class_text t class) (Err c.in_err-write_counted.field-0.0)
     (channel g.W.Write.contents c.loop-class.out) (channel g.W.Write.contents c.write_counted.new.out) in
     let one = subst Failed is (rw (c.class_name.ensures, c.by_lod.ensures) at c.in_err-write_counted.ensures) in
-    part-stops (class_text t) classes i _ _ c.loop-class.invariant _ _ c.from_residual.ensures.0 0 _ (omega arith) one
+    part-stops (class_text t) classes i c.loop-class.invariant c.from_residual.ensures.0 0 (omega arith) one

@@ -1,20 +1,17 @@
-use Rattle.cityseq_command.proofs.Common.{codes, count_line}
 use Rattle.cityseq_command.proofs.WroteLemmas.{Wrote-then, Wrote-last, Wrote-stops}
 use Rattle.cityseq_command.proofs.summary.write_peaks.Goals as goal
 
 pub returns-in_err-write_count : goal.returns-in_err-write_count
 returns-in_err-write_count g c =
-    Wrote-stops _ c.from_residual.ensures.0 _ (count_line (codes "peak bytes") c.args.peaks.bytes) _ _ _
-    c.in_err-write_count.ensures
+    Wrote-stops _ c.from_residual.ensures.0 c.in_err-write_count.ensures
 
 pub returns-in_err-write_count-2 : goal.returns-in_err-write_count-2
 returns-in_err-write_count-2 g c =
-    Wrote-then _ _ (count_line (codes "peak bytes") c.args.peaks.bytes) _ _ _ _ c.in_ok-write_count.ensures
-    (Wrote-stops _ c.from_residual-in_err-write_count-2.ensures.0 _
-    (count_line (codes "peak tokens") c.args.peaks.tokens) _ _ _ c.in_err-write_count-2.ensures)
+    Wrote-then c.in_ok-write_count.ensures
+    (Wrote-stops _ c.from_residual-in_err-write_count-2.ensures.0 c.in_err-write_count-2.ensures)
 
 pub returns : goal.returns
 returns g c =
-    Wrote-then _ _ (count_line (codes "peak bytes") c.args.peaks.bytes) _ _ _ _ c.in_ok-write_count.ensures
-    (Wrote-then _ _ (count_line (codes "peak tokens") c.args.peaks.tokens) _ _ _ _ c.in_ok-write_count-2.ensures
-    (Wrote-last _ (count_line (codes "peak open") c.args.peaks.depth) _ _ c.write_count-3.ensures))
+    Wrote-then c.in_ok-write_count.ensures
+    (Wrote-then c.in_ok-write_count-2.ensures
+    (Wrote-last c.write_count-3.ensures))

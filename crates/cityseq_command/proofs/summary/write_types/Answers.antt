@@ -10,8 +10,8 @@ pub loop-object_type-preserved : goal.loop-object_type-preserved
 loop-object_type-preserved g c =
     let t = c.args.tally.now in
     let one = rw (c.name.ensures.name, c.by_type.ensures) at c.in_ok-write_counted.ensures in
-    part-wrote (λ o. type_text t (row_at o)) c.all-object_type-items.result c.loop-object_type.object_type-index _ _
-    c.loop-object_type.invariant _ Bridge _ (omega arith) one
+    part-wrote (λ o. type_text t (row_at o)) c.all-object_type-items.result c.loop-object_type.object_type-index
+    c.loop-object_type.invariant Bridge (omega arith) one
 
 pub returns-in_err-write_counted : goal.returns-in_err-write_counted
 returns-in_err-write_counted g c =
@@ -20,8 +20,8 @@ returns-in_err-write_counted g c =
     let each = sym (flat_map-map (type_text t) row_at types)
     ∙ ap (flat_map (type_text t)) c.all-object_type-items.ensures in
     let one = rw (c.name.ensures.name, c.by_type.ensures) at c.in_err-write_counted.ensures in
-    let part = part-stops (λ o. type_text t (row_at o)) types c.loop-object_type.object_type-index _ _
-    c.loop-object_type.invariant _ _ c.from_residual.ensures.0 Bridge _ (omega arith) one in
+    let part = part-stops (λ o. type_text t (row_at o)) types c.loop-object_type.object_type-index
+    c.loop-object_type.invariant c.from_residual.ensures.0 Bridge (omega arith) one in
     rw each at part
 
 pub returns : goal.returns
@@ -30,6 +30,6 @@ returns g c =
     let types = c.all-object_type-items.result in
     let each = sym (flat_map-map (type_text t) row_at types)
     ∙ ap (flat_map (type_text t)) c.all-object_type-items.ensures in
-    let all = parts-wrote (λ o. type_text t (row_at o)) types c.loop-object_type.object_type-index _ _
+    let all = parts-wrote (λ o. type_text t (row_at o)) types c.loop-object_type.object_type-index
     c.loop-object_type.invariant (omega arith) in
     rw each at all

@@ -1,4 +1,4 @@
-use Rattle.cityseq_command.proofs.Common.{ArgMatches, Err, IfErr, IsErrOf, Ok, Result, refl, ℕ}
+use Rattle.cityseq_command.proofs.Common.{ArgMatches, IfErr, IsErrOf, Result, ℕ, arith}
 use Rattle.cj_budget.specs.Limits.{InLine, InDepth}
 use Rattle.cj_budget.specs.declared.limits.LimitFault.{LimitFault}
 use Rattle.cj_budget.specs.declared.limits.LimitFault.TheVariants.{LineLimit, DepthLimit}
@@ -10,15 +10,8 @@ module _ {T : Type 0} (m : ArgMatches) (line depth : ℕ) (given : HasLimits m (
   where
     declines : (r : Result T LimitFault) → (IsErrOf r LineLimit → ¬ InLine line)
         → (IsErrOf r DepthLimit → InLine line × ¬ InDepth depth) → IfErr r (DeclinesLimits m)
-    declines (Ok limits) lines depths = tt
-    declines (Err LineLimit) lines depths =
-        record { limits = record { line = line; depth = depth }; given = given; out_of_range = lines refl }
-    declines (Err DepthLimit) lines depths =
-        record { limits = record { line = line; depth = depth }; given = given; out_of_range = depths refl }
+    declines r lines depths = grind arith
 
 pub returns-clause-err : goal.returns-clause-err
 returns-clause-err c =
-    declines c.args.matches.now c.number_of-line.result c.number_of-depth.result
-    (record { line = c.number_of-line.ensures; depth = c.number_of-depth.ensures }) c.new.result
-    c.new.ensures.line_limit.0
-    c.new.ensures.depth_limit.0
+    grind (arith, declines)

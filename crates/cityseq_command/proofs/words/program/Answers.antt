@@ -1,4 +1,4 @@
-use Rattle.cityseq_command.proofs.Common.{IfOk-weaker, IsCommand, bare_app, codes, rules}
+use Rattle.cityseq_command.proofs.Common.{IfOk-weaker, IsCommand, bare_app, rules}
 use Rattle.cityseq_command.proofs.CommandLemmas.{with_command}
 use Rattle.cityseq_command.proofs.words.program.Goals as goal
 

@@ -1,19 +1,13 @@
-use Rattle.cityseq_c.proofs.Common.{Account, Complete, IsJudged, IsUnread, None, Outcome, ap, capped, run_over, subst, sym, ℕ, ◌+◌, ◌-◌, ◌∙◌, ◌≡◌}
-use Rattle.cj_stream.specs.Parts.{headed, both_outcomes, capped_end, capped_outcome, moved_end}
+use Rattle.cityseq_c.proofs.Common.{Account, Complete, IsJudged, IsUnread, None, ap, run_over, subst, sym, ◌-◌, ◌∙◌, ◌≡◌, arith, rules}
+use Rattle.cj_stream.specs.Parts.{headed, capped_end, moved_end}
 use Rattle.cj_stream.proofs.AccountLemmas.{Account-stays}
 use Rattle.cityseq_c.specs.Answer.{answer_of}
-use Rattle.cityseq_c.specs.Joined.{ended_by, outcome_by}
+use Rattle.cityseq_c.specs.Joined.{ended_by}
 use Rattle.cityseq_c.proofs.AnswerLemmas.{complete-of, ended-of, judged-moved, judged-unread, not-complete, outcome-of, same-end}
 use Rattle.cityseq_c.proofs.answer.Answer.then.Goals as goal
 
 pub returns-then-self-ne0-clause-account : goal.returns-then-self-ne0-clause-account
-returns-then-self-ne0-clause-account c rules h a b cut few x y = record {
-  outcome = x.outcome;
-  judged = x.judged;
-  account = Account-stays rules h a b cut x.outcome y.outcome (Unit {0}) (Unit {0}) (not-complete x c.if-self-ne0.true)
-      (judged-unread x.outcome.ended x.judged) x.account;
-  shown = x.shown;
-}
+returns-then-self-ne0-clause-account c rules h a b cut few x y = search (rules, Account-stays, not-complete, judged-unread)
 
 pub returns-in-Some-clause-account : goal.returns-in-Some-clause-account
 returns-in-Some-clause-account c rules h a b cut few x y =
@@ -40,13 +34,4 @@ returns-in-Some-clause-account c rules h a b cut few x y =
 
 pub returns-in-Some-clause-judged : goal.returns-in-Some-clause-judged
 returns-in-Some-clause-judged c ended zero is =
-    let same : c.in-Some.ended ≡ ended =
-    same-end c.in-Some.ended ended (ended_by c.args.next.now) (sym c.ended.ensures ∙ c.in-Some.is) is in
-    let both = c.then.ensures.complete (ap (λ o. o.ended) c.outcome.ensures) in
-    let shown = rw (both, c.outcome.ensures, c.outcome-in-Some.ensures) at c.answer_of_outcome.ensures in
-    let count : c.saturating_add.result ≡ capped (c.args.self.now.written
-    + (c.args.next.now.written - c.args.header_length)) = c.saturating_add.ensures
-    ∙ ap (λ (n : ℕ). capped (c.args.self.now.written + n)) c.saturating_sub.ensures in
-    let all : Outcome = capped_outcome (both_outcomes (outcome_by c.args.self.now Complete)
-    (outcome_by c.args.next.now c.in-Some.ended)) in
-    rw (← same) (shown ∙ ap (λ (n : ℕ). answer_of all n) count)
+    grind (arith, same-end)

@@ -1,3 +1,4 @@
+use Rattle.std.proofs.Common.{arith}
 use Rattle.std.proofs.Common.{◌∙◌}
 use Rattle.cityseq_c.proofs.AskedLemmas.{is-text}
 use Rattle.cityseq_c.proofs.PlaceLemmas.{edge-kept, number-read}
@@ -8,8 +9,7 @@ returns-in-Utf8 c = rw c.in-Utf8.is (c.is_ok.ensures.value ∙ is-text _ c.args.
 
 pub returns-in-Number : goal.returns-in-Number
 returns-in-Number c =
-    rw c.in-Number.is (c.is_ok-in-Number.ensures.value
-    ∙ number-read c.args.item.now c.read_edge.result c.read_edge.ensures)
+    grind (arith, number-read)
 
 pub returns-in-Edge : goal.returns-in-Edge
 returns-in-Edge c =

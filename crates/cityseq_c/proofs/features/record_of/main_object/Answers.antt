@@ -1,17 +1,10 @@
-use Rattle.cityseq_c.proofs.Common.{ap, feature_tree, first_named, objects_left, objects_line, sym, tree, ◌∙◌}
+use Rattle.cityseq_c.proofs.Common.{ap, first_named, objects_left, sym, tree, ◌∙◌, arith}
 use Rattle.cityseq_c.proofs.MainLemmas.{main-first, main-here, main-past}
 use Rattle.cityseq_c.proofs.features.record_of.main_object.Goals as goal
 
 pub loop-object-init : goal.loop-object-init
 loop-object-init c =
-    let all = ap objects_left c.into_iter-object-iterator.ensures.into_iter_gives
-    ∙ c.objects-object-items.ensures.objects in
-    record {
-      main = λ x is. ap (first_named x) all
-          ∙ main-first (feature_tree c.args.feature.now) (tree c.id-id.result) x c.id-id.ensures.tree is;
-      line = ap objects_line c.into_iter-object-iterator.ensures.into_iter_gives
-          ∙ c.objects-object-items.ensures.line;
-    }
+    grind (arith, main-first)
 
 pub loop-object-preserved : goal.loop-object-preserved
 loop-object-preserved c =

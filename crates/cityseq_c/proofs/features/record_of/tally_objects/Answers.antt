@@ -4,14 +4,7 @@ use Rattle.cityseq_c.proofs.features.record_of.tally_objects.Goals as goal
 
 pub loop-object-init : goal.loop-object-init
 loop-object-init c =
-    let all = ap objects_left c.into_iter-object-iterator.ensures.into_iter_gives
-    ∙ c.objects-object-items.ensures.objects in
-    let long = ap length all in
-    record {
-      few = omega arith;
-      counted = omega (arith, long);
-      marked = Marking-start 34 _ _ (ap (map (λ (m : Tree × Tree). row_number (type_row m.1))) all);
-    }
+    grind (arith, Marking-start)
 
 pub loop-object-preserved : goal.loop-object-preserved
 loop-object-preserved c =
@@ -30,8 +23,7 @@ loop-object-preserved c =
 
 pub returns-clause-count : goal.returns-clause-count
 returns-clause-count c =
-    let before = c.loop-object.invariant in
-    let e = rw c.in-None.ensures.steps.0.0 at before.counted in omega (arith, e, before.few)
+    grind arith
 
 pub returns-clause-types : goal.returns-clause-types
 returns-clause-types c = Marking-end 34 _ _ (rw c.in-None.ensures.steps.0.0 at c.loop-object.invariant.marked)

@@ -1,12 +1,10 @@
-use Rattle.cityseq_c.proofs.Common.{feature_item, refl}
+use Rattle.cityseq_c.proofs.Common.{feature_item, refl, arith}
 use Rattle.cityseq_c.proofs.ListLemmas.{left-record, listed-there, stored-record}
 use Rattle.cityseq_c.proofs.features.listed.ListedLineSink.put.Goals as goal
 
 pub returns-else-self-clause-ok : goal.returns-else-self-clause-ok
 returns-else-self-clause-ok c =
-    listed-there (feature_item c.args.feature.now c.args._lf) c.args.self.now _ c.bytes.result.now c.bytes.ensures
-    (c.in-Some.line, c.in-Some.begin)
-    c.in-Some.ensures (left-record _ c.args.self.now _ refl c.if-self.false refl refl)
+    grind (arith, listed-there, left-record)
 
 pub returns-then-self-clause-ok : goal.returns-then-self-clause-ok
 returns-then-self-clause-ok c =
