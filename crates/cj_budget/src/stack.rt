@@ -4,7 +4,8 @@
 //! the end. The items are in the first places of a `SmallVec`, and their count is beside it. So a
 //! push or a pop changes one place and one number, and only a growth changes the vector. The first
 //! 64 places are in the stack itself. So `push`, `reserve_all` and `is_reserved` have a clause of
-//! their own for these. `reserve_all` requests exactly the missing memory, and fills it with places.
+//! their own for these. `reserve_all` requests exactly the missing memory, and fills it with
+//! places.
 ghost use Rattle.std.specs.Prelude.{◌≡◌, ◌+◌, ◌<◌, ◌≤◌, ◌↔◌, ◌++◌, ◌∷◌, [], length, take, drop, max, slice_get, slice_set};
 ghost use Rattle.std.specs.Prelude.{IsTrue, IsOk, OnOk, OnErr};
 ghost use Rattle.smallvec.specs.SmallVec.{small_vec_len};

@@ -3,7 +3,7 @@ use Rattle.cj_decimal.proofs.Common.{◌≡◌, ℕ, zero, suc, ◌+◌, ◌*◌
 use Rattle.std.proofs.Math.Nat.{pow-zero}
 use Rattle.std.specs.Int.{swap_bytes}
 use Rattle.std.specs.Prelude.{Option, None, Some, IfSome, IsSome, Ok, pos}
-use Rattle.cj_decimal.specs.Word.{little_endian, AllBelow, IsCountWord, IsWordOf, TellsBelow, weighed}
+use Rattle.cj_decimal.specs.Word.{little_endian, AllBelow, IsCountWord, IsWordOf, IsBoundWord, weighed}
 use Rattle.cj_decimal.proofs.Wholes.{answer_digits, int_short}
 use Rattle.cj_decimal.proofs.Eights.{value_weighed}
 
@@ -119,17 +119,17 @@ word_answer (Some w) s int word = search (arith, answer_digits, word_short)
 
 -- ---- what a word of a count tells
 
-pub told_below : (w n word limit : ℕ) → IsWordOf w n → w < word → TellsBelow word limit → n < limit
-told_below w n word limit h less tells = search arith
+pub below_bound : (w n word limit : ℕ) → IsWordOf w n → w < word → IsBoundWord word limit → n < limit
+below_bound w n word limit h less is_bound = search arith
 
-pub all_below : (n word : ℕ) → 100000000 ≤ n → TellsBelow word n
+pub all_below : (n word : ℕ) → 100000000 ≤ n → IsBoundWord word n
 unfolding weighed
 all_below n word h = λ s l z w. let v = value_weighed s in let b = weighed_below 10 (omega arith) s z in
     let p = ap (λ k. 10 ^ k) l in omega arith
 
 -- a word that has the digits of a number tells of eight digits whether they spell less
-pub told : (word n : ℕ) → IsWordOf word n → TellsBelow word n
-told word n h = λ s l z w.
+pub bound_of_word : (word n : ℕ) → IsWordOf word n → IsBoundWord word n
+bound_of_word word n h = λ s l z w.
     let above : weighed 256 s + 1 ≤ weighed 256 h.0 = omega (arith, h.3, w) in
     let o = order 1 (omega arith) s h.0 (l ∙ sym h.1) z h.2 above in
     let m = h.4 ∙ value_weighed h.0 in let v = value_weighed s in omega arith

@@ -19,8 +19,8 @@ weighed n [] = 0
 weighed n (d ∷ s) = n ^ length s * d + weighed n s
 
 -- eight digits that are below this word as bytes, the first one greatest, spell a number below n
-abbrev pub TellsBelow : ℕ → ℕ → Type 0
-TellsBelow word n = (s : List ℕ) → length s ≡ 8 → AllBelow 10 s → weighed 256 s < word
+abbrev pub IsBoundWord : ℕ → ℕ → Type 0
+IsBoundWord word n = (s : List ℕ) → length s ≡ 8 → AllBelow 10 s → weighed 256 s < word
     → digits_value (map (λ d. d + digit_0) s) < n
 
 -- the word has eight digits as bytes, the first one greatest, and they spell the number

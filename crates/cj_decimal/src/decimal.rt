@@ -16,7 +16,7 @@ ghost use Rattle.cj_decimal.specs.Meaning.Equality.{same_parts, SameValue, IsNor
 ghost use Rattle.cj_decimal.specs.Meaning.Equality.{IsFixed};
 ghost use Rattle.cj_decimal.specs.inner.Digits.{StandsFor};
 ghost use Rattle.cj_decimal.specs.inner.Reading.{Saturates};
-ghost use Rattle.cj_decimal.specs.Word.{IsCountWord, IsWordOf, TellsBelow};
+ghost use Rattle.cj_decimal.specs.Word.{IsCountWord, IsWordOf, IsBoundWord};
 
 use crate::fixed::Fixed18;
 use crate::powers::wide_ten_to;
@@ -242,7 +242,7 @@ impl Decimal {
         requires within { stop ≤ length line.now }
         requires number { IsNumberIfBegun (slice_range line.now start stop) }
         ensures few { IsTrue result → IsFewDigits (slice_range line.now start stop) }
-        ensures below { IsTrue result → (n : ℕ) → TellsBelow word n → (m : ℕ) × (m < n) × (m < 10 ^ 18)
+        ensures below { IsTrue result → (n : ℕ) → IsBoundWord word n → (m : ℕ) × (m < n) × (m < 10 ^ 18)
             × ((c : Class (slice_range line.now start stop)) → whole_answer c ≡ Ok (Some (pos m))) }
         ensures all { IsFewDigits (slice_range line.now start stop) → stop ≤ start + 8 → 8 ≤ stop
             → (n m : ℕ) → IsCountWord word n → m < n

@@ -8,12 +8,12 @@ ghost use Rattle.cj_decimal.specs.Rows.{WorkedRows};
 /// or whole. It has at most one value.
 #[tactic(auto, using(crate::proofs::OneClass::say_same))]
 pub fn one_class()
-    ensures told { (s : List ℕ) → Class s }
+    ensures classified { (s : List ℕ) → Class s }
     ensures only { (s : List ℕ) (j k : Class s) → SaySame j k }
 {}
 
-/// The number that is computed for a spelling agrees with the class of the spelling, and so with the
-/// grammar of numbers.
+/// The number that is computed for a spelling agrees with the class of the spelling, and so with
+/// the grammar of numbers.
 #[tactic(auto, using(crate::proofs::Decimals::whole_class, crate::proofs::Decimals::decimal_class))]
 pub fn decimal_is_class()
     ensures value { (s : List ℕ) (c : Class s) → decimal_of s ≡ value_answer c }

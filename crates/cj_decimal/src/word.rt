@@ -6,7 +6,7 @@ ghost use Rattle.cj_decimal.specs.inner.Reading.{IsShort};
 ghost use Rattle.cj_decimal.specs.Meaning.Spelling.{IsInt};
 ghost use Rattle.cj_decimal.specs.FewDigits.{IsNumberIfBegun};
 ghost use Rattle.cj_decimal.specs.Meaning.Reading.{digits_value};
-ghost use Rattle.cj_decimal.specs.Word.{little_endian, AllBelow, IsCountWord, IsWordOf, TellsBelow};
+ghost use Rattle.cj_decimal.specs.Word.{little_endian, AllBelow, IsCountWord, IsWordOf, IsBoundWord};
 
 /// The number of bytes in a word.
 const BYTES: usize = 8;
@@ -145,7 +145,7 @@ const NINE_DIGITS: u64 = 100_000_000;
 #[tactic(auto, using(crate::proofs::Below::all_below))]
 pub fn digits_word(count: u64) -> u64
     ensures word { IsCountWord result count }
-    ensures below { TellsBelow result count }
+    ensures below { IsBoundWord result count }
 {
     if count < 10 {
         return count;
@@ -172,7 +172,7 @@ pub fn is_below(line: &[u8], start: usize, stop: usize, word: u64) -> bool
     requires within { stop ≤ length line.now }
     requires number { IsNumberIfBegun (slice_range line.now start stop) }
     ensures near { IsTrue result → stop ≤ start + 8 }
-    ensures short { IsTrue result → (n : ℕ) → TellsBelow word n
+    ensures short { IsTrue result → (n : ℕ) → IsBoundWord word n
         → (m : ℕ) × (m < n) × IsShort (slice_range line.now start stop) m }
     ensures all { IsInt (slice_range line.now start stop) → stop ≤ start + 8 → 8 ≤ stop → (n : ℕ) → IsCountWord word n
         → digits_value (slice_range line.now start stop) < n → IsTrue result }

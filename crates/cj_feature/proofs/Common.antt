@@ -21,7 +21,7 @@ pub use Rattle.cj_feature.specs.inner.Kin.{back_of, linked}
 pub use Rattle.cj_feature.specs.inner.Marking.{AddsNone, AllMarked, AreNamed, AreReached, HaveMarks, IsBeside, IsGuide, IsMarkedBy, IsToMark, Knows, OnlyMarks, ReachesName, WaitsFor, spans_by}
 pub use Rattle.cj_feature.specs.inner.Questions.{AreAnswered, AreLeft, AreListed, AreQuestionsInOrder, IsFirstOn, Side, compare_keys, compare_sides, from_in, key_in, noted, noted_in, pair_key, side_in, side_of, text_side}
 pub use Rattle.cj_feature.specs.inner.Slots.{IsReady, SlotHolds}
-pub use Rattle.cj_feature.specs.inner.Tag.{tag_of}
+pub use Rattle.cj_feature.specs.inner.ShortHash.{short_hash_of}
 pub use Rattle.cj_feature.specs.inner.Typed.{are_one, are_three, are_two, begins_whole, is_vertex}
 pub use Rattle.cj_feature.specs.inner.Unmarked.{AreInNameOrder, ArePassed, IsNoted, IsSought, ListSoughtMarks, SoughtHaveMarks}
 pub use Rattle.cj_geometry.proofs.Neighbours.{contains_cases, contains_first, contains_later, contains_none}

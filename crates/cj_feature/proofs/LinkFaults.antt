@@ -140,9 +140,9 @@ module _ (objects : List (Tree × Tree)) where
 
 -- ---- each finding of the list is a fault by the relations
 
-told : (objects : List (Tree × Tree)) (r : Reason) (t : Tree) (f : Finding) → Contains (one r t) f
+fault_of_one : (objects : List (Tree × Tree)) (r : Reason) (t : Tree) (f : Finding) → Contains (one r t) f
     → IsLinkFault objects (found_at (start_of t) r) → IsLinkFault objects f
-told objects r t f h fault = search (arith, alone)
+fault_of_one objects r t f h fault = search (arith, alone)
 
 module _ (t : Tree) (m : Tree × Tree) (f : Finding) (held : Contains (members_of t) m) where
   from-child : (item : Tree) → is_group m.1 ≡ false → IsListed (chars (codes "children")) m.1 item
@@ -156,11 +156,11 @@ module _ (t : Tree) (m : Tree × Tree) (f : Finding) (held : Contains (members_o
         | inl known ↦
             let is = known-text objects item known.0 in
             let back = unless (lists (chars (codes "parents")) objects item m.0) _ f known.1 in
-            told objects LinkNotMutual item f back.1
+            fault_of_one objects LinkNotMutual item f back.1
             (child_not_mutual m item name.0 is.0 held other listed name.1 is.1 is.2
             (λ p. both_ways _ back.0 (to-lists objects (chars (codes "parents")) item m.0 is.0 name.0 is.1 name.1 p)))
         | inr unknown ↦
-            told objects ChildNotFound item f unknown.1
+            fault_of_one objects ChildNotFound item f unknown.1
             (child_not_found m item id.0 held other listed id.1
             (λ is. both_ways _ unknown.0 (to-known objects item id.0 id.1 is)))
       ]
@@ -173,7 +173,7 @@ module _ (t : Tree) (m : Tree × Tree) (f : Finding) (held : Contains (members_o
       let is = known-text _ _ known.0 in
       let name = names-text t m held in
       let back = unless _ _ f known.1 in
-      told _ _ item f back.1
+      fault_of_one _ _ item f back.1
       (parent_not_mutual m _ _ _ held listed name.1 is.1 is.2
       (λ p. both_ways _ back.0 (to-lists _ _ _ m.0 _ _ is.1 name.1 p)))
 
@@ -184,7 +184,7 @@ module _ (t : Tree) (m : Tree × Tree) (f : Finding) (held : Contains (members_o
       let u = where-there _ _ f at.1 in
       let none = when _ _ f u.2 in
       let both = and_parts _ _ none.0 in
-      told _ _ m.1 f none.1
+      fault_of_one _ _ m.1 f none.1
       (no_parent m u.0 held at.0 u.1 (array-kind _ both.0)
       (λ item a k s is. both_ways _ (not-true _ both.1)
       (to-any _ _ _ k (to-known _ _ a s is))))

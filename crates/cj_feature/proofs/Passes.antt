@@ -23,12 +23,12 @@ nothing_on true true true t missing g h = refl
 nothing_on true false c t missing g h = cc
 nothing_on true true false t missing g h = cc
 
-told_on : (a b c : Bool) (t : Tree) (missing : List Finding) (o : Option Finding) → least o (one LinkNotMutual t) ≡ o
+hidden_on : (a b c : Bool) (t : Tree) (missing : List Finding) (o : Option Finding) → least o (one LinkNotMutual t) ≡ o
     → o ≡ least o missing → o ≡ least o (found_on a b c t missing)
-told_on false b c t missing o told none = refl
-told_on true false c t missing o told none = none
-told_on true true true t missing o told none = refl
-told_on true true false t missing o told none = sym told
+hidden_on false b c t missing o hidden none = refl
+hidden_on true false c t missing o hidden none = none
+hidden_on true true true t missing o hidden none = refl
+hidden_on true true false t missing o hidden none = sym hidden
 
 -- what is listed back has no finding
 pub listed_linked : (k : Link) (objects : List (Tree × Tree)) (name item : Tree) (o : Option Finding)
@@ -40,10 +40,10 @@ listed_linked k objects name item o h = ap (least o) (sym (go k h))
     go Parent h = nothing_on true _ _ item [] (lists_known (back_of Parent) objects item name h) h
 
 -- and what comes behind a finding has none that counts
-pub told_linked : (k : Link) (objects : List (Tree × Tree)) (name item : Tree) (o : Option Finding)
+pub hidden_linked : (k : Link) (objects : List (Tree × Tree)) (name item : Tree) (o : Option Finding)
     → ((r : Reason) → least o (one r item) ≡ o) → o ≡ least o (linked k objects name item)
-told_linked Child objects name item o told = search (arith, told_on)
-told_linked Parent objects name item o told = search (arith, told_on)
+hidden_linked Child objects name item o hidden = search (arith, hidden_on)
+hidden_linked Parent objects name item o hidden = search (arith, hidden_on)
 
 -- ---- a part with a parent that is in the feature
 

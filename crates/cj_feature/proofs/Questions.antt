@@ -1,5 +1,5 @@
 -- Questions on links, in order.
-use Rattle.cj_feature.proofs.Common.{AreLeft, AreListed, AreQuestionsInOrder, Bool, Equal, Greater, IsFirstOn, Less, List, Node, None, Option, Question, Side, Some, Tree, [], always_returns_same, ap, append_assoc, arith, cases_Bool, cases_eq, cases_lt, compare_keys, compare_sides, drop, false, false_from_ne_true, from_in, inl, inr, is_known, is_lt, key_in, kind_of, length, lists, members_of, ranks_by, refl, same_text, searchable_from_sorted, slice_get_within, slice_set, sorted_far, subst, suc, sym, tag_of, take, text_of, text_side, tree, true, ℕ, ◌++◌, ◌+◌, ◌-◌, ◌<◌, ◌||◌, ◌∙◌, ◌∷◌, ◌≡◌, ◌≤◌}
+use Rattle.cj_feature.proofs.Common.{AreLeft, AreListed, AreQuestionsInOrder, Bool, Equal, Greater, IsFirstOn, Less, List, Node, None, Option, Question, Side, Some, Tree, [], always_returns_same, ap, append_assoc, arith, cases_Bool, cases_eq, cases_lt, compare_keys, compare_sides, drop, false, false_from_ne_true, from_in, inl, inr, is_known, is_lt, key_in, kind_of, length, lists, members_of, ranks_by, refl, same_text, searchable_from_sorted, slice_get_within, slice_set, sorted_far, subst, suc, sym, short_hash_of, take, text_of, text_side, tree, true, ℕ, ◌++◌, ◌+◌, ◌-◌, ◌<◌, ◌||◌, ◌∙◌, ◌∷◌, ◌≡◌, ◌≤◌}
 use Rattle.std.proofs.Common.{get_or, slice_get, slice_index_or, IsSortedBy, drop-set-lt, length-append, get_or-set_other}
 use Rattle.std.specs.Cmp.{IsStrictWeakOrder, IsTotalOrder, nat_cmp_total, on_total, then_total, tied_itself}
 use Rattle.std.specs.Cmp.Lexicographic.{nat_list_cmp_total, options_total}
@@ -11,7 +11,7 @@ use Rattle.std.proofs.lemmas.List.{drop_more, take_more_set, get_or_append_left,
 use denote.Param.Members.{Mut}
 use denote.Ref.{Bor}
 use Rattle.cj_spans.specs.declared.token.Kind.TheVariants.{Text}
-use Rattle.cj_feature.specs.declared.feature.search.tagged.Text.{Text as Tagged}
+use Rattle.cj_feature.specs.declared.feature.search.hashed.Text.{Text as Hashed}
 use Rattle.cj_spans.specs.Order.{compare_texts}
 use Rattle.cj_geometry.proofs.Initials.{still_free}
 use Rattle.cj_feature.specs.inner.Questions.{Key, key_of, IsPlaceOf, IsQuestion}
@@ -124,10 +124,10 @@ one_place p xs d i j below h k =
 
 module _ (objects : Node) (qs : List Question) where
   -- so it is with two texts, of which the second is that of the city objects
-  pub place_by_texts : (p : ℕ) (from to : Tagged) → tree to.node ≡ tree objects
+  pub place_by_texts : (p : ℕ) (from to : Hashed) → tree to.node ≡ tree objects
       → IsPlaceOf objects (text_side from, text_side to) qs p
       → IsPlaceOf objects (key_of (text_of (tree from.node)) (text_of (tree objects))) qs p
-  place_by_texts p from to same h = rw (from.tagged, to.tagged, same) at h
+  place_by_texts p from to same h = rw (from.hashed, to.hashed, same) at h
 
   -- the first question on a text stands where its key has its place
   pub only_here : (t : Tree) (p i : ℕ) → IsPlaceOf objects (key_of (text_of t) (text_of (tree objects))) qs p
@@ -136,11 +136,11 @@ module _ (objects : Node) (qs : List Question) where
 
   -- so there is none, where another stands there
   pub none_here : (t : Tree) (p i : ℕ) → IsPlaceOf objects (key_of (text_of t) (text_of (tree objects))) qs p
-      → ((q : Question) → slice_get qs p ≡ Some q → q.from.tag ≡ tag_of (text_of t)
+      → ((q : Question) → slice_get qs p ≡ Some q → q.from.short_hash ≡ short_hash_of (text_of t)
       → same_text (from_in objects q) t ≡ false) → IsFirstOn objects qs t i → ⊥
   none_here t p i h other f =
       let no =
-      other _ (ap (slice_get qs) (sym (only_here t p i h f)) ∙ f.stands) f.tagged in
+      other _ (ap (slice_get qs) (sym (only_here t p i h f)) ∙ f.stands) f.hashed in
       let yes = f.same in
       cc
 

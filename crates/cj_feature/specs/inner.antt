@@ -4,6 +4,6 @@ pub mod Part
 pub mod Questions
 pub mod RootMembers
 pub mod Slots
-pub mod Tag
+pub mod ShortHash
 pub mod Typed
 pub mod Unmarked

@@ -1,4 +1,4 @@
--- Distinct names, told by walks that each deal with the least names above the last ones.
+-- Distinct names, found by walks that each deal with the least names above the last ones.
 use Rattle.cj_geometry.proofs.Common.{All, AreNamesInOrder, Ascend, Bool, Contains, DuplicateName, Finding, IfSome, List, None, Option, Some, Tree, [], ap, are_same_texts, arith, cond, false, found_at, inl, inr, is_above, last_of, least, names_of, neighbours, one, refl, repeat_of, repeats, repeats_of, start_of, sym, text_of, true, ℕ, ◌++◌, ◌+◌, ◌<◌, ◌∙◌, ◌∷◌, ◌≡◌, ◌≤◌}
 use Rattle.std.proofs.lemmas.Bool.{and_parts, cond_both, ltb-true}
 use Rattle.std.proofs.lemmas.List.Elements.{All-contains, All-head, All-tail, All-nil, All-cons, All-append, Contains-get_or, Contains-append_left, Contains-append_right, Contains-append_cases}
@@ -18,8 +18,8 @@ pub record IsRepeat (ns : List Tree) (f : Finding) : Type 0 where
   pub is : f ≡ found_at (start_of later) DuplicateName
 
 -- what a name tells, if it has the text of the first one
-abbrev told_if : Tree → Tree → List Finding
-told_if name t = cond (are_same_texts (text_of t) (text_of name)) (one DuplicateName t) []
+abbrev finding_if : Tree → Tree → List Finding
+finding_if name t = cond (are_same_texts (text_of t) (text_of name)) (one DuplicateName t) []
 
 only_one : (b : Bool) (t : Tree) (f : Finding) → Contains (cond b (one DuplicateName t) []) f → (b ≡ true)
     × (f ≡ found_at (start_of t) DuplicateName)
@@ -31,7 +31,7 @@ later_of : (name : Tree) (ms : List (Tree × Tree)) (f : Finding) → Contains (
     × (f ≡ found_at (start_of u) DuplicateName)
 later_of name [] f c = absurd (contains_none f c)
 later_of name (m ∷ ms) f c =
-    elim (Contains-append_cases (told_if name m.0) (repeats_of name ms) f c) [
+    elim (Contains-append_cases (finding_if name m.0) (repeats_of name ms) f c) [
       | inl h ↦ grind (arith, only_one, contains_first)
       | inr h ↦ let r = later_of name ms f h in (r.0, contains_later m.0 (names_of ms) r.0 r.1, r.2, r.3)
     ]
@@ -67,29 +67,29 @@ repeat_is (m ∷ ms) o f c =
 
 -- ---- a later name of the same text has a finding
 
-told_of : (name : Tree) (ms : List (Tree × Tree)) (u : Tree) → Contains (names_of ms) u
+has_finding : (name : Tree) (ms : List (Tree × Tree)) (u : Tree) → Contains (names_of ms) u
     → are_same_texts (text_of u) (text_of name) ≡ true
     → Contains (repeats_of name ms) (found_at (start_of u) DuplicateName)
-told_of name [] u c s = absurd (contains_none u c)
-told_of name (m ∷ ms) u c s =
+has_finding name [] u c s = absurd (contains_none u c)
+has_finding name (m ∷ ms) u c s =
     elim (contains_cases m.0 (names_of ms) u c) [
       | inl e ↦ grind arith
-      | inr d ↦ Contains-append_right (told_if name m.0) (repeats_of name ms) (found_at (start_of u) DuplicateName)
-          (told_of name ms u d s)
+      | inr d ↦ Contains-append_right (finding_if name m.0) (repeats_of name ms) (found_at (start_of u) DuplicateName)
+          (has_finding name ms u d s)
     ]
 
-pub repeat_told : (ms : List (Tree × Tree)) → AreNamesInOrder ms → (t u : Tree) → Contains (names_of ms) t
+pub repeat_found : (ms : List (Tree × Tree)) → AreNamesInOrder ms → (t u : Tree) → Contains (names_of ms) t
     → Contains (names_of ms) u → are_same_texts (text_of u) (text_of t) ≡ true → start_of t < start_of u
     → Contains (repeats ms) (found_at (start_of u) DuplicateName)
-repeat_told [] o t u ct cu s l = absurd (contains_none t ct)
-repeat_told (m ∷ ms) o t u ct cu s l =
+repeat_found [] o t u ct cu s l = absurd (contains_none t ct)
+repeat_found (m ∷ ms) o t u ct cu s l =
     elim (contains_cases m.0 (names_of ms) u cu) [
       | inl e ↦ absurd (not_first e)
       | inr d ↦ elim (contains_cases m.0 (names_of ms) t ct) [
         | inl e ↦ Contains-append_left (repeats_of m.0 ms) (repeats ms) (found_at (start_of u) DuplicateName)
-            (grind (arith, told_of))
+            (grind (arith, has_finding))
         | inr c ↦ Contains-append_right (repeats_of m.0 ms) (repeats ms) (found_at (start_of u) DuplicateName)
-            (repeat_told ms o.1 t u c d s l)
+            (repeat_found ms o.1 t u c d s l)
       ]
     ]
   where
@@ -102,13 +102,13 @@ repeat_told (m ∷ ms) o t u ct cu s l =
           | inr c ↦ let b = names_behind m.0 ms o.0 t c in absurd (omega arith)
         ]
 
--- ---- what neighbours tell is told by the rule
+-- ---- what neighbours tell is found by the rule
 
 repeat_among : (ms : List (Tree × Tree)) → AreNamesInOrder ms → (floor : Option Tree) (t : Tree)
     → IfSome floor (Contains (names_of ms)) → Contains (names_of ms) t → All (Contains (repeats ms)) (repeat_of floor t)
 repeat_among ms o None t cf ct = All-nil _
 repeat_among ms o (Some u) t cf ct =
-    search (arith, cond_both, and_parts, All-cons, repeat_told, ltb-true, All-nil)
+    search (arith, cond_both, and_parts, All-cons, repeat_found, ltb-true, All-nil)
 
 pub neighbours_among : (ms : List (Tree × Tree)) → AreNamesInOrder ms → (floor : Option Tree) (ts : List Tree)
     → IfSome floor (Contains (names_of ms)) → All (Contains (names_of ms)) ts
@@ -123,9 +123,9 @@ neighbours_among ms o floor (t ∷ ts) cf a =
 
 -- what was found when all names up to the floor are dealt with
 pub record HasReached (ms : List (Tree × Tree)) (old now : Option Finding) (floor : Option Tree) : Type 0 where
-  pub told : List Finding
-  pub sum : now ≡ least old told
-  pub right : All (Contains (repeats ms)) told
+  pub found : List Finding
+  pub sum : now ≡ least old found
+  pub right : All (Contains (repeats ms)) found
   pub floor_named : IfSome floor (Contains (names_of ms))
   pub dealt : AreDealt (names_of ms) now floor
 
@@ -143,27 +143,27 @@ pub reached_more : {ms : List (Tree × Tree)} → AreNamesInOrder ms
 reached_more {ms} o {old} {now} {floor} {last} {ts} r n e f =
     let more = neighbours_among ms o floor ts r.floor_named n.named in
     rw (e, f) (record {
-      told = r.told ++ neighbours floor ts;
+      found = r.found ++ neighbours floor ts;
       sum = grind (arith, least-append);
-      right = All-append (Contains (repeats ms)) r.told (neighbours floor ts) r.right more;
+      right = All-append (Contains (repeats ms)) r.found (neighbours floor ts) r.right more;
       floor_named = last_among (names_of ms) floor ts r.floor_named n.named;
       dealt = all_dealt (names_of ms) now floor ts n.no_gap n.ascend n.past r.dealt;
     })
 
-told_all : (o : Option Finding) (fs : List Finding) → All (λ f. least o (f ∷ []) ≡ o) fs → least o fs ≡ o
-told_all o [] a = refl
-told_all o (f ∷ fs) a = ap (λ x. least x fs) (All-head (λ g. least o (g ∷ []) ≡ o) f fs a)
-    ∙ told_all o fs (All-tail (λ g. least o (g ∷ []) ≡ o) f fs a)
+hidden_all : (o : Option Finding) (fs : List Finding) → All (λ f. least o (f ∷ []) ≡ o) fs → least o fs ≡ o
+hidden_all o [] a = refl
+hidden_all o (f ∷ fs) a = ap (λ x. least x fs) (All-head (λ g. least o (g ∷ []) ≡ o) f fs a)
+    ∙ hidden_all o fs (All-tail (λ g. least o (g ∷ []) ≡ o) f fs a)
 
 pub all_reached : {ms : List (Tree × Tree)} → AreNamesInOrder ms → {old now : Option Finding} {floor : Option Tree}
     → HasReached ms old now floor → ((t : Tree) → Contains (names_of ms) t → is_above floor t ≡ false)
     → now ≡ least old (repeats ms)
 all_reached {ms} o {old} {now} r done =
-    sym (told_all now (repeats ms) (λ k d l. told_at _ (Contains-get_or (repeats ms) k d l)))
-    ∙ ap (λ x. least x (repeats ms)) r.sum ∙ absorbed old r.told (repeats ms) r.right
+    sym (hidden_all now (repeats ms) (λ k d l. hidden_at _ (Contains-get_or (repeats ms) k d l)))
+    ∙ ap (λ x. least x (repeats ms)) r.sum ∙ absorbed old r.found (repeats ms) r.right
   where
-    told_at : (f : Finding) → Contains (repeats ms) f → least now (f ∷ []) ≡ now
-    told_at f c =
+    hidden_at : (f : Finding) → Contains (repeats ms) f → least now (f ∷ []) ≡ now
+    hidden_at f c =
         let p = repeat_is ms o f c in
         rw p.is (r.dealt p.earlier p.later p.first p.second p.same p.behind (done p.later p.second))
 

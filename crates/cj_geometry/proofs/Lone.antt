@@ -4,7 +4,7 @@ use Rattle.std.proofs.Common.{get_or, take-append-drop}
 use Rattle.std.proofs.lemmas.List.{drop_more, take_more}
 use Rattle.std.proofs.lemmas.List.Concat.{flat_map-append}
 use Rattle.cj_geometry.proofs.ListSteps.{total_size-append}
-use Rattle.cj_geometry.proofs.Numbers.{whole-told}
+use Rattle.cj_geometry.proofs.Numbers.{rule-of-whole}
 
 -- ---- one item more
 
@@ -42,7 +42,7 @@ whole-there None t is some = absurd (cc some)
 whole-there (Some w) t is some = (w, is)
 
 pub whole-none : (t : Tree) (w : ℤ) → whole_of t ≡ Some w → whole_number t ≡ []
-whole-none t w e = whole-told (λ w. []) t w e
+whole-none t w e = rule-of-whole (λ w. []) t w e
 
 pub index-none : (t : Tree) (n bound : ℕ) → whole_of t ≡ Some (pos n) → (reason : Reason) (count : Option ℕ)
     → is_outside count (pos n) ≡ not (nat_lt n bound) → n < bound → index reason count t ≡ []

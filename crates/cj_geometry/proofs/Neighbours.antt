@@ -54,22 +54,22 @@ contains_none y c = absurd (omega arith)
 -- ---- what is told of a name
 
 -- a finding at the name changes nothing
-abbrev pub IsTold : Option Finding → Tree → Type 0
-IsTold o t = least o (one DuplicateName t) ≡ o
+abbrev pub IsHidden : Option Finding → Tree → Type 0
+IsHidden o t = least o (one DuplicateName t) ≡ o
 
-told_more : (o : Option Finding) (fs : List Finding) (t : Tree) → IsTold o t → IsTold (least o fs) t
-told_more o fs t h = comm o fs (one DuplicateName t) ∙ ap (λ x. least x fs) h
+hidden_more : (o : Option Finding) (fs : List Finding) (t : Tree) → IsHidden o t → IsHidden (least o fs) t
+hidden_more o fs t h = comm o fs (one DuplicateName t) ∙ ap (λ x. least x fs) h
 
-told_now : (o : Option Finding) (t : Tree) → IsTold (least o (one DuplicateName t)) t
-told_now o t = search (arith, absorbed, All-contains_itself)
+hidden_now : (o : Option Finding) (t : Tree) → IsHidden (least o (one DuplicateName t)) t
+hidden_now o t = search (arith, absorbed, All-contains_itself)
 
-told_as : (o : Option Finding) (t u : Tree) → start_of t ≡ start_of u → IsTold o t → IsTold o u
-told_as o t u e h = rw e at h
+hidden_as : (o : Option Finding) (t u : Tree) → start_of t ≡ start_of u → IsHidden o t → IsHidden o u
+hidden_as o t u e h = rw e at h
 
 -- each name up to the floor that repeats an earlier one is told
 abbrev pub AreDealt : List Tree → Option Finding → Option Tree → Type 0
 AreDealt ns o floor = (t u : Tree) → Contains ns t → Contains ns u → are_same_texts (text_of u) (text_of t) ≡ true
-    → start_of t < start_of u → is_above floor u ≡ false → IsTold o u
+    → start_of t < start_of u → is_above floor u ≡ false → IsHidden o u
 
 -- a name above the floor is one of these, or comes before none of them
 abbrev pub HaveNoGap : List Tree → Option Tree → List Tree → Type 0
@@ -97,20 +97,20 @@ repeat_shown : (p t : Tree) → are_same_texts (text_of t) (text_of p) ≡ true 
 repeat_shown p t s l = cond-true _ _ _ (and_from _ _ s (lt-ltb _ _ l))
 
 -- u repeats t, and is above the floor and no later than the next name n
-next_told : (ns : List Tree) (o : Option Finding) (floor : Option Tree) (n t u : Tree)
+next_hidden : (ns : List Tree) (o : Option Finding) (floor : Option Tree) (n t u : Tree)
     → ((x : Tree) → Contains ns x → is_above floor x ≡ true → is_earlier x n ≡ false) → Contains ns t → Contains ns u
     → are_same_texts (text_of u) (text_of t) ≡ true → start_of t < start_of u → is_above floor u ≡ true
-    → is_earlier n u ≡ false → IsTold (least o (repeat_of floor n)) u
-next_told ns o None n t u f ct cu s l a h =
+    → is_earlier n u ≡ false → IsHidden (least o (repeat_of floor n)) u
+next_hidden ns o None n t u f ct cu s l a h =
     absurd (both_sides (on_upto t u n (earlier_by_start t u (sym (same_texts (text_of u) (text_of t) s)) l) h)
     (f t ct refl))
-next_told ns o (Some p) n t u f ct cu s l a h =
+next_hidden ns o (Some p) n t u f ct cu s l a h =
     let tn = on_upto t u n (earlier_by_start t u (sym (same_texts (text_of u) (text_of t) s)) l) h in
     let tie = tied u n (f u cu a) h in
     let pt = none_true _ (λ k. both_sides tn (f t ct k)) in
     let pn = on_upto p u n a h in
     let tu_text = sym (same_texts (text_of u) (text_of t) s) in
-    grind (arith, text_between, repeat_shown, start_by_earlier, told_as, told_now)
+    grind (arith, text_between, repeat_shown, start_by_earlier, hidden_as, hidden_now)
 
 dealt_more : (ns : List Tree) (o : Option Finding) (floor : Option Tree) (n : Tree)
     → ((x : Tree) → Contains ns x → is_above floor x ≡ true → is_earlier x n ≡ false) → AreDealt ns o floor
@@ -120,9 +120,9 @@ dealt_more ns o floor n f d = λ t u ct cu s l h.
   where
     by_side : (b : Bool) (t u : Tree) → is_above floor u ≡ b → Contains ns t → Contains ns u
         → are_same_texts (text_of u) (text_of t) ≡ true → start_of t < start_of u → is_above (Some n) u ≡ false
-        → IsTold (least o (repeat_of floor n)) u
-    by_side true t u e ct cu s l h = next_told ns o floor n t u f ct cu s l e h
-    by_side false t u e ct cu s l h = told_more o (repeat_of floor n) u (d t u ct cu s l e)
+        → IsHidden (least o (repeat_of floor n)) u
+    by_side true t u e ct cu s l h = next_hidden ns o floor n t u f ct cu s l e h
+    by_side false t u e ct cu s l h = hidden_more o (repeat_of floor n) u (d t u ct cu s l e)
 
 -- ---- all of them
 

@@ -81,17 +81,17 @@ by-whole rule t (Ok v) w is = ap (whole_findings rule t) is
 by-whole rule t (Err e) w is = absurd (cc is)
 
 -- a rule on a whole number is that on its value
-pub whole-told : (rule : ℤ → List Finding) (t : Tree) (w : ℤ) → whole_of t ≡ Some w → of_whole rule t ≡ rule w
-whole-told rule t w is = search arith
+pub rule-of-whole : (rule : ℤ → List Finding) (t : Tree) (w : ℤ) → whole_of t ≡ Some w → of_whole rule t ≡ rule w
+rule-of-whole rule t w is = search arith
 
 pub index-of-whole : (t : Tree) (w : ℤ) → whole_of t ≡ Some w → (reason : Reason) (count : Option ℕ)
     → index reason count t ≡ cond (is_outside count w) (one reason t) []
-index-of-whole t w is reason count = whole-told (λ w. cond _ (one reason t) []) t w is
+index-of-whole t w is reason count = rule-of-whole (λ w. cond _ (one reason t) []) t w is
 
 -- an index has no finding but at itself
-pub index-told : {found : Option Finding} (t : Tree) → ((r : Reason) → least found (one r t) ≡ found)
+pub index-hidden : {found : Option Finding} (t : Tree) → ((r : Reason) → least found (one r t) ≡ found)
     → (reason : Reason) (count : Option ℕ) → least found (index reason count t) ≡ found
-index-told {found} t same reason count = search arith
+index-hidden {found} t same reason count = search arith
 
 -- a whole number is below 10^18 in size
 pub whole-small : (t : Tree) → unsigned_abs (unwrap_or (whole_of t) (pos 0)) < 10 ^ 18
@@ -202,4 +202,4 @@ module _ {line b : List ℕ} (t : Tree) (start stop : ℕ) (e : b ≡ line) (ord
   word-there-if (Some d) number read = (read.0, read.1, read-there (pos read.0) (kind ∙ number) read.2)
 
 -- what attributes of functions name
-pub ruleset number_facts = (begun-there, index-told)
+pub ruleset number_facts = (begun-there, index-hidden)

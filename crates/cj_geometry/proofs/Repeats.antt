@@ -3,9 +3,9 @@ use Rattle.cj_geometry.proofs.Common.{Finding, List, Option, Reason, Some, Tree,
 use Rattle.std.specs.Cmp.Lexicographic.{same_text}
 
 -- what stands after what was found changes nothing
-pub told_before : {o : Option Finding} (f : Finding) (t : Tree) → o ≡ Some f → f.place < start_of t → (r : Reason)
+pub found_before : {o : Option Finding} (f : Finding) (t : Tree) → o ≡ Some f → f.place < start_of t → (r : Reason)
     → least o (one r t) ≡ o
-told_before f t e l r = search arith
+found_before f t e l r = search arith
 
 -- the test of one text tells that it is one
 pub same_texts : (a b : Option (List ℕ)) → are_same_texts a b ≡ true → a ≡ b

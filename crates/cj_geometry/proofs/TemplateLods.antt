@@ -1,22 +1,22 @@
 -- Levels of detail of templates that were found before, and are at hand.
 use Rattle.cj_geometry.proofs.Common.{ForSome, IfSome, List, Node, None, Option, Some, TemplateLod, Tree, [], ap, map, refl, replicate, set, slice_get, subst, suc, zero, ℕ, ◌∷◌, ◌≡◌, arith}
-use Rattle.cj_geometry.specs.inner.TemplateLods.{AreAnswersIn, told_by, lod_for, kept_in, kept_at}
+use Rattle.cj_geometry.specs.inner.TemplateLods.{AreAnswersIn, lod_answered, lod_for, kept_in, kept_at}
 
 -- an answer that is kept is right
 pub answer-right : (ts : List Tree) (os : List (Option TemplateLod)) (k : ℕ) (a : TemplateLod) → AreAnswersIn ts os
-    → slice_get os k ≡ Some (Some a) → told_by (Some a) ≡ lod_for ts (Some a)
+    → slice_get os k ≡ Some (Some a) → lod_answered (Some a) ≡ lod_for ts (Some a)
 answer-right ts [] k a right is = cc
-answer-right ts (o ∷ os) zero a right is = let first : told_by o ≡ lod_for ts o = cc in grind arith
+answer-right ts (o ∷ os) zero a right is = let first : lod_answered o ≡ lod_for ts o = cc in grind arith
 answer-right ts (o ∷ os) (suc k) a right is =
     answer-right ts os k a (grind arith) is
 
 -- one answer more
 pub answer-kept : (ts : List Tree) (os : List (Option TemplateLod)) (k : ℕ) (a : TemplateLod) → AreAnswersIn ts os
-    → told_by (Some a) ≡ lod_for ts (Some a) → AreAnswersIn ts (set os k (Some a))
+    → lod_answered (Some a) ≡ lod_for ts (Some a) → AreAnswersIn ts (set os k (Some a))
 answer-kept ts [] k a right is = right
 answer-kept ts (o ∷ os) zero a right is = cc
 answer-kept ts (o ∷ os) (suc k) a right is =
-    let others : map told_by os ≡ map (lod_for ts) os = cc in
+    let others : map lod_answered os ≡ map (lod_for ts) os = cc in
     grind (arith, answer-kept ts os k a others is)
 
 -- ---- where they stand

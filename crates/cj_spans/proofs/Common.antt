@@ -14,7 +14,7 @@ pub use Rattle.cj_spans.specs.Meaning.Spelling.{AllDigits, IsBody, IsDigit, IsDi
 pub use Rattle.cj_spans.specs.Meaning.Text.{are_same, body_of, char_of, escaped, four_digits, is_escaped, is_pair, is_unicode, unit}
 unfoldable pub use Rattle.cj_spans.specs.Meaning.Text.{code_points_after, first_code_point, first_width, text}
 pub use Rattle.cj_spans.specs.Meaning.Tree.{Atom, Items, Members, Tree, add_item, add_member, array, item, items_nest, items_size, member, members_nest, members_size, nest, no_items, no_members, object, scalar, size, start_of}
-pub use Rattle.cj_spans.specs.Mix.{mix_on, mix_step}
+pub use Rattle.cj_spans.specs.Hash.{hash_on, hash_step}
 pub use Rattle.cj_spans.specs.Order.{compare, compare_texts, digits, front_word}
 pub use Rattle.cj_spans.specs.Places.{AreNamesInOrder, AreValuesInOrder, spelling_of}
 pub use Rattle.cj_spans.specs.Preorder.{Span, flatten, flatten_items, flatten_members, items_preorder, members_preorder, preorder, span_at, spans_of, token_at}

@@ -194,8 +194,8 @@ utf8_body body u =
     (IsUtf8-take xs (length body) v b)
 
 -- the text of a string is told by the cases of the grammar
-pub text_told : {s : List ℕ} → IsString s → IsUtf8 s → (ps : List ℕ) × StandFor (chars (body_of s)) ps
-text_told {s} h u =
+pub text_of_string : {s : List ℕ} → IsString s → IsUtf8 s → (ps : List ℕ) × StandFor (chars (body_of s)) ps
+text_of_string {s} h u =
     let b = h.body in
     let v = utf8_body b (subst IsUtf8 h.joined u) in
     let y = subst IsBody (sym v.1.1) h.body_is in

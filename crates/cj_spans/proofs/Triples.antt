@@ -27,8 +27,8 @@ kind_so : (k : Kind) → is_number k ≡ true → k ≡ Number
 kind_so Number e = refl
 kind_so _ e = cc
 
-pub told_number : (s : List ℕ) → ∥ IsNumber s ∥₁ → IsNumber s
-told_number s m =
+pub number_of_spelling : (s : List ℕ) → ∥ IsNumber s ∥₁ → IsNumber s
+number_of_spelling s m =
     go (reading s) refl (∥∥₁_elim m (≡_prop coded_bool _ _) (λ n. let w = reading_whole Number s n in
     ap ends_number w.run ∙ ap is_numeral w.kind))
   where
@@ -169,7 +169,7 @@ module _ (source : Source) where
         let shown = spelling_shown b ts m u g in
         let long = slice-length b u.start u.stop (omega arith) w.1 in
         let whole =
-        whole_from (told_number (slice_range b u.start u.stop) ((source.spelled m u g).0 number))
+        whole_from (number_of_spelling (slice_range b u.start u.stop) ((source.spelled m u g).0 number))
         (λ n f. subst IsInWhole (slice_has b u.start u.stop n f)
         (sign_in (byte b (u.start + n)) (sign_at (u.start + n) (omega arith) (omega arith)))) in
         let tree = below_at b ts m u g in

@@ -3,7 +3,7 @@ pub mod Forest
 pub mod Initials
 pub mod Marks
 pub mod Meaning
-pub mod Mix
+pub mod Hash
 pub mod Order
 pub mod Places
 pub mod Preorder

@@ -97,8 +97,8 @@ fn close_array(place: usize, tokens: &mut Bounded<Token>, stack: &mut Stack) -> 
     outer
 }
 
-/// Leaves the arrays that end from `from` on, where a value of an array has ended or an array has no
-/// item: past their brackets, and past the comma of the next array, if it is there.
+/// Leaves the arrays that end from `from` on, where a value of an array has ended or an array has
+/// no item: past their brackets, and past the comma of the next array, if it is there.
 #[inline(always)]
 fn leave_arrays(line: &[u8], from: Next, tokens: &mut Bounded<Token>, stack: &mut Stack) -> Inner
     requires stands { Stands line.now tokens.old stack.old from.mode from.place }

@@ -26,7 +26,7 @@ ghost use Rattle.cj_spans.specs.Forest.{kind_by};
 use crate::lanes::are_whole_signs;
 use crate::mark::{LINKS, has_mark};
 use crate::text::{
-    CodePoints, compare_spelling_with, compare_spellings, is_spelled_so, mix, spell_one_text,
+    CodePoints, compare_spelling_with, compare_spellings, is_spelled_so, hash, spell_one_text,
     spells, tail, word,
 };
 use crate::token::{Kind, Token};
@@ -436,7 +436,7 @@ impl<'a> Node<'a> {
     ghost use Rattle.cj_spans.specs.inner.Decoding.{code_points_left};
     ghost use Rattle.cj_spans.specs.Meaning.Text.{text};
     ghost use Rattle.cj_spans.specs.Tail.{tail_of};
-    ghost use Rattle.cj_spans.specs.Mix.{mix_of};
+    ghost use Rattle.cj_spans.specs.Hash.{hash_of};
     ghost use Rattle.cj_spans.specs.Order.{compare_texts, front_word};
     ghost use Rattle.cj_spans.specs.View.{tree, tree_in, line_of, source_of};
 
@@ -569,16 +569,16 @@ impl<'a> Node<'a> {
         }
     }
 
-    /// Returns all code points of the text of a string or a name, mixed to one number. 0 for any
+    /// Returns the hash of all code points of the text of a string or a name. 0 for any
     /// other value.
     ///
     /// Equal texts have equal numbers in any spelling, and nearly all different texts have
     /// different numbers. So most texts are distinguished without a look at the line.
-    pub fn text_mix(self) -> u64
-        ensures { result ≡ mix_of (text_of (tree self.entry)) }
+    pub fn text_hash(self) -> u64
+        ensures { result ≡ hash_of (text_of (tree self.entry)) }
     {
         match self.points() {
-            Some(points) => mix(points),
+            Some(points) => hash(points),
             None => 0,
         }
     }

@@ -1,8 +1,9 @@
 //! The scanner: the pass over a line.
 //!
-//! The *machine* (`specs/inner/Machine.antt`) reads one byte per step. Proofs use it, and only private
-//! clauses cite it. Public clauses use the grammar (`Json`), prefixes and trees. So a change of the
-//! grammar changes `Spelling`, `Json`, `Front` and `Machine`. A faster body changes none of them.
+//! The *machine* (`specs/inner/Machine.antt`) reads one byte per step. Proofs use it, and only
+//! private clauses cite it. Public clauses use the grammar (`Json`), prefixes and trees. So a
+//! change of the grammar changes `Spelling`, `Json`, `Front` and `Machine`. A faster body changes
+//! none of them.
 //!
 //! Clauses describe the byte of a fault in two ways. A proof can follow prefixes, and a reader
 //! expects the JSON texts that a line begins. `scan` has clauses of both kinds, and both must hold

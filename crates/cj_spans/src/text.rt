@@ -11,4 +11,4 @@ pub(crate) use compare::{
 };
 pub(crate) use decode::CodePoints;
 pub use numbers::tail_of_string;
-pub(crate) use numbers::{mix, tail, word};
+pub(crate) use numbers::{hash, tail, word};

@@ -69,24 +69,24 @@ module _ (test : ℤ → Bool) where
       by_order true e = sym (or_left _ _ (rises y x (omega (arith, ints))))
       by_order false e = sym (or_right _ _ (rises x y (omega (arith, ints))))
 
-  least_tells : Falls test → (x : ℤ) (xs : List ℤ) → test (fold int_min x xs) ≡ list_any test (x ∷ xs)
-  least_tells falls x [] = sym (or_false _)
-  least_tells falls x (y ∷ ys) = least_tells falls (int_min x y) ys
+  least_decides : Falls test → (x : ℤ) (xs : List ℤ) → test (fold int_min x xs) ≡ list_any test (x ∷ xs)
+  least_decides falls x [] = sym (or_false _)
+  least_decides falls x (y ∷ ys) = least_decides falls (int_min x y) ys
       ∙ ap (λ b. b || list_any test ys) (less_of_two falls x y) ∙ or_assoc (test x) (test y) (list_any test ys)
 
-  greatest_tells : Rises test → (x : ℤ) (xs : List ℤ) → test (fold int_max x xs) ≡ list_any test (x ∷ xs)
-  greatest_tells rises x [] = sym (or_false _)
-  greatest_tells rises x (y ∷ ys) = greatest_tells rises (int_max x y) ys
+  greatest_decides : Rises test → (x : ℤ) (xs : List ℤ) → test (fold int_max x xs) ≡ list_any test (x ∷ xs)
+  greatest_decides rises x [] = sym (or_false _)
+  greatest_decides rises x (y ∷ ys) = greatest_decides rises (int_max x y) ys
       ∙ ap (λ b. b || list_any test ys) (greater_of_two rises x y) ∙ or_assoc (test x) (test y) (list_any test ys)
 
   in_order : (x : ℤ) (xs : List ℤ) → fold int_min x xs ≤ℤ fold int_max x xs
   in_order x xs =
       omega (arith, ints, (fold-int_min_bounds x xs _ refl).0, (fold-int_max_bounds x xs _ refl).0)
 
-  ends_tell : (Falls test ⊎ Rises test) → (x : ℤ) (xs : List ℤ) → (test (fold int_min x xs) || test (fold int_max x xs))
+  ends_decide : (Falls test ⊎ Rises test) → (x : ℤ) (xs : List ℤ) → (test (fold int_min x xs) || test (fold int_max x xs))
       ≡ list_any test (x ∷ xs)
-  ends_tell (inl falls) x xs = or_left _ _ (falls _ _ (in_order x xs)) ∙ least_tells falls x _
-  ends_tell (inr rises) x xs = or_right _ _ (rises _ _ (in_order x xs)) ∙ greatest_tells rises x _
+  ends_decide (inl falls) x xs = or_left _ _ (falls _ _ (in_order x xs)) ∙ least_decides falls x _
+  ends_decide (inr rises) x xs = or_right _ _ (rises _ _ (in_order x xs)) ∙ greatest_decides rises x _
 
 -- ---- a map brings some number to an end, or past it, where it brings the least or the greatest there
 
@@ -107,12 +107,12 @@ one_way_above m end = by_sign m.scale refl
 pub at_most-ends : (m : AffineMap) (end x : ℤ) (xs : List ℤ)
     → (int_le (image m (fold int_min x xs)) end || int_le (image m (fold int_max x xs)) end)
     ≡ list_any (λ v. int_le (image m v) end) (x ∷ xs)
-at_most-ends m end x xs = ends_tell _ (one_way_below m _) x _
+at_most-ends m end x xs = ends_decide _ (one_way_below m _) x _
 
 pub at_least-ends : (m : AffineMap) (end x : ℤ) (xs : List ℤ)
     → (int_le end (image m (fold int_min x xs)) || int_le end (image m (fold int_max x xs)))
     ≡ list_any (λ v. int_le end (image m v)) (x ∷ xs)
-at_least-ends m end x xs = ends_tell _ (one_way_above m _) x _
+at_least-ends m end x xs = ends_decide _ (one_way_above m _) x _
 
 -- of any numbers that have a range
 pub at_most-range : (m : AffineMap) (end : ℤ) (r : Range) (ns : List ℤ) → range_of ns ≡ Some r

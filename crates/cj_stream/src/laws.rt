@@ -77,7 +77,7 @@ pub fn lines_are_judged(stream: &[u8])
 
 /// The list of judged lines says all that the functions of a stream say: the handled lines, what is
 /// kept, written and reported, the ending, and the peaks of a complete stream.
-pub fn judged_lines_tell_all()
+pub fn judged_lines_say_all()
     ensures good { (rules : Rules) (r : List ℕ)
         → good rules r ≡ map (λ j. j.line) (handled rules (judged_lines rules r)) }
     ensures kept { (rules : Rules) (r : List ℕ) → kept rules r ≡ kept_in rules (judged_lines rules r) }
@@ -90,7 +90,7 @@ pub fn judged_lines_tell_all()
 
 /// A headline says what the functions of a stream say. So no headline has too few judged lines, too
 /// few that are handled, or no reports.
-pub fn headlines_tell_all<N: ReportSink>()
+pub fn headlines_say_all<N: ReportSink>()
     ensures writes { (fate : Fate End) (old new : Outputs N) → Headline N.notes fate old new → IsUnhindered fate.end
         → Appends old.bytes new.bytes (output fate.rules fate.text) }
     ensures gives { (fate : Fate End) (old new : Outputs N) → Headline N.notes fate old new → IsUnhindered fate.end

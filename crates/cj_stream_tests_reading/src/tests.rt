@@ -1,7 +1,7 @@
 //! Tests of what no clause says: worked examples.
 //!
-//! Inputs with their expected results: `rows`, `blank_lines` and `order`. `cuts` reads a stream with
-//! every cut.
+//! Inputs with their expected results: `rows`, `blank_lines` and `order`. `cuts` reads a stream
+//! with every cut.
 //!
 //! States and calls:
 //!

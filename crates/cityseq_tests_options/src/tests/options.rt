@@ -38,7 +38,8 @@ fn check_command(
     Ok(())
 }
 
-/// Does the same over a header and a feature that are invalid. Only a line on standard error is written.
+/// Does the same over a header and a feature that are invalid. Only a line on standard error is
+/// written.
 fn check_told(rt: &impl Abort, alloc: Global, arguments: &[&str], err: &[u8]) -> Result<(), Fail> {
     let input = joined(alloc, &[HEADER, b"\n", FEATURE, b"\n"])?;
     check_command(rt, alloc, arguments, &input, 1, b"", err)

@@ -11,18 +11,18 @@ use Rattle.cj_spans.specs.Meaning.Tree.{Tree}
 use Rattle.cj_spans.specs.Meaning.Parts.{members_of, text_of}
 use Rattle.cj_spans.specs.View.{tree, source_of, tree_in}
 use Rattle.cj_feature.specs.declared.feature.search.noted.Noted.{Noted}
-use Rattle.cj_feature.specs.declared.feature.search.tagged.Text.{Text}
+use Rattle.cj_feature.specs.declared.feature.search.hashed.Text.{Text}
 use Rattle.cj_feature.specs.declared.feature.search.questions.order.Pair.{Pair}
 use Rattle.cj_feature.specs.declared.feature.search.questions.order.Question.{Question}
 use Rattle.cj_feature.specs.declared.feature.search.questions.Questions.{Questions}
 use Rattle.cj_feature.specs.declared.feature.search.questions.LinkAnswer.{LinkAnswer}
-use Rattle.cj_feature.specs.declared.feature.search.questions.LinkAnswer.TheVariants.{Listed, Absent, Untold}
-use Rattle.cj_feature.specs.inner.Tag.{tag_of}
+use Rattle.cj_feature.specs.declared.feature.search.questions.LinkAnswer.TheVariants.{Listed, Absent, Unknown}
+use Rattle.cj_feature.specs.inner.ShortHash.{short_hash_of}
 use Rattle.cj_feature.specs.Meaning.Links.{same_text, is_known, lists}
 
 -- ---- the order of questions
 
--- what a text is ordered by: its tag, and then the text
+-- what a text is ordered by: its short hash, and then the text
 abbrev pub Side : Type 0
 Side = ℕ × Option (List ℕ)
 
@@ -30,17 +30,17 @@ abbrev pub compare_sides : Side → Side → Ordering
 compare_sides s t = ordering_then (nat_cmp s.0 t.0) (compare_texts s.1 t.1)
 
 abbrev pub side_of : Option (List ℕ) → Side
-side_of t = (tag_of t, t)
+side_of t = (short_hash_of t, t)
 
 abbrev pub text_side : Text → Side
-text_side t = (t.tag, text_of (tree t.node))
+text_side t = (t.short_hash, text_of (tree t.node))
 
 -- a text is noted by the number of a node in the line of the city objects
 abbrev pub noted_in : Node → Noted → Tree
 noted_in objects n = tree_in (source_of objects) n.number
 
 abbrev pub side_in : Node → Noted → Side
-side_in objects n = (n.tag, text_of (noted_in objects n))
+side_in objects n = (n.short_hash, text_of (noted_in objects n))
 
 -- what questions are ordered by: their first texts, and then their second ones
 abbrev pub Key : Type 0
@@ -79,7 +79,7 @@ pub record IsFirstOn (objects : Node) (qs : List Question) (t : Tree) (i : ℕ) 
   pub place : IsPlaceOf objects (key_of (text_of t) (text_of (tree objects))) qs i
   pub question : Question
   pub stands : slice_get qs i ≡ Some question
-  pub tagged : question.from.tag ≡ tag_of (text_of t)
+  pub hashed : question.from.short_hash ≡ short_hash_of (text_of t)
   pub same : same_text (from_in objects question) t ≡ true
 
 -- a question whether the one text lists the other stands at this place
@@ -124,4 +124,4 @@ pub record AreAnswered {R K : ℕ} (list : List ℕ) (objects : Node) (left : Li
 abbrev pub IsAnswer : List ℕ → Node → Tree → Tree → LinkAnswer → Type 0
 IsAnswer list objects from to Listed = lists list (members_of (tree objects)) from to ≡ true
 IsAnswer list objects from to Absent = is_known (members_of (tree objects)) from ≡ false
-IsAnswer list objects from to Untold = Unit {0}
+IsAnswer list objects from to Unknown = Unit {0}

@@ -14,7 +14,7 @@ use Rattle.cj_feature.specs.Meaning.Links.{same_text, listed_in}
 use Rattle.cj_feature.specs.inner.Marking.{IsMarkedBy}
 use Rattle.cj_feature.specs.inner.Questions.{compare_sides, side_of, side_in}
 
--- names in the order of their tags, and those of one tag in that of their texts
+-- names in the order of their short hashes, and those of one short hash in that of their texts
 abbrev pub AreInNameOrder : Node → List Noted → Type 0
 AreInNameOrder objects names = IsSortedByKey (side_in objects) compare_sides names
 

@@ -8,14 +8,14 @@
 //!   mark. Before that, `near.rt` marks most of them, each only once. With many city objects,
 //!   `unmarked.rt` looks up the names of those that are left.
 //!
-//! All but `near.rt` order texts by tags: those that are noted (`noted.rt`), and those that are
-//! looked up (`tagged.rt`). docs/ARCHITECTURE.md compares the searches, and has the sizes of their
-//! tables.
+//! All but `near.rt` order texts by short hashes: those that are noted (`noted.rt`), and those that
+//! are looked up (`hashed.rt`). docs/ARCHITECTURE.md compares the searches, and has the sizes of
+//! their tables.
 mod link;
 pub mod many_links;
 mod near;
 mod noted;
 mod questions;
 pub mod reached;
-mod tagged;
+mod hashed;
 mod unmarked;

@@ -9,9 +9,9 @@ use Rattle.cj_spans.specs.View.{tree}
 use Rattle.cj_geometry.specs.declared.lods.TemplateLod.{TemplateLod}
 
 -- what an answer tells
-abbrev pub told_by : Option TemplateLod → Option Tree
-told_by None = None
-told_by (Some a) = option_map tree a.lod
+abbrev pub lod_answered : Option TemplateLod → Option Tree
+lod_answered None = None
+lod_answered (Some a) = option_map tree a.lod
 
 -- the level of detail of the template of its number
 abbrev pub lod_for : List Tree → Option TemplateLod → Option Tree
@@ -20,7 +20,7 @@ lod_for ts (Some a) = option_and_then (member_of (chars (codes "lod"))) (slice_g
 
 -- each of these answers is right of this list
 abbrev pub AreAnswersIn : List Tree → List (Option TemplateLod) → Type 0
-AreAnswersIn ts os = map told_by os ≡ map (lod_for ts) os
+AreAnswersIn ts os = map lod_answered os ≡ map (lod_for ts) os
 
 -- the level of detail that the answer in a slot tells, if there is one
 abbrev pub kept_in : Option TemplateLod → Option Node

@@ -3,7 +3,7 @@ ghost use Rattle.std.specs.Prelude.{◌≡◌, ℕ, ℤ, ◌<◌, ◌^◌, nat_l
 ghost use Rattle.std.specs.List.{flat_map};
 ghost use Rattle.cj_spans.specs.declared.reason.Reason.{Reason as ReasonOf};
 ghost use Rattle.cj_spans.specs.Meaning.Parts.{items_of};
-ghost use Rattle.cj_decimal.specs.Word.{IsWordOf, TellsBelow};
+ghost use Rattle.cj_decimal.specs.Word.{IsWordOf, IsBoundWord};
 ghost use Rattle.cj_geometry.specs.Lone.{AreLone};
 ghost use Rattle.cj_spans.specs.Meaning.Finding.{least};
 ghost use Rattle.cj_spans.specs.View.{tree};
@@ -11,7 +11,7 @@ ghost use Rattle.cj_geometry.specs.Meaning.Numbers.{number, index, whole_number,
 ghost use Rattle.cj_geometry.specs.Meaning.Numbers.{fault_reason};
 ghost use Rattle.cj_geometry.specs.Meaning.Rule.{of_length};
 
-use crate::rule::{add, is_told_before};
+use crate::rule::{add, is_found_before};
 use cj_decimal::{Decimal, DecimalFault, digits_word};
 use cj_spans::{Kind, Least, Node, Reason};
 
@@ -238,7 +238,7 @@ pub struct Bound {
     limit: u64,
     word: u64,
     ghost outside: { (n : ℕ) → n < 10 ^ 18 → is_outside_of count (pos n) ≡ not (nat_lt n limit) },
-    ghost tells: { TellsBelow word limit },
+    ghost bounds: { IsBoundWord word limit },
 }
 
 impl Bound {
@@ -271,7 +271,7 @@ pub fn check_index_below(node: Node, outside: Reason, bound: Bound, found: &mut 
     ensures { found.new ≡ least found.old (index outside bound.count (tree node.entry)) }
 {
     if !is_few_below(node, bound) {
-        if !is_told_before(*found, node) {
+        if !is_found_before(*found, node) {
             check_other_index(node, outside, bound.count, found);
         }
     }

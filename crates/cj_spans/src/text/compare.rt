@@ -123,7 +123,7 @@ fn pass_alike(left: &mut CodePoints, right: &mut CodePoints)
 /// bytes.
 #[tactic(auto, using(std::proofs::lemmas::Bool::Decides::nat_tests))]
 #[inline(always)]
-fn tell_apart(first: u8, second: u8) -> bool
+fn differ_plainly(first: u8, second: u8) -> bool
     ensures differ { result ≡ true → nat_eq first second ≡ false }
     ensures ascii { result ≡ true → (first < 128) × (second < 128) }
     ensures plain { result ≡ true → (nat_eq first 92 ≡ false) × (nat_eq second 92 ≡ false) }
@@ -171,7 +171,7 @@ pub(crate) fn compare_spellings(spelling: &[u8], other: &[u8]) -> Ordering
     pass_alike(&mut left, &mut right);
     match (left.next_byte(), right.next_byte()) {
         (None, None) => Ordering::Equal,
-        (Some(byte), Some(other)) if tell_apart(byte, other) => byte.cmp(&other),
+        (Some(byte), Some(other)) if differ_plainly(byte, other) => byte.cmp(&other),
         _ => compare_points(left, right),
     }
 }
@@ -250,7 +250,7 @@ pub(crate) fn spells(spelling: &[u8], wanted: &str) -> bool
     ensures { result ≡ are_same (text spelling.now) (chars wanted.now) }
 {
     let characters = wanted.as_bytes();
-    if spelling.len() > 1 && !characters.is_empty() && tell_apart(spelling[1], characters[0]) {
+    if spelling.len() > 1 && !characters.is_empty() && differ_plainly(spelling[1], characters[0]) {
         return false;
     }
     is_spelled_so(spelling, wanted) || compare_spelling_with(spelling, wanted).is_eq()
@@ -265,7 +265,7 @@ pub(crate) fn spell_one_text(spelling: &[u8], other: &[u8]) -> bool
     requires second { 0 < length other.now }
     ensures { result ≡ are_same (text spelling.now) (text other.now) }
 {
-    if spelling.len() > 1 && other.len() > 2 && tell_apart(spelling[1], other[1]) {
+    if spelling.len() > 1 && other.len() > 2 && differ_plainly(spelling[1], other[1]) {
         return false;
     }
     if spelling.len() <= FEW_LANES && spelling == other {

@@ -3,7 +3,7 @@ ghost use Rattle.std.specs.Prelude.{◌≡◌, ◌+◌, ◌^◌, ◌<◌, ◌≤
 ghost use Rattle.std.specs.Str.{chars};
 ghost use Rattle.cj_spans.specs.inner.Decoding.{AreAlike, code_points_from, code_points_left};
 ghost use Rattle.cj_spans.specs.Tail.{tail_step, tail_on, tail_of};
-ghost use Rattle.cj_spans.specs.Mix.{mix_step, mix_on};
+ghost use Rattle.cj_spans.specs.Hash.{hash_step, hash_on};
 ghost use Rattle.cj_spans.specs.Order.{digits};
 ghost use Rattle.cj_spans.specs.Meaning.Signs.{backslash};
 
@@ -96,8 +96,8 @@ fn word_by_bytes(points: CodePoints) -> u64
 }
 
 /// Returns the first eight code points of a string's text as one number. The order of such numbers
-/// is the order of the texts, as far as they differ. It looks first whether the next eight bytes are
-/// plain, which are like themselves then.
+/// is the order of the texts, as far as they differ. It looks first whether the next eight bytes
+/// are plain, which are like themselves then.
 pub(crate) fn word(points: CodePoints) -> u64
     ensures { result ≡ digits (256 ^ 7) (code_points_left points.entry) }
 {
@@ -149,10 +149,10 @@ const MULTIPLIER: u64 = 0x9E37_79B9_7F4A_7C15;
 
 /// Returns the number of a text after one more code point.
 #[inline(always)]
-fn mix_with(mix: u64, point: u32) -> u64
-    ensures { result ≡ mix_step mix point }
+fn hash_with(hash: u64, point: u32) -> u64
+    ensures { result ≡ hash_step hash point }
 {
-    mix.wrapping_mul(MULTIPLIER).wrapping_add(point as u64)
+    hash.wrapping_mul(MULTIPLIER).wrapping_add(point as u64)
 }
 
 /// Returns the number that begins so, after the next code points.
@@ -160,32 +160,32 @@ fn mix_with(mix: u64, point: u32) -> u64
 /// It is cold, since most texts are plain.
 #[cold]
 #[inline(never)]
-fn mix_from(front: u64, points: CodePoints) -> u64
-    ensures { result ≡ mix_on front (code_points_left points.entry) }
+fn hash_from(front: u64, points: CodePoints) -> u64
+    ensures { result ≡ hash_on front (code_points_left points.entry) }
 {
-    let mut mix = front;
+    let mut hash = front;
     for point in points {
-        mix = mix_with(mix, point);
+        hash = hash_with(hash, point);
     }
-    mix
+    hash
 }
 
 /// Returns all code points of a string's text, mixed to one number, by its bytes up to the first
 /// one that is not plain.
 #[tactic(auto, using(crate::proofs::Texts::points_done, crate::proofs::Texts::chars_past, crate::proofs::Texts::plain_code))]
-pub(crate) fn mix(points: CodePoints) -> u64
-    ensures { result ≡ mix_on 0 (code_points_left points.entry) }
+pub(crate) fn hash(points: CodePoints) -> u64
+    ensures { result ≡ hash_on 0 (code_points_left points.entry) }
 {
     let bytes = points.bytes;
     let mut place = points.place;
-    let mut mix = 0;
+    let mut hash = 0;
     while place < bytes.len() {
         let byte = bytes[place];
         if !stands_for_itself(byte) {
-            return mix_from(mix, CodePoints { bytes, place });
+            return hash_from(hash, CodePoints { bytes, place });
         }
-        mix = mix_with(mix, byte as u32);
+        hash = hash_with(hash, byte as u32);
         place += 1;
     }
-    mix
+    hash
 }

@@ -1,6 +1,6 @@
-//! Letters beyond ASCII in a string, at each side of the borders of 16 and of 64 bytes, and bytes that
-//! are no letters. RFC 3629, section 4, says which bytes are letters. A fault is at the first byte of
-//! what is none.
+//! Letters beyond ASCII in a string, at each side of the borders of 16 and of 64 bytes, and bytes
+//! that are no letters. RFC 3629, section 4, says which bytes are letters. A fault is at the first
+//! byte of what is none.
 use cj_budget::{Bounded, Stack};
 use cj_spans::{ScanFault, Token, scan};
 use std::alloc::{AllocError, Global};
@@ -109,8 +109,8 @@ fn takes_at_each_place(
     Ok(())
 }
 
-/// Checks that a line may end behind a letter, though it is then no text, and that bytes that are no
-/// letter are rejected there.
+/// Checks that a line may end behind a letter, though it is then no text, and that bytes that are
+/// no letter are rejected there.
 fn takes_last(
     rt: &impl Abort,
     alloc: Global,

@@ -494,8 +494,8 @@ fn tails_are_of_the_last_eight_code_points(rt: HostRuntime) {
 }
 
 fn mixes_are(rt: &impl Abort, items: Items, mixes: &[u64]) {
-    for (item, mix) in items.zip(mixes.iter()) {
-        is_number(rt, item.text_mix(), *mix);
+    for (item, hash) in items.zip(mixes.iter()) {
+        is_number(rt, item.text_hash(), *hash);
     }
 }
 

@@ -1,5 +1,5 @@
 use Rattle.cj_decimal.proofs.Classes.{class}
 use Rattle.cj_decimal.proofs.laws.one_class.Goals as goal
 
-pub returns-clause-told : goal.returns-clause-told
-returns-clause-told c = class
+pub returns-clause-classified : goal.returns-clause-classified
+returns-clause-classified c = class

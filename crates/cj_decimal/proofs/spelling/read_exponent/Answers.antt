@@ -22,10 +22,10 @@ returns-then-has_byte-clause-reads c =
     let marked =
     marked_at c.args.spelling.now c.args.from c.after_sign-first.result
     (sym c.has_one_of.ensures ∙ c.if-not-has_one_of.false) c.after_sign-first.ensures.digits in
-    let told = c.in-Some.ensures in (
-      marked.0 ∙ told.reads.0,
+    let answer = c.in-Some.ensures in (
+      marked.0 ∙ answer.reads.0,
       saturates_read _
-          marked.1 (sym c.has_byte.ensures ∙ c.if-has_byte.true) (omega (arith, ints)) told.reads.1,
+          marked.1 (sym c.has_byte.ensures ∙ c.if-has_byte.true) (omega (arith, ints)) answer.reads.1,
     )
 
 pub returns-else-has_byte-clause-reads : goal.returns-else-has_byte-clause-reads
@@ -33,8 +33,8 @@ returns-else-has_byte-clause-reads c =
     let marked =
     marked_at c.args.spelling.now c.args.from c.after_sign-first.result
     (sym c.has_one_of.ensures ∙ c.if-not-has_one_of.false) c.after_sign-first.ensures.digits in
-    let told = c.in-Some.ensures in (
-      marked.0 ∙ told.reads.0,
+    let answer = c.in-Some.ensures in (
+      marked.0 ∙ answer.reads.0,
       saturates_read _
-          marked.1 (sym c.has_byte.ensures ∙ c.if-has_byte.false) (omega (arith, ints)) told.reads.1,
+          marked.1 (sym c.has_byte.ensures ∙ c.if-has_byte.false) (omega (arith, ints)) answer.reads.1,
     )

@@ -1,5 +1,5 @@
 use Rattle.cj_decimal.proofs.Common.{refl, arith}
-use Rattle.cj_decimal.proofs.Below.{spelled, told}
+use Rattle.cj_decimal.proofs.Below.{spelled, bound_of_word}
 use Rattle.cj_decimal.proofs.word.digits_word.Goals as goal
 
 pub returns-then-count-lt10 : goal.returns-then-count-lt10
@@ -8,7 +8,7 @@ returns-then-count-lt10 c =
     let word = spelled c.args.count 0 0 0 0 0 0 0 c.args.count (omega arith) (omega arith) refl refl
     refl refl refl refl (omega arith) in record {
       word = record { few = λ few. word; more = λ more. absurd (omega arith) };
-      below = told c.args.count c.args.count word;
+      below = bound_of_word c.args.count c.args.count word;
     }
 
 pub returns : goal.returns
@@ -16,5 +16,5 @@ returns c =
     let small = c.if-count-ge-NINE_DIGITS.false in
     let word = spelled c.args.count _ _ _ _ _ _ _ _ small refl refl refl refl refl refl refl refl in record {
       word = record { few = λ few. word; more = λ more. absurd (omega arith) };
-      below = told _ c.args.count word;
+      below = bound_of_word _ c.args.count word;
     }

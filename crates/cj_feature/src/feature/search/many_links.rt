@@ -17,8 +17,8 @@ use crate::feature::links::{SHORT, has_as_many, parents_of_part};
 use crate::feature::search::link::Link;
 use crate::feature::search::noted::Noted;
 use crate::feature::search::questions::{Ahead, LinkAnswer, Questions};
-use crate::feature::search::tagged::tag_of;
-use cj_geometry::rule::{add, is_told_before};
+use crate::feature::search::hashed::short_hash_of;
+use cj_geometry::rule::{add, is_found_before};
 use cj_spans::{Least, Members, Node, Reason};
 
 /// The number of questions at once for fewer city objects and items of their lists. They use 34 KiB
@@ -51,7 +51,7 @@ struct Current<'a> {
 
 /// Checks an item of the list of the current city object. Returns whether it is known to be an id
 /// in the feature.
-#[tactic(auto, using(crate::proofs::Passes::lists_known, crate::proofs::Passes::told_linked, crate::proofs::Passes::listed_linked))]
+#[tactic(auto, using(crate::proofs::Passes::lists_known, crate::proofs::Passes::hidden_linked, crate::proofs::Passes::listed_linked))]
 fn check_item<'a, const ROOM: usize, const KEPT: usize>(
     objects: Node<'a>,
     item: Node<'a>,
@@ -66,14 +66,14 @@ fn check_item<'a, const ROOM: usize, const KEPT: usize>(
     ensures known { result ≡ true → is_known_in (members_of (tree objects.entry)) (tree item.entry) ≡ true }
     ensures answered { AreAnswered (back_of ahead.entry.link) objects.entry [] questions.new }
 {
-    if is_told_before(*found, item) {
+    if is_found_before(*found, item) {
         return false;
     }
     let Ahead { link, name, .. } = ahead;
     match questions.answer(objects, item, ahead) {
         LinkAnswer::Listed => return true,
         LinkAnswer::Absent => link.check_absent(objects, name.node(objects), item, found),
-        LinkAnswer::Untold => link.check(objects, name.node(objects), item, found),
+        LinkAnswer::Unknown => link.check(objects, name.node(objects), item, found),
     }
     false
 }
@@ -138,10 +138,10 @@ fn check_list<'a, const ROOM: usize, const KEPT: usize>(
     if link.is_exempt(current.object) {
         return false;
     }
-    let tag = tag_of(objects.at(number));
+    let short_hash = short_hash_of(objects.at(number));
     let list = Ahead {
         link,
-        name: Noted { tag, number },
+        name: Noted { short_hash, number },
         items: value.items(),
         later,
     };
@@ -184,7 +184,7 @@ fn is_known_parent<'a, const ROOM: usize, const KEPT: usize>(
     match questions.answer(objects, item, ahead) {
         LinkAnswer::Listed => true,
         LinkAnswer::Absent => false,
-        LinkAnswer::Untold => is_known(objects, item),
+        LinkAnswer::Unknown => is_known(objects, item),
     }
 }
 
@@ -229,14 +229,14 @@ fn check_part<'a, const ROOM: usize, const KEPT: usize>(
     ensures answered { AreAnswered (chars (codes "children")) objects.entry [] questions.new }
 {
     let (number, object) = (current.number, current.object);
-    if is_told_before(*found, object) {
+    if is_found_before(*found, object) {
         return;
     }
     let Some(value) = parents_of_part(object) else {
         return;
     };
-    let tag = tag_of(objects.at(number));
-    let name = Noted { tag, number };
+    let short_hash = short_hash_of(objects.at(number));
+    let name = Noted { short_hash, number };
     if !has_known_item(objects, name, value, current.later, questions) {
         add(object, Reason::NoParent, found);
     }

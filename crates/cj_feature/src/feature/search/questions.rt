@@ -22,7 +22,7 @@ mod runs;
 mod wanted;
 
 use crate::feature::search::noted::{NOTHING, Noted};
-use crate::feature::search::tagged::Text;
+use crate::feature::search::hashed::Text;
 use cj_spans::{Kind, Members, Node};
 pub use gathering::Ahead;
 use gathering::{gather, hand_of, note_ahead};
@@ -38,7 +38,7 @@ pub enum LinkAnswer {
     /// No city object has the one name.
     Absent,
     /// Neither is known.
-    Untold,
+    Unknown,
 }
 
 /// At most `ROOM` questions in order, and what was found for them. For the first question on each
@@ -168,13 +168,13 @@ impl<const ROOM: usize, const KEPT: usize> Questions<ROOM, KEPT> {
             if unlisted == 0 {
                 return;
             }
-            let mix = item.text_mix();
-            if !is_wanted(&self.wanted, mix) {
+            let hash = item.text_hash();
+            if !is_wanted(&self.wanted, hash) {
                 continue;
             }
             let pair = Pair {
                 from: name,
-                to: Text::mixed(item, mix),
+                to: Text::hashed(item, hash),
             };
             if self.answer_item(list, objects, pair, run, later) {
                 unlisted -= 1;
@@ -246,7 +246,7 @@ impl<const ROOM: usize, const KEPT: usize> Questions<ROOM, KEPT> {
             (IsAnswer (chars list.now) objects.entry (tree from.entry.node) (noted_in objects.entry to)) }
         ensures answered { AreAnswered (chars list.now) objects.entry [] self.new }
     {
-        let hand = hand_of::<KEPT>(from.node, from.tag);
+        let hand = hand_of::<KEPT>(from.node, from.short_hash);
         let run = self.runs[hand];
         if let Some(true) = self.is_listed(list, objects, run, from, to) {
             return Some(LinkAnswer::Listed);
@@ -260,7 +260,7 @@ impl<const ROOM: usize, const KEPT: usize> Questions<ROOM, KEPT> {
         self.runs[hand] = run;
         match self.is_listed(list, objects, run, from, to)? {
             true => Some(LinkAnswer::Listed),
-            false => Some(LinkAnswer::Untold),
+            false => Some(LinkAnswer::Unknown),
         }
     }
 
@@ -283,7 +283,7 @@ impl<const ROOM: usize, const KEPT: usize> Questions<ROOM, KEPT> {
                 self.ask(list, objects, item, ahead);
                 match self.found(list, objects, from, ahead.name) {
                     Some(answer) => answer,
-                    None => LinkAnswer::Untold,
+                    None => LinkAnswer::Unknown,
                 }
             }
             _ => LinkAnswer::Absent,

@@ -6,7 +6,7 @@ ghost use Rattle.cj_spans.specs.View.{tree, line_of, source_of, members_left, me
 ghost use Rattle.cj_feature.specs.inner.Unmarked.{AreInNameOrder, IsNoted, ArePassed, AreSearchable, IsSought};
 
 use crate::feature::search::noted::Noted;
-use crate::feature::search::tagged::Text;
+use crate::feature::search::hashed::Text;
 use cj_spans::{Members, Node};
 
 /// The names that are looked for: those of all city objects, or these, which are sorted.

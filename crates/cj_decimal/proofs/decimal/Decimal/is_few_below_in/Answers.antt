@@ -16,8 +16,8 @@ returns c = record {
       let near = c.is_below.ensures.near holds in
       (int_alone_read s short.int short.rest, omega arith);
   below =
-      λ holds n tells.
-      let r = c.is_below.ensures.short holds n tells in
+      λ holds n is_bound.
+      let r = c.is_below.ensures.short holds n is_bound in
       let short = r.2 in
       (r.0, r.1, short.small, answer_of_few (slice_range c.args.line.now c.args.start c.args.stop) (Some r.0) short);
   all =

@@ -33,7 +33,7 @@ fn list_of<const LISTS: usize>(text: Node) -> usize
     requires { 0 < LISTS }
     ensures { result < LISTS }
 {
-    (text.text_mix() % LISTS as u64) as usize
+    (text.text_hash() % LISTS as u64) as usize
 }
 
 /// Returns the slot at a place.

@@ -75,15 +75,16 @@ fn make_room(objects: Node, questions: &mut [Question], count: usize) -> usize
 /// letters and digits have 3,254 different sums.
 const WEIGHT: u64 = 61;
 
-/// Returns where a text is kept, from its tag and the bytes in its middle. So even most texts that
-/// were chosen to have one tag have different places. Another spelling of a text has another place.
-pub fn hand_of<const KEPT: usize>(node: Node, tag: u32) -> usize
+/// Returns where a text is kept, from its short hash and the bytes in its middle. So even most
+/// texts that were chosen to have one short hash have different places. Another spelling of a text
+/// has another place.
+pub fn hand_of<const KEPT: usize>(node: Node, short_hash: u32) -> usize
     requires { 0 < KEPT }
     ensures { result < KEPT }
 {
     let bytes = node.bytes();
     let middle = bytes[bytes.len() / 2] as u64 + WEIGHT * bytes[(bytes.len() - 1) / 2] as u64;
-    place_among::<KEPT>(tag as u64 + middle)
+    place_among::<KEPT>(short_hash as u64 + middle)
 }
 
 /// Notes the text of a node, by the kept node with the same text if there is one. So most equal
@@ -92,9 +93,9 @@ fn noted_at_hand<const KEPT: usize>(objects: Node, kept: &mut [Noted; KEPT], nod
     requires { 0 < KEPT }
 {
     let noted = Noted::of(node);
-    let place = hand_of::<KEPT>(node, noted.tag);
+    let place = hand_of::<KEPT>(node, noted.short_hash);
     let before = kept[place];
-    if before.tag == noted.tag && before.node(objects).same_text(node) {
+    if before.short_hash == noted.short_hash && before.node(objects).same_text(node) {
         return before;
     }
     kept[place] = noted;

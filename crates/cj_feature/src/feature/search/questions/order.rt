@@ -6,7 +6,7 @@ ghost use Rattle.cj_feature.specs.inner.Questions.{pair_key, key_in, compare_key
 ghost use Rattle.cj_feature.specs.inner.Questions.{IsFirstOn};
 
 use crate::feature::search::noted::Noted;
-use crate::feature::search::tagged::Text;
+use crate::feature::search::hashed::Text;
 use cj_spans::Node;
 use std::cmp::Ordering;
 

@@ -23,7 +23,7 @@ fn bit_among<const PLACES: usize>(number: u64) -> u32
 }
 
 /// Sets the bits of the second texts of questions. The place of a bit depends on the number that
-/// the text is mixed to, not on its tag. So texts of one tag have different bits.
+/// the whole hash, not on the short one. So texts of one short hash have different bits.
 pub fn note_wanted<const KEPT: usize>(
     objects: Node,
     questions: &[Question],
@@ -35,14 +35,14 @@ pub fn note_wanted<const KEPT: usize>(
         *one = 0;
     }
     for question in questions {
-        let mix = question.to.node(objects).text_mix();
-        wanted[place_among::<KEPT>(mix)] |= bit_among::<KEPT>(mix);
+        let hash = question.to.node(objects).text_hash();
+        wanted[place_among::<KEPT>(hash)] |= bit_among::<KEPT>(hash);
     }
 }
 
-/// Returns whether a text that is mixed to this number may be asked about as a second one.
-pub fn is_wanted<const KEPT: usize>(wanted: &[u32; KEPT], mix: u64) -> bool
+/// Returns whether a text of this hash may be asked about as a second one.
+pub fn is_wanted<const KEPT: usize>(wanted: &[u32; KEPT], hash: u64) -> bool
     requires { 0 < KEPT }
 {
-    wanted[place_among::<KEPT>(mix)] & bit_among::<KEPT>(mix) != 0
+    wanted[place_among::<KEPT>(hash)] & bit_among::<KEPT>(hash) != 0
 }

@@ -6,7 +6,7 @@ invariant-loop-name l = record {
   word : IfSome l.before (IsWorded (source_of l.object));
   last : last_of (limit_in (source_of l.object) l.before) (names_in (source_of l.object) (drop l.name-index l.names))
       ≡ last_of (limit_in (source_of l.object) l.fn.floor) (names_in (source_of l.object) l.names);
-  told : least l.found (neighbours (limit_in (source_of l.object) l.before)
+  found : least l.found (neighbours (limit_in (source_of l.object) l.before)
       (names_in (source_of l.object) (drop l.name-index l.names)))
       ≡ least l.initial.found (neighbours (limit_in (source_of l.object) l.fn.floor)
       (names_in (source_of l.object) l.names));

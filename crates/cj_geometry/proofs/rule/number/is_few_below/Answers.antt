@@ -6,7 +6,7 @@ pub returns : goal.returns
 returns c = λ holds.
     let span = c.span-start.ensures in
     let read = c.is_few_below_in.ensures in
-    let r = read.below holds c.args.bound.limit c.args.bound.tells in (
+    let r = read.below holds c.args.bound.limit c.args.bound.bounds in (
       r.0,
       r.1,
       r.2,

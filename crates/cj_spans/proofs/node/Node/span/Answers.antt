@@ -1,5 +1,5 @@
 use Rattle.cj_spans.proofs.Common.{◌∙◌, refl, rules, tree, line_of}
-use Rattle.cj_spans.proofs.Triples.{told_number}
+use Rattle.cj_spans.proofs.Triples.{number_of_spelling}
 use Rattle.cj_spans.proofs.Views.{kind_shown, spelling_shown}
 use Rattle.cj_spans.proofs.node.Node.span.Goals as goal
 
@@ -18,6 +18,6 @@ returns c = record {
       λ is.
       let s = c.args.self.source in
       let token = c.token_at-token.result in
-      told_number _ ((s.spelled _ token c.token_at-token.ensures).0
+      number_of_spelling _ ((s.spelled _ token c.token_at-token.ensures).0
       (kind_shown s.line.now s.tokens.now _ token {r = _} c.token_at-token.ensures refl ∙ is));
 }

@@ -6,7 +6,7 @@ pub returns : goal.returns
 returns c = λ none.
     let objects = c.args.objects in
     let t = c.of-text.result in
-    let side : text_side t ≡ side_of (text_of (tree c.args.text)) = ap (λ n. (n, text_of (tree t.node))) t.tagged
+    let side : text_side t ≡ side_of (text_of (tree c.args.text)) = ap (λ n. (n, text_of (tree t.node))) t.hashed
     ∙ ap (λ u. side_of (text_of u)) c.of-text.ensures in
     let found =
     c.binary_search_by.ensures.position (λ n. compare_sides (side_in objects n) (text_side t))

@@ -1,4 +1,4 @@
-use Rattle.cj_feature.proofs.Common.{IsNoted, Tree, ap, arith, inl, inr, length, length-set, members_left, side_in, side_of, source_of, subst, tag_of, take, text_of, tree, tree_in, ◌+◌, ◌∙◌, ◌≡◌}
+use Rattle.cj_feature.proofs.Common.{IsNoted, Tree, ap, arith, inl, inr, length, length-set, members_left, side_in, side_of, source_of, subst, short_hash_of, take, text_of, tree, tree_in, ◌+◌, ◌∙◌, ◌≡◌}
 use Rattle.cj_feature.proofs.NameLemmas.{kept-first, last-first}
 use Rattle.cj_feature.proofs.Walking.{next-or}
 use Rattle.cj_feature.proofs.feature.search.unmarked.note_next.Goals as goal
@@ -17,8 +17,8 @@ loop-count-preserved-then-not-marked c =
     let long : length c.note.new.names ≡ length names = ap length e ∙ length-set names count v in
     let node = rw (steps.4.0 ∙ inv.source) at c.of.ensures.node in
     let side : side_in objects v ≡ side_of (text_of name) =
-    ap (λ n. (n, text_of (tree_in (source_of objects) v.number))) c.of.ensures.tag
-    ∙ ap (λ t. (tag_of (text_of name), text_of t)) node in
+    ap (λ n. (n, text_of (tree_in (source_of objects) v.number))) c.of.ensures.short_hash
+    ∙ ap (λ t. (short_hash_of (text_of name), text_of t)) node in
     let noted : (t : Tree) → IsNoted objects (take count names) t
     → IsNoted objects (take (count + 1) c.note.new.names) t =
     λ t n. (

@@ -7,7 +7,7 @@ answer_item-requires g c = (
   (
     c.loop-item.invariant.answered,
     λ from to f t.
-        let is : same_text (tree c.in-Some-item.item) to ≡ true = rw c.mixed.ensures at t in
+        let is : same_text (tree c.in-Some-item.item) to ≡ true = rw c.hashed.ensures at t in
         let has : has_item (items_left c.loop-item.item-iterator) to ≡ true =
         rw (c.in-Some-item.ensures.steps.0, is) refl in
         c.requires.listed from to f (c.loop-item.invariant.left to has),

@@ -1,4 +1,4 @@
-use Rattle.cj_feature.proofs.Common.{Some, ap, false, from_in, same_text, subst, sym, tag_of, text_of, tree, ◌∙◌, ◌≡◌}
+use Rattle.cj_feature.proofs.Common.{Some, ap, false, from_in, same_text, subst, sym, short_hash_of, text_of, tree, ◌∙◌, ◌≡◌}
 use Rattle.cj_feature.proofs.Questions.{none_here, only_here, place_by_texts}
 use Rattle.cj_feature.proofs.feature.search.questions.order.first_on.Goals as goal
 
@@ -13,7 +13,7 @@ returns-in-Some c =
         place = place;
         question = c.in-Some.question;
         stands = c.in-Some.ensures;
-        tagged = c.is.ensures.tag c.if-is.true ∙ c.args.from.tagged;
+        hashed = c.is.ensures.short_hash c.if-is.true ∙ c.args.from.hashed;
         same = c.is.ensures.text c.if-is.true;
       };
       only = λ i f. ap (λ z. Some z)
@@ -26,12 +26,12 @@ returns-in_default-clause-only c = λ i f.
     let place =
     place_by_texts c.args.objects c.args.questions.now c.place_of-place.result c.args.from c.of-to.result
     c.of-to.ensures c.place_of-place.ensures in
-    let other : c.in-Some.question.from.tag ≡ tag_of (text_of t)
+    let other : c.in-Some.question.from.short_hash ≡ short_hash_of (text_of t)
     → same_text (from_in c.args.objects c.in-Some.question) t ≡ false =
-    λ m. c.is.ensures.other c.if-is.false (m ∙ sym c.args.from.tagged) in
+    λ m. c.is.ensures.other c.if-is.false (m ∙ sym c.args.from.hashed) in
     absurd (none_here c.args.objects c.args.questions.now t c.place_of-place.result i place
     (λ q e. let is : c.in-Some.question ≡ q = cc (c.in-Some.ensures, e) in
-    subst (λ w. w.from.tag ≡ tag_of (text_of t) → same_text (from_in c.args.objects w) t ≡ false) is other) f)
+    subst (λ w. w.from.short_hash ≡ short_hash_of (text_of t) → same_text (from_in c.args.objects w) t ≡ false) is other) f)
 
 pub returns-in_default-2-clause-only : goal.returns-in_default-2-clause-only
 returns-in_default-2-clause-only c = λ i f.

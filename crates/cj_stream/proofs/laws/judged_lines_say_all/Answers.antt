@@ -1,6 +1,6 @@
 use Rattle.cj_stream.proofs.AgreeLemmas.{good-in, kept-in, output-in, reported-in, ending-in}
 use Rattle.cj_stream.proofs.JudgedPeaks.{HasPeaks-exact, IsExact-peaks}
-use Rattle.cj_stream.proofs.laws.judged_lines_tell_all.Goals as goal
+use Rattle.cj_stream.proofs.laws.judged_lines_say_all.Goals as goal
 
 pub returns-clause-good : goal.returns-clause-good
 returns-clause-good c = λ rules r. good-in _ r

@@ -1,5 +1,5 @@
 use Rattle.cj_stream.proofs.HeadlineLemmas.{headline-writes, headline-gives, headline-ends, headline-exact, headline-memory}
-use Rattle.cj_stream.proofs.laws.headlines_tell_all.Goals as goal
+use Rattle.cj_stream.proofs.laws.headlines_say_all.Goals as goal
 
 pub returns-clause-writes : goal.returns-clause-writes
 returns-clause-writes g c = λ fate old new h u. headline-writes _ _ _ _ h u
