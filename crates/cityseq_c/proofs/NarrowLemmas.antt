@@ -1,14 +1,33 @@
 -- What is answered of a text does not hang on a line limit that is above all its lines.
-use Rattle.cityseq_c.proofs.Common.{AreCut, Complete, DeclinesCall, End, Err, Faults, IfErr, IfOk, IsAsked, IsFit, Judged, Line, List, Memory, None, NotJudged, Ok, Outcome, Request, Result, Rules, SinkContract, Some, CReport, [], ap, append-nil, arith, cases_lt, fault_of, flat_map, good_from, greatest, inl, inr, later_of, length, length-append, lent, lines, list_all, map, max, min, min-eq_left, nat_tests, needed_limits, of_first, raw, refl, slice_get, stream_of, subst, suc, take, up_to, verdict, zero, ℕ, ◌++◌, ◌+◌, ◌<◌, ◌∙◌, ◌∷◌, ◌≡◌, ◌≤◌, ◌⊎◌}
+use Rattle.cityseq_c.proofs.Common.{Line, List, [], inl, lines, suc, take, zero, ℕ, ◌∷◌, ◌≡◌, arith, AreCut, Complete, DeclinesCall, End, Err, Faults, IfErr, IfOk, IsAsked, IsFit, Judged, Memory, None, NotJudged, Ok, Outcome, Request, Result, Rules, SinkContract, Some, CReport, ap, append-nil, cases_lt, fault_of, flat_map, good_from, greatest, inr, later_of, length, length-append, lent, list_all, map, max, min, min-eq_left, nat_tests, needed_limits, of_first, raw, refl, slice_get, stream_of, subst, up_to, verdict, ◌++◌, ◌+◌, ◌<◌, ◌∙◌, ◌≤◌, ◌⊎◌}
+use Rattle.cj_stream.specs.Bound.{first_lines, exact_peaks, held_length, are_legible, is_readable, tree_nest, tree_size}
+use Rattle.cj_stream.specs.IsLines.{AreEnded, HaveNoLf}
+use Rattle.cj_stream.proofs.LineLemmas.{lines-are_lines, only-lines}
 use Rattle.std.proofs.Common.{unwrap_or}
 use Rattle.cj_spans.proofs.Judgements.{judgement}
-use Rattle.cj_stream.specs.Bound.{exact_peaks, held_length, are_legible, is_readable, tree_nest, tree_size}
-use Rattle.cj_stream.specs.Verdict.{ending_of, good, verdict_at}
-use Rattle.cj_stream.proofs.IsLinesLemmas.{lines-are_lines}
-use Rattle.cityseq_c.proofs.FirstLemmas.{lines-first}
-use Rattle.cityseq_c.proofs.LineCutLemmas.{cut-lines}
-use Rattle.cj_stream.specs.Verdict.{first_end, rulings}
+use Rattle.cj_stream.specs.Verdict.{ending_of, good, verdict_at, first_end, rulings}
+use Rattle.cityseq_c.proofs.CursorLemmas.{cut-lines}
 use Rattle.cj_stream.proofs.TookLemmas.{over-kept}
+
+-- ---- the first lines of a text are the lines of their bytes
+
+HaveNoLf-take : (n : ℕ) (ls : List Line) → HaveNoLf ls → HaveNoLf (take n ls)
+HaveNoLf-take (suc n) (l ∷ ls) h = (h.0, HaveNoLf-take n ls h.1)
+HaveNoLf-take n ls h = tt
+
+AreEnded-take : (n : ℕ) (ls : List Line) → AreEnded ls → AreEnded (take n ls)
+AreEnded-take zero ls e = tt
+AreEnded-take (suc n) [] e = tt
+AreEnded-take (suc zero) (l ∷ []) e = e
+AreEnded-take (suc (suc n)) (l ∷ []) e = e
+AreEnded-take (suc zero) (l ∷ m ∷ ls) e = inl e.0
+AreEnded-take (suc (suc n)) (l ∷ m ∷ ls) e = (e.0, AreEnded-take (suc n) (m ∷ ls) e.1)
+
+pub lines-first : (n : ℕ) (s : List ℕ) → lines (first_lines n s) ≡ take n (lines s)
+lines-first n s =
+    grind (arith, lines-are_lines, only-lines, HaveNoLf-take, AreEnded-take)
+
+-- ---- what is answered of a text does not hang on a line limit that is above all its lines
 
 -- no content is longer than this
 abbrev AreShort : ℕ → List Line → Type 0

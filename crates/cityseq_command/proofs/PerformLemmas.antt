@@ -1,5 +1,8 @@
--- What is said of texts that the program writes.
-use Rattle.cityseq_command.proofs.Common.{Appends, AppendsPart, Channel, Complete, End, HasRisen, Keeps, List, Option, Report, Result, RisesOnErr, Wrote, [], arith, check_text, outputs, run_of, stream_of, subst, summary_text, ℕ, ◌≡◌, rules}
+-- Commands that are made option by option, and what is said of texts.
+use Rattle.cityseq_command.proofs.Common.{IsCommand, IsOption, arith, Appends, AppendsPart, Channel, Complete, End, HasRisen, Keeps, List, Option, Report, Result, RisesOnErr, Wrote, [], check_text, outputs, run_of, stream_of, subst, summary_text, ℕ, ◌≡◌, rules}
+use Rattle.clap.specs.Words.{AddsArg, AddsSubcommand, App, Rule, with_rule, with_subcommand}
+use Rattle.clap.specs.declared.builder.arg.Arg.{Arg}
+use Rattle.clap.specs.declared.builder.command.Command.{Command}
 use Rattle.std.proofs.Common.{◌<◌, ◌^◌, length, filter}
 use Rattle.cj_budget.specs.declared.limits.Peaks.{Peaks}
 use Rattle.cj_stream.specs.declared.ending.End.TheVariants.{ReadLimit, WriteFault}
@@ -17,6 +20,20 @@ use Rattle.cj_stream.specs.TallySink.{Tally, IsTallyOf, no_tally}
 use Rattle.cityseq_command.specs.Performed.{end_of_writing, SaysText, SaysCheck, SaysSummary, Answers, Does, asked, ended_by, rules_of_ask, sinks, went}
 use Rattle.cityseq_command.specs.declared.ask.Ask.{Ask}
 use Rattle.cj_stream.proofs.TookLemmas.{over-reported}
+
+-- ---- commands that are made option by option
+
+-- a command with one more option
+pub with_option : {old new : Command} {a : Arg} {s : App} {r : Rule} → IsCommand old s → IsOption a r
+    → AddsArg old a new → IsCommand new (with_rule s r)
+with_option is_old is_option adds = grind arith
+
+-- a command with one more command below it
+pub with_command : {old sub new : Command} {s u : App} → IsCommand old s → IsCommand sub u → AddsSubcommand old sub new
+    → IsCommand new (with_subcommand s u.top)
+with_command is_old is_sub adds = grind arith
+
+-- ---- what is said of texts that the program writes
 
 pub Keeps-refl : (a : Option (List ℕ)) → Keeps a a
 Keeps-refl a = grind arith

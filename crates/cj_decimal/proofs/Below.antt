@@ -4,7 +4,7 @@ use Rattle.std.proofs.Math.Nat.{pow-zero}
 use Rattle.std.specs.Int.{swap_bytes}
 use Rattle.std.specs.Prelude.{Option, None, Some, IfSome, IsSome, Ok, pos}
 use Rattle.cj_decimal.specs.Word.{little_endian, AllBelow, IsCountWord, IsWordOf, IsBoundWord, weighed}
-use Rattle.cj_decimal.proofs.Wholes.{answer_digits, int_short}
+use Rattle.cj_decimal.proofs.Readings.{answer_digits, int_short}
 use Rattle.cj_decimal.proofs.Eights.{value_weighed}
 
 weighed_below : (n : ℕ) → 10 ≤ n → (s : List ℕ) → AllBelow 10 s → weighed n s < n ^ length s

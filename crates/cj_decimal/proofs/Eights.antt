@@ -1,12 +1,69 @@
 -- Numbers of at most eight digits, read by one word of eight bytes.
-use Rattle.cj_decimal.proofs.Common.{◌≡◌, ℕ, zero, suc, and_parts, ◌+◌, ◌-◌, ◌*◌, ◌/◌, ◌%◌, ◌^◌, ◌<◌, ◌≤◌, List, [], ◌∷◌, length, length-drop, length-map, slice_range, take, drop, map, Bool, true, false, ◌&&◌, ◌||◌, nat_le, nat_eq, refl, sym, ap, arith, ◌∙◌, inl, inr, not, get_or, ◌⊎◌, IsTrue, bit_and, bit_xor, and_block, xor_block, xor_lt, pow-add, pow-suc, shr-shr, and_mask, IsShort, after_frac, digits_front, digits_rest, begins, body, is_exp, is_frac, is_int, written_of, digits_value, value_after, AllDigits, IsDigit, IsInt, SpellsNumber, IsFewDigits, IsNumberIfBegun}
+use Rattle.cj_decimal.proofs.Common.{◌≡◌, ℕ, ◌≤◌, List, [], ◌∷◌, ◌++◌, Bool, true, false, refl, ap, ◌∙◌, arith, inl, inr, ◌⊎◌, ℤ, nat_le, bit_xor, AllDigits, IsDigit, IsExp, IsExpSign, IsFrac, IsInt, IsMinus, SpellsNumber, zero, suc, and_parts, ◌+◌, ◌-◌, ◌*◌, ◌/◌, ◌%◌, ◌^◌, ◌<◌, length, length-drop, length-map, slice_range, take, drop, map, ◌&&◌, ◌||◌, nat_eq, sym, not, get_or, IsTrue, bit_and, and_block, xor_block, xor_lt, pow-add, pow-suc, shr-shr, and_mask, IsShort, after_frac, digits_front, digits_rest, begins, body, is_exp, is_frac, is_int, written_of, digits_value, value_after, IsFewDigits, IsNumberIfBegun}
+use Rattle.cj_decimal.proofs.Grammar.{all_of, digit_begins, digit_begins_alone, front_all, front_rest, int_from_test, int_is_digits, minus_there, no_minus, spells_test, test_spells}
 use Rattle.std.proofs.lemmas.Nat.Bits.{and_high_mask}
 use Rattle.std.specs.Prelude.{replicate}
 use Rattle.std.proofs.lemmas.Bool.{agree_below_at, eq-eqb, ne_eqb}
 use Rattle.std.proofs.lemmas.List.{drop-take, drop-drop, get_or-take, get_or-drop, length-take-le}
-use Rattle.cj_decimal.proofs.Grammar.{digit_begins, digit_begins_alone, front_all, front_rest, int_from_test, int_is_digits, minus_there, no_minus, spells_test, test_spells}
-use Rattle.cj_decimal.proofs.NumberBytes.{NumberBytes, number_bytes}
 use Rattle.cj_decimal.specs.Word.{little_endian, AllBelow, weighed}
+
+-- ---- the bytes of a number of JSON: digits, and others that are not below 16 without the bits of `0`
+
+abbrev pub NumberBytes : List ℕ → Type 0
+NumberBytes [] = Unit {0}
+NumberBytes (b ∷ s) = (IsDigit b ⊎ (16 ≤ bit_xor b 48)) × NumberBytes s
+
+both : (s t : List ℕ) → NumberBytes s → NumberBytes t → NumberBytes (s ++ t)
+both [] t h i = i
+both (b ∷ s) t h i = (h.0, both s t h.1 i)
+
+of_digits : (s : List ℕ) → AllDigits s → NumberBytes s
+of_digits [] h = tt
+of_digits (b ∷ s) h = (inl h.0, of_digits s h.1)
+
+-- a byte that is no digit, and others
+behind : (b : ℕ) (s : List ℕ) {t : List ℕ} → nat_le 16 (bit_xor b 48) ≡ true → NumberBytes s → t ≡ b ∷ s
+    → NumberBytes t
+behind b s test h e = search arith
+
+none : {s : List ℕ} → s ≡ [] → NumberBytes s
+none e = rw e tt
+
+of_minus : (b : Bool) (s : List ℕ) → IsMinus b s → NumberBytes s
+of_minus true s e = behind 45 [] refl tt e
+of_minus false s e = none e
+
+of_int : (s : List ℕ) → IsInt s → NumberBytes s
+of_int [] h = absurd h
+of_int (b ∷ s) (inl is_zero) = search arith
+of_int (b ∷ s) (inr h) = (inl (omega arith, h.1), of_digits s h.2)
+
+of_frac : (digits s : List ℕ) → IsFrac digits s → NumberBytes s
+of_frac digits s (inl nothing) = none nothing.1
+of_frac digits s (inr h) = behind 46 digits refl (of_digits digits (all_of digits h.0)) h.1
+
+of_sign : (b : Bool) (s : List ℕ) → IsExpSign b s → NumberBytes s
+of_sign true s e = behind 45 [] refl tt e
+of_sign false s (inl e) = none e
+of_sign false s (inr e) = behind 43 [] refl tt e
+
+of_mark : (m : ℕ) (s : List ℕ) {t : List ℕ} → (m ≡ 101) ⊎ (m ≡ 69) → NumberBytes s → t ≡ m ∷ s → NumberBytes t
+of_mark m s (inl e) h is = behind 101 s refl h (is ∙ ap (λ k. k ∷ s) e)
+of_mark m s (inr e) h is = behind 69 s refl h (is ∙ ap (λ k. k ∷ s) e)
+
+of_exp : (e : ℤ) (s : List ℕ) → IsExp e s → NumberBytes s
+of_exp e s (inl nothing) = none nothing.1
+of_exp e s (inr p) = search (arith, both, of_sign, of_digits, all_of)
+
+pub number_bytes : (s : List ℕ) → SpellsNumber s → NumberBytes s
+number_bytes s number =
+    let n = number.0 in let p = number.1 in
+    rw p.joined
+    (both p.minus _ (of_minus n.negative p.minus p.minus_is)
+    (both n.int _ (of_int n.int p.int_is)
+    (both p.fraction p.exp (of_frac n.frac p.fraction p.frac_is) (of_exp n.exponent p.exp p.exp_is))))
+
+-- ---- numbers of at most eight digits, read by one word of eight bytes
 
 -- ---- bits, byte by byte
 

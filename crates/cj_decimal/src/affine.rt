@@ -90,7 +90,7 @@ fn product(left: i64, right: i64) -> i128
 }
 
 /// Returns this number of units as whole ones, rounded down, and the units that remain.
-#[tactic(auto, using(crate::proofs::Common::ints, crate::proofs::Splits::split_cast))]
+#[tactic(auto, using(crate::proofs::Common::ints, crate::proofs::Scales::split_cast))]
 fn split(units: i128) -> (i128, i128)
     requires { unsigned_abs units < 4 * 10 ^ 36 }
     ensures whole { result.0 ≡ int_div_euclid units (pos (10 ^ 18)) }

@@ -120,7 +120,7 @@ impl Eq for Decimal {
 
 impl Decimal {
     /// Returns the number of a spelling's parts. None if it is out of range.
-    #[tactic(auto, using(crate::proofs::Trims::trimmed_le))]
+    #[tactic(auto, using(crate::proofs::Classes::trimmed_le))]
     fn from_parts(parts: Parts) -> Option<Decimal>
         ensures some { (n : ℕ) (e : ℤ) → StandsFor parts.digits.lead parts.digits.extra parts.digits.lost n
             → Saturates e parts.exponent
@@ -160,7 +160,7 @@ impl Decimal {
     ///
     /// `NotANumber` if the spelling is no number of JSON. `NumberRange` if its value has more than
     /// 36 digits in normal form, or a power of ten above 1,000,000 in size.
-    #[tactic(auto, using(crate::proofs::Law::has_one_value))]
+    #[tactic(auto, using(crate::proofs::Classes::has_one_value))]
     pub fn read(spelling: &[u8]) -> Result<Decimal, DecimalFault>
         ensures value { IfOk result (IsValue spelling.now) }
         ensures in_range { IfOk result IsInRange }
@@ -186,7 +186,7 @@ impl Decimal {
     /// other spelling: also for a 0 before another digit, and for other spellings of a whole
     /// number.
     #[inline(always)]
-    #[tactic(auto, using(crate::proofs::Wholes::answer_of_few))]
+    #[tactic(auto, using(crate::proofs::Readings::answer_of_few))]
     pub fn read_few(spelling: &[u8]) -> Option<u64>
         ensures answer { IfSome result (λ n. (c : Class spelling.now) → whole_answer c ≡ Ok (Some (pos n))) }
         ensures small { IfSome result (λ n. n < 10 ^ 18) }

@@ -35,7 +35,7 @@ impl Digits {
     };
 
     /// Returns these digits and one more, which still fits.
-    #[tactic(auto, using(crate::proofs::Pushes::push_short))]
+    #[tactic(auto, using(crate::proofs::Parts::push_short))]
     fn push(self, digit: u8) -> Digits
         requires digit { digit < 10 }
         requires room { self.lead < 10 ^ 35 }
@@ -139,7 +139,7 @@ pub fn read_long(spelling: &[u8], from: usize, start: Digits) -> Run
 
 /// Reads the digits that continue a short number. Usually there are none.
 #[inline(always)]
-#[tactic(auto, using(crate::proofs::Pushes::short_stands, crate::proofs::Ways::carried_here, crate::proofs::Ways::carries_refl))]
+#[tactic(auto, using(crate::proofs::Parts::short_stands, crate::proofs::Grammar::carried_here, crate::proofs::Grammar::carries_refl))]
 pub fn read_on(spelling: &[u8], from: usize, short: u64) -> Run
     requires within { from ≤ length spelling.now }
     requires short { short < 10 ^ 18 }
@@ -161,7 +161,7 @@ pub fn read_on(spelling: &[u8], from: usize, short: u64) -> Run
 
 /// Reads all digits from a place on, after the digits in `start`.
 #[inline(always)]
-#[tactic(auto, using(crate::proofs::Ways::stops_after, crate::proofs::Pushes::stands_short))]
+#[tactic(auto, using(crate::proofs::Grammar::stops_after, crate::proofs::Parts::stands_short))]
 pub fn read_digits(spelling: &[u8], from: usize, start: Digits) -> Run
     requires within { from ≤ length spelling.now }
     requires bounded { start.extra ≤ from }
@@ -179,7 +179,7 @@ pub fn read_digits(spelling: &[u8], from: usize, start: Digits) -> Run
 }
 
 /// Returns whether a digit is at a place.
-#[tactic(auto, using(crate::proofs::Common::nat_tests, crate::proofs::Ways::no_digit_past, crate::proofs::Ways::digit_at))]
+#[tactic(auto, using(crate::proofs::Common::nat_tests, crate::proofs::Grammar::no_digit_past, crate::proofs::Grammar::digit_at))]
 fn has_digit(spelling: &[u8], at: usize) -> bool
     ensures { result ≡ begins_digit (drop at spelling.now) }
 {

@@ -30,7 +30,7 @@ pub fn ten_to(power: u32) -> u64
 }
 
 /// Returns ten to a power from 0 to 36.
-#[tactic(auto, using(crate::proofs::TenPowers::ten_pow_add))]
+#[tactic(auto, using(crate::proofs::Values::ten_pow_add))]
 pub fn wide_ten_to(power: u32) -> u128
     requires { power ≤ 36 }
     ensures { result ≡ 10 ^ power }

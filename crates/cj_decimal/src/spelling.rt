@@ -48,7 +48,7 @@ pub fn is_int_part(spelling: &[u8], from: usize, stop: usize) -> bool
 }
 
 /// Reads the int part. Its first digits have been read.
-#[tactic(auto, using(crate::proofs::Ways::stops_after))]
+#[tactic(auto, using(crate::proofs::Grammar::stops_after))]
 fn read_int(spelling: &[u8], from: usize, at: usize, short: u64) -> Option<Run>
     requires passes { Passes spelling.now from at }
     requires carries { Carries spelling.now from 0 at short }

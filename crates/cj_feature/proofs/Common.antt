@@ -24,7 +24,7 @@ pub use Rattle.cj_feature.specs.inner.Slots.{IsReady, SlotHolds}
 pub use Rattle.cj_feature.specs.inner.ShortHash.{short_hash_of}
 pub use Rattle.cj_feature.specs.inner.Typed.{are_one, are_three, are_two, begins_whole, is_vertex}
 pub use Rattle.cj_feature.specs.inner.Unmarked.{AreInNameOrder, ArePassed, IsNoted, IsSought, ListSoughtMarks, SoughtHaveMarks}
-pub use Rattle.cj_geometry.proofs.Neighbours.{contains_cases, contains_first, contains_later, contains_none}
+pub use Rattle.cj_geometry.proofs.Names.{contains_cases, contains_first, contains_later, contains_none}
 pub use Rattle.cj_geometry.specs.Meaning.Geometry.{TemplateSource, count_of, empty, geometry, listed, template_count}
 pub use Rattle.cj_geometry.specs.Meaning.Numbers.{index, is_outside, number, spelling, value_findings, value_of, whole_findings, whole_number, whole_of}
 pub use Rattle.cj_geometry.specs.Meaning.Rule.{distinct, has_length, if_there, may_have, missing, needs, nothing, of_kind, of_length, one}
@@ -38,9 +38,7 @@ pub use Rattle.cj_spans.specs.Meaning.Tree.{Tree, array, member, no_items, no_me
 pub use Rattle.cj_spans.specs.Places.{AreValuesInOrder, spelling_of}
 pub use Rattle.cj_spans.specs.Preorder.{Span, spans_of}
 pub use Rattle.cj_spans.specs.View.{trees}
-unfoldable pub use Rattle.cj_spans.specs.View.{document, document_line, document_source, items_left, items_line}
-unfoldable pub use Rattle.cj_spans.specs.View.{line_of, members_left, members_line, members_source, source_of}
-unfoldable pub use Rattle.cj_spans.specs.View.{tokens_in, tree, tree_at, tree_in}
+unfoldable pub use Rattle.cj_spans.specs.View.{document, document_line, document_source, items_left, items_line, line_of, members_left, members_line, members_source, source_of, tokens_in, tree, tree_at, tree_in}
 pub use Rattle.cj_spans.specs.declared.finding.Finding.{Finding}
 pub use Rattle.cj_spans.specs.declared.node.Node.{Node}
 pub use Rattle.cj_spans.specs.declared.reason.Reason.{Reason}

@@ -1,5 +1,5 @@
--- Links told by tests on members, and by relations between ids: the findings are the same.
-use Rattle.cj_feature.proofs.Common.{Bool, ChildNotFound, Contains, Contains-append_cases, Contains-append_left, Contains-append_right, Finding, IsIn, Kind, LinkNotMutual, List, NoParent, None, Option, Reason, Some, Tree, [], and_parts, ap, are_same_texts, arith, array, both_ways, chars, children, codes, cond, contains_cases, contains_first, contains_later, contains_none, false, false_from_ne_true, flat_map, found_at, inl, inr, is_array, is_known, is_text, items_of, kind_of, links, list_any, list_members, listed_in, lists, member, members_of, no_members, object, object_links, one, parent, parents, part, refl, same_text, scalar, start_of, sym, text_of, true, ℕ, ◌++◌, ◌∙◌, ◌∷◌, ◌≡◌, ◌⊎◌}
+-- Links told by tests and by relations, and city objects that have none.
+use Rattle.cj_feature.proofs.Common.{Bool, ChildNotFound, Contains, Contains-append_cases, Contains-append_left, Contains-append_right, Finding, IsIn, Kind, LinkNotMutual, List, NoParent, None, Option, Reason, Some, Tree, [], and_parts, ap, are_same_texts, arith, array, both_ways, chars, children, codes, cond, contains_cases, contains_first, contains_later, contains_none, false, false_from_ne_true, flat_map, found_at, inl, inr, is_array, is_known, is_text, items_of, kind_of, links, list_any, list_members, listed_in, lists, member, members_of, no_members, object, object_links, one, parent, parents, part, refl, same_text, scalar, start_of, sym, text_of, true, ℕ, ◌++◌, ◌∙◌, ◌∷◌, ◌≡◌, ◌⊎◌, at_second_level, is_some, items_if, member_of, option_map, part_of}
 use Rattle.std.specs.Cmp.Lexicographic.{bytes_decides}
 use Rattle.cj_spans.specs.declared.token.Kind.TheVariants.{Null, Truth, Number, Text, Array, Object}
 use Rattle.cj_spans.specs.Meaning.Text.{text}
@@ -9,6 +9,8 @@ use Rattle.cj_feature.specs.Meaning.Relations.{IsListed, Lists, IsLinkFault, chi
 use Rattle.std.proofs.lemmas.List.Folds.{Any-from_list_any, list_any_at}
 use Rattle.std.proofs.lemmas.Bool.{and_from, not-true}
 use Rattle.std.specs.Option.{option_map_or}
+
+-- ---- links told by tests on members, and by relations between ids: the findings are the same
 
 -- ---- elements
 
@@ -269,3 +271,31 @@ module _ (t : Tree) where
 
 -- told by tests, and by relations
 pub ruleset links_both_ways = (from-links, to-links)
+
+-- ---- city objects that list nobody have no links
+
+-- and the next of some members has none
+pub next_unlinked : (f : Tree × Tree → List Finding) (all rest : List (Tree × Tree)) (m : Tree × Tree)
+    (total : List Finding) → total ≡ flat_map f all → all ≡ m ∷ rest → f m ≡ [] → total ≡ flat_map f rest
+next_unlinked f all rest m total h e n = h ∙ ap (flat_map f) e ∙ ap (λ fs. fs ++ flat_map f rest) n
+
+-- a member that has no number is not there
+pub not_there : (f : ℕ → Tree) (o : Option ℕ) (t : Option Tree) → is_some o ≡ false → option_map f o ≡ t → t ≡ None
+not_there f None t h e = sym e
+not_there f (Some n) t h e = absurd (cc h)
+
+none_at_all : (a b : Bool) → ◌≡◌ {A = List Finding} (cond a [] [] ++ [] ++ cond b [] []) []
+none_at_all true true = refl
+none_at_all true false = refl
+none_at_all false true = refl
+none_at_all false false = refl
+
+-- a city object without children and parents has no links
+pub lists_nobody : (o : Tree) → member_of (chars (codes "children")) o ≡ None
+    → member_of (chars (codes "parents")) o ≡ None → (all : List (Tree × Tree)) (name : Tree)
+    → object_links all (name, o) ≡ []
+lists_nobody o no_children no_parents all name =
+    (λ i. cond (is_group o) [] (flat_map (child all name) (items_if (no_children i)))
+    ++ flat_map (parent all name) (items_if (no_parents i))
+    ++ cond (at_second_level o) (part_of all o (no_parents i)) [])
+    ∙ none_at_all (is_group o) (at_second_level o)

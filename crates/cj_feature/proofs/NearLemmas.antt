@@ -8,11 +8,10 @@ use Rattle.cj_feature.specs.declared.feature.search.near.lists.Lists.{Lists}
 use Rattle.cj_feature.specs.declared.feature.search.near.pending.Pending.{Pending}
 use Rattle.cj_feature.specs.declared.feature.search.near.slot.Held.TheVariants.{Nothing}
 use Rattle.cj_feature.specs.declared.feature.search.near.slot.Slot.{Slot}
-use Rattle.cj_spans.proofs.Marking.{line-of-document}
-use Rattle.cj_feature.proofs.Fitting.{reached-in, reached-out}
+use Rattle.cj_spans.proofs.Noted.{line-of-document}
+use Rattle.cj_feature.proofs.Reaching.{reached-in, reached-out, child-reached, own-reached}
 use Rattle.cj_feature.proofs.LinkFaults.{from-texts}
-use Rattle.cj_feature.proofs.MarkLemmas.{marked-more}
-use Rattle.cj_feature.proofs.Reaching.{child-reached, own-reached}
+use Rattle.cj_feature.proofs.Walking.{marked-more}
 
 -- ---- numbers in a list
 

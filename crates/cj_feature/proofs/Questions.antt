@@ -1,10 +1,10 @@
--- Questions on links, in order.
-use Rattle.cj_feature.proofs.Common.{AreLeft, AreListed, AreQuestionsInOrder, Bool, Equal, Greater, IsFirstOn, Less, List, Node, None, Option, Question, Side, Some, Tree, [], always_returns_same, ap, append_assoc, arith, cases_Bool, cases_eq, cases_lt, compare_keys, compare_sides, drop, false, false_from_ne_true, from_in, inl, inr, is_known, is_lt, key_in, kind_of, length, lists, members_of, ranks_by, refl, same_text, searchable_from_sorted, slice_get_within, slice_set, sorted_far, subst, suc, sym, short_hash_of, take, text_of, text_side, tree, true, ℕ, ◌++◌, ◌+◌, ◌-◌, ◌<◌, ◌||◌, ◌∙◌, ◌∷◌, ◌≡◌, ◌≤◌}
-use Rattle.std.proofs.Common.{get_or, slice_get, slice_index_or, IsSortedBy, drop-set-lt, length-append, get_or-set_other}
+-- Questions on links, in order, and the names that are noted for them.
+use Rattle.cj_feature.proofs.Common.{AreLeft, AreListed, AreQuestionsInOrder, Bool, Equal, Greater, IsFirstOn, Less, List, Node, None, Option, Question, Side, Some, Tree, [], always_returns_same, ap, append_assoc, arith, cases_Bool, cases_eq, cases_lt, compare_keys, compare_sides, drop, false, false_from_ne_true, from_in, inl, inr, is_known, is_lt, key_in, kind_of, length, lists, members_of, ranks_by, refl, same_text, searchable_from_sorted, slice_get_within, slice_set, sorted_far, subst, suc, sym, short_hash_of, take, text_of, text_side, tree, true, ℕ, ◌++◌, ◌+◌, ◌-◌, ◌<◌, ◌||◌, ◌∙◌, ◌∷◌, ◌≡◌, ◌≤◌, AreInNameOrder, Contains, Contains-append_left, Contains-permutation, Err, IsNoted, IsSought, Noted, Ok, Result, side_in, side_of, Finding, LinkNotMutual, NoParent, Reason, and_parts, answered, back_of, chars, children, codes, cond, flat_map, has_item, is_array, is_text, items_if, least, linked, list_any, listed_in, not, object_links, one, parents, part, part_of, ◌&&◌}
+use Rattle.std.proofs.Common.{get_or, slice_get, slice_index_or, IsSortedBy, drop-set-lt, length-append, get_or-set_other, is_ok, IsPermutation}
 use Rattle.std.specs.Cmp.{IsStrictWeakOrder, IsTotalOrder, nat_cmp_total, on_total, then_total, tied_itself}
 use Rattle.std.specs.Cmp.Lexicographic.{nat_list_cmp_total, options_total}
 use Rattle.std.specs.Fn.{Called, ComparesAs}
-use Rattle.std.specs.List.Sorted.{IsPartitionedBy, IsPartitionPoint}
+use Rattle.std.specs.List.Sorted.{IsPartitionedBy, IsPartitionPoint, IsBinarySearchResult}
 use Rattle.std.specs.Ordering.{ordering_index}
 use Rattle.std.specs.declared.cmp.Ordering.{Ordering}
 use Rattle.std.proofs.lemmas.List.{drop_more, take_more_set, get_or_append_left, get_or-append_right}
@@ -13,9 +13,17 @@ use denote.Ref.{Bor}
 use Rattle.cj_spans.specs.declared.token.Kind.TheVariants.{Text}
 use Rattle.cj_feature.specs.declared.feature.search.hashed.Text.{Text as Hashed}
 use Rattle.cj_spans.specs.Order.{compare_texts}
-use Rattle.cj_geometry.proofs.Initials.{still_free}
+use Rattle.cj_geometry.proofs.Names.{still_free}
 use Rattle.cj_feature.specs.inner.Questions.{Key, key_of, IsPlaceOf, IsQuestion}
-use Rattle.cj_feature.proofs.LinkFaults.{from-texts, known-text, text-cases}
+use Rattle.cj_feature.proofs.LinkFaults.{from-texts, known-text, text-cases, from-any, to-any}
+use Rattle.cj_feature.specs.declared.feature.search.unmarked.Names.{Names}
+use Rattle.cj_feature.specs.declared.feature.search.unmarked.Names.TheVariants.{Every, These}
+use Rattle.std.proofs.lemmas.List.Elements.{Contains-push}
+use Rattle.cj_spans.proofs.Findings.{least-append, least-swap}
+use Rattle.cj_feature.specs.declared.feature.search.link.Link.{Link}
+use Rattle.cj_feature.specs.declared.feature.search.link.Link.TheVariants.{Child, Parent}
+
+-- ---- questions on links, in order
 
 -- ---- a list in order
 
@@ -189,3 +197,143 @@ module _ (objects : Node) (qs : List Question) where
 
 pub unknown : (objects : List (Tree × Tree)) (t : Tree) → (kind_of t ≡ Text → ⊥) → is_known objects t ≡ false
 unknown objects t h = search (arith, false_from_ne_true, known-text, text-cases)
+
+-- ---- names that are noted in order
+
+module _ {X : Type 0} (xs : List X) (c : ℕ) (v : X) (below : c < length xs) where
+  -- what is among the first ones is so with one more
+  pub kept-first : (x : X) → Contains (take c xs) x → Contains (take (c + 1) (slice_set xs c v)) x
+  kept-first x h = rw (take_more_set xs c v below) (Contains-append_left _ _ x h)
+
+  -- and so is that one
+  pub last-first : Contains (take (c + 1) (slice_set xs c v)) v
+  last-first = rw (take_more_set xs c v below) (Contains-push _ v)
+
+module _ (objects : Node) where
+  -- names in another order are the same
+  pub noted-moved : (xs ys : List Noted) (t : Tree) → IsPermutation xs ys → IsNoted objects xs t → IsNoted objects ys t
+  noted-moved xs ys t moved n = (n.0, Contains-permutation xs ys n.0 moved n.1, n.2)
+
+  -- what has the text of a noted name is noted
+  noted-same : (names : List Noted) (t u : Tree) → same_text t u ≡ true → IsNoted objects names t
+      → IsNoted objects names u
+  noted-same names t u same n = search (arith, from-texts)
+
+  pub sought-same : (names : Names) (t u : Tree) → same_text t u ≡ true → IsSought objects names t
+      → IsSought objects names u
+  sought-same Every t u same n = tt
+  sought-same (These names) t u same n = noted-same _ t u same n
+
+  -- no name is noted where there is none
+  pub none-noted : (t : Tree) → IsNoted objects [] t → ⊥
+  none-noted t n = omega (arith, n.1.1)
+
+  -- where a search by halves finds none, no name has the text
+  pub not-found : (names : List Noted) (t : Tree) (side : Side) (r : Result ℕ ℕ) → AreInNameOrder objects names
+      → side ≡ side_of (text_of t) → is_ok r ≡ false
+      → IsBinarySearchResult (λ n. compare_sides (side_in objects n) side) names r → IsNoted objects names t → ⊥
+  not-found names t side (Ok i) order e none is n = cc
+  not-found names t side (Err i) order e none is n =
+      let parts = is (searchable_from_sorted sides_total (side_in objects) names side order) in
+      let x : Noted = n.0 in
+      let k : ℕ = n.1.0 in
+      let same : get_or names k x ≡ x = n.1.2 in
+      let equal : compare_sides (side_in objects (get_or names k x)) side ≡ Equal =
+      subst (λ y. compare_sides (side_in objects y) side ≡ Equal) (sym same)
+      (subst (λ s. compare_sides s side ≡ Equal) (e ∙ sym n.2) (tied_itself sides_total side)) in
+      elim (cases_lt k i) [
+        | inl below ↦ let less = parts.0 k x (omega arith) below in
+            cc
+        | inr above ↦ let more = parts.1 k x above n.1.1 in cc
+      ]
+
+-- ---- links in two walks: the children of all city objects, then their parents
+
+-- ---- who lists is in the feature
+
+pub lists_known : (list : List ℕ) (objects : List (Tree × Tree)) (from to : Tree) → lists list objects from to ≡ true
+    → is_known objects from ≡ true
+lists_known list objects from to h =
+    let r = from-any (λ m. same_text m.0 from && has_item (listed_in list m.1) to) objects h in
+    to-any (λ m. same_text m.0 from) objects r.0 r.1 (and_parts _ _ r.2).0
+
+-- what is found on one that is listed, where it is none or an id, and where it is listed back
+abbrev found_on : Bool → Bool → Bool → Tree → List Finding → List Finding
+found_on a b c t missing = cond a (cond b (answered c t) missing) []
+
+nothing_on : (a b c : Bool) (t : Tree) (missing : List Finding) → b ≡ true → c ≡ true → found_on a b c t missing ≡ []
+nothing_on false b c t missing g h = refl
+nothing_on true true true t missing g h = refl
+nothing_on true false c t missing g h = cc
+nothing_on true true false t missing g h = cc
+
+hidden_on : (a b c : Bool) (t : Tree) (missing : List Finding) (o : Option Finding) → least o (one LinkNotMutual t) ≡ o
+    → o ≡ least o missing → o ≡ least o (found_on a b c t missing)
+hidden_on false b c t missing o hidden none = refl
+hidden_on true false c t missing o hidden none = none
+hidden_on true true true t missing o hidden none = refl
+hidden_on true true false t missing o hidden none = sym hidden
+
+-- what is listed back has no finding
+pub listed_linked : (k : Link) (objects : List (Tree × Tree)) (name item : Tree) (o : Option Finding)
+    → lists (back_of k) objects item name ≡ true → o ≡ least o (linked k objects name item)
+listed_linked k objects name item o h = ap (least o) (sym (go k h))
+  where
+    go : (k : Link) → lists (back_of k) objects item name ≡ true → linked k objects name item ≡ []
+    go Child h = nothing_on (is_text (kind_of item)) _ _ item _ (lists_known (back_of Child) objects item name h) h
+    go Parent h = nothing_on true _ _ item [] (lists_known (back_of Parent) objects item name h) h
+
+-- and what comes behind a finding has none that counts
+pub hidden_linked : (k : Link) (objects : List (Tree × Tree)) (name item : Tree) (o : Option Finding)
+    → ((r : Reason) → least o (one r item) ≡ o) → o ≡ least o (linked k objects name item)
+hidden_linked Child objects name item o hidden = search (arith, hidden_on)
+hidden_linked Parent objects name item o hidden = search (arith, hidden_on)
+
+-- ---- a part with a parent that is in the feature
+
+closed : (a : Bool) (fs : List Finding) → cond (a && false) fs [] ≡ []
+closed true fs = refl
+closed false fs = refl
+
+either_none : (a : Bool) (fs : List Finding) → fs ≡ [] → cond a fs [] ≡ []
+either_none true fs h = h
+either_none false fs h = refl
+
+known_parent : (objects : List (Tree × Tree)) (o : Tree) (w : Option Tree)
+    → list_any (is_known objects) (items_if w) ≡ true → part_of objects o w ≡ []
+known_parent objects o None h = refl
+known_parent objects o (Some t) h = ap (λ b. cond (is_array (kind_of t) && not b) (one NoParent o) []) h
+    ∙ closed _ _
+
+pub known_part : (objects : List (Tree × Tree)) (m : Tree × Tree)
+    → list_any (is_known objects) (listed_in (chars (codes "parents")) m.1) ≡ true → part objects m ≡ []
+known_part objects m h = search (arith, either_none, known_parent)
+
+-- ---- two walks
+
+-- the parents of a city object, and that a part has one
+abbrev pub parents_and_part : List (Tree × Tree) → Tree × Tree → List Finding
+parents_and_part objects m = parents objects m ++ part objects m
+
+comm : (o : Option Finding) (fs gs : List Finding) → least (least o fs) gs ≡ least (least o gs) fs
+comm o fs gs = sym (least-append o fs gs) ∙ least-swap o fs gs ∙ least-append o gs fs
+
+-- two walks tell what one does
+pub walks : (objects ms : List (Tree × Tree)) (o : Option Finding)
+    → least (least o (flat_map (children objects) ms)) (flat_map (parents_and_part objects) ms)
+    ≡ least o (flat_map (object_links objects) ms)
+walks objects [] o = refl
+walks objects (m ∷ ms) o =
+    let c = children objects m in
+    let p = parents objects m in
+    let q = part objects m in
+    let cs = flat_map _ ms in
+    let ps = flat_map _ ms in
+    let all = flat_map _ ms in
+    ap (λ x. least x ((p ++ q) ++ ps)) (least-append o c cs)
+    ∙ least-append _ (p ++ q) ps
+    ∙ ap (λ x. least x ps) (comm _ cs (p ++ q))
+    ∙ walks objects ms _
+    ∙ ap (λ x. least x all) (least-append _ p q ∙ ap (λ x. least x q) (sym (least-append o c p))
+    ∙ sym (least-append o (c ++ p) q))
+    ∙ sym (least-append o (c ++ p ++ q) all)

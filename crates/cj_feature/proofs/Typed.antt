@@ -1,8 +1,16 @@
--- Where the rules on vertices find nothing, vertices have three whole numbers.
-use Rattle.cj_feature.proofs.Common.{DecimalFault, Err, IfSome, IsWordOf, List, None, NotThree, Number, Ok, Option, Result, Some, Tree, [], ap, are_one, are_three, are_two, arith, as_whole, begins_whole, cases_lt, decimal_of, drop, drop-map, drop_all, eqb-true, flat_map, is_number, is_vertex, items_of, kind_of, length, list_all, map, nat_eq, number_on, of_length, one, option_and_then, pos, refl, result_ok, spelling, suc, sym, take, true, value_findings, vertex_list, vertex_of, whole_findings, whole_number, whole_of, zero, ℕ, ℤ, ◌<◌, ◌∙◌, ◌∷◌, ◌≡◌, ◌≤◌}
+-- Vertices of three whole numbers, and the maps of axes.
+use Rattle.cj_feature.proofs.Common.{DecimalFault, Err, IfSome, IsWordOf, List, None, NotThree, Number, Ok, Option, Result, Some, Tree, [], ap, are_one, are_three, are_two, arith, as_whole, begins_whole, cases_lt, decimal_of, drop, drop-map, drop_all, eqb-true, flat_map, is_number, is_vertex, items_of, kind_of, length, list_all, map, nat_eq, number_on, of_length, one, option_and_then, pos, refl, result_ok, spelling, suc, sym, take, true, value_findings, vertex_list, vertex_of, whole_findings, whole_number, whole_of, zero, ℕ, ℤ, ◌<◌, ◌∙◌, ◌∷◌, ◌≡◌, ◌≤◌, Bool, and_parts, chars, codes, false, option_map, units_of}
 use Rattle.cj_spans.specs.Forest.{total_size}
-use Rattle.cj_geometry.proofs.Lone.{whole-size}
-use Rattle.cj_feature.proofs.None.{holds, kind-none, none-both, none-each}
+use Rattle.cj_geometry.proofs.Arrays.{whole-size}
+use Rattle.cj_feature.proofs.Rules.{holds, kind-none, none-both, none-each}
+use Rattle.std.proofs.Common.{get_or}
+use Rattle.cj_decimal.specs.Meaning.Affine.{AffineMap}
+use Rattle.cj_feature.specs.declared.header.reading.HeaderParts.{HeaderParts}
+use Rattle.cj_feature.specs.Axes.{AreThere, first_maps, maps_of}
+use Rattle.cj_feature.specs.Meaning.Transform.{transform_values}
+use Rattle.cj_feature.specs.Shown.{ArePartsOf, maps_if}
+
+-- ---- where the rules on vertices find nothing, vertices have three whole numbers
 
 -- ---- vertices
 
@@ -109,3 +117,49 @@ module _ (axis : ℕ) (t : Tree) (is : is_vertex t ≡ true) (within : axis < 3)
         → IfSome o (λ w. (n : ℕ) × IsWordOf w n × (number_on axis (vertex_of t) ≡ pos n))
     word-on-if None read = read
     word-on-if (Some w) read = search (arith, number-begins, drop-map)
+
+-- ---- the maps that a header shows are of numbers that it has, and so are the numbers of a feature's vertices
+
+-- ---- maps
+
+first-there : (ns ms : List Number) (axis : ℕ) (d : AffineMap) → axis < length (first_maps (map Some ns) (map Some ms))
+    → (option_map units_of (get_or (map Some ns) axis None)
+    ≡ Some (get_or (first_maps (map Some ns) (map Some ms)) axis d).scale)
+    × (option_map units_of (get_or (map Some ms) axis None)
+    ≡ Some (get_or (first_maps (map Some ns) (map Some ms)) axis d).shift)
+first-there [] ms axis d h = absurd (omega arith)
+first-there (a ∷ []) ms axis d h = absurd (omega arith)
+first-there (a ∷ b ∷ ns) [] axis d h = absurd (omega arith)
+first-there (a ∷ b ∷ ns) (c ∷ []) axis d h = absurd (omega arith)
+first-there (a ∷ b ∷ ns) (c ∷ e ∷ ms) zero d h = (refl, refl)
+first-there (a ∷ b ∷ ns) (c ∷ e ∷ ms) (suc zero) d h = (refl, refl)
+first-there (a ∷ b ∷ ns) (c ∷ e ∷ ms) (suc (suc axis)) d h = absurd (omega arith)
+
+of-lists : (t : Tree) (ns ms : List Number) → transform_values (chars (codes "scale")) t ≡ map Some ns
+    → transform_values (chars (codes "translate")) t ≡ map Some ms → AreThere t (maps_of t)
+of-lists t ns ms e f = search (arith, first-there)
+
+shown : (b : Bool) (t : Tree) (maps : List AffineMap) → maps_if b t ≡ Some maps → maps_of t ≡ maps
+shown true t maps h = cc
+shown false t maps h = absurd (cc h)
+
+-- the maps of a header's parts, if it was judged for a box
+pub if-there : (t : Tree) (parts : HeaderParts) → ArePartsOf t parts → IfSome parts.maps (λ maps. AreThere t maps)
+if-there t parts are = search (arith, shown, of-lists)
+
+-- ---- numbers of vertices
+
+number-there : (axis : ℕ) (ws : List (Option ℤ)) → begins_whole (drop axis ws) ≡ true
+    → Some (number_on axis ws) ≡ get_or ws axis None
+number-there zero [] h = absurd (cc h)
+number-there zero (None ∷ ws) h = absurd (cc h)
+number-there zero (Some x ∷ ws) h = refl
+number-there (suc axis) [] h = absurd (cc h)
+number-there (suc axis) (w ∷ ws) h = number-there axis ws h
+
+-- each vertex has a number on each axis
+pub numbers-there : (axis : ℕ) → axis < 3 → (ts : List Tree) → list_all is_vertex ts ≡ true
+    → map Some (map (number_on axis) (map vertex_of ts)) ≡ map (λ v. get_or v axis None) (map vertex_of ts)
+numbers-there axis within [] h = refl
+numbers-there axis within (t ∷ ts) h =
+    search (arith, and_parts, number-there, three-begin, numbers-there axis within ts)

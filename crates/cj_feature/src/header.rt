@@ -123,7 +123,7 @@ impl<'a> Header<'a> {
 
     /// Returns the templates, by the steps of an earlier walk. If there is no list of them, it
     /// searches for none.
-    #[tactic(auto, using(crate::proofs::Listed::no_list))]
+    #[tactic(auto, using(crate::proofs::Rules::no_list))]
     fn stepped_templates(&self, parts: &'a HeaderParts) -> Templates<'a>
         requires { ArePartsOf (document self.now.doc) parts.now }
         ensures given { given result ≡ templates_of (document self.now.doc) }

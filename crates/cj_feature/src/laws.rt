@@ -37,7 +37,7 @@ pub fn fixed_numbers_are_fixed()
 {}
 
 /// The numbers that headers and features show are the values of their spellings.
-#[tactic(auto, using(crate::proofs::Values::number_values))]
+#[tactic(auto, using(crate::proofs::Rules::number_values))]
 pub fn numbers_have_their_values()
     ensures value { (t : Tree) (v : Number) → value_of t ≡ Some v → IsValue (spelling t) v }
     ensures whole { (t : Tree) (w : ℤ) → whole_of t ≡ Some w

@@ -4,10 +4,8 @@ use Rattle.std.proofs.lemmas.Grind.{common_steps}
 use Rattle.std.proofs.lemmas.List.{get_or-map, length-map, map-append, take_more_set}
 use Rattle.std.proofs.lemmas.List.Elements.{All-contains, All-head, All-tail, All-push, All-map, Contains-get_or, Contains-append_left, Contains-append_right, Contains-append_cases, Contains-push, All-contains_itself}
 use Rattle.std.proofs.lemmas.List.Sorted.{length_permutation, Contains-permutation, IsPermutation-sym}
-use Rattle.cj_geometry.proofs.Ordered.{earlier_itself, earlier_not_back, on_upto, upto_upto, both_sides, none_true}
-use Rattle.cj_geometry.proofs.WordedNames.{less_as_earlier}
-use Rattle.cj_geometry.proofs.Neighbours.{contains_cases, contains_first, contains_later, contains_none, IsPast, HaveNoGap, past_above, none_past, last_past}
-use Rattle.cj_geometry.proofs.Distinct.{AreNext, left_above, fewer_left}
+use Rattle.cj_geometry.proofs.Names.{earlier_itself, earlier_not_back, on_upto, upto_upto, both_sides, none_true, contains_cases, contains_first, contains_later, contains_none, IsPast, HaveNoGap, past_above, none_past, last_past}
+use Rattle.cj_geometry.proofs.Distinct.{less_as_earlier, AreNext, left_above, fewer_left}
 
 -- ---- lists
 

@@ -33,7 +33,7 @@ fn check_indices(node: Node, vertices: Bound, found: &mut Least)
 
 /// Checks that the value is a list of such lists: a surface of rings.
 #[inline(always)]
-#[tactic(auto, using(crate::proofs::OfKind::finding_steps))]
+#[tactic(auto, using(crate::proofs::Values::finding_steps))]
 fn check_rings(node: Node, vertices: Bound, found: &mut Least)
     ensures { found.new ≡ least found.old (shape vertices.count 2 (tree node.entry)) }
 {
@@ -49,7 +49,7 @@ fn check_rings(node: Node, vertices: Bound, found: &mut Least)
 
 /// Checks that the value has lists of this depth, and below them indices of vertices. Most lists
 /// are in surfaces, which it reads without a call for each.
-#[tactic(auto, using(crate::proofs::OfKind::finding_steps, crate::proofs::Shapes::shape_facts))]
+#[tactic(auto, using(crate::proofs::Values::finding_steps, crate::proofs::Values::shape_facts))]
 fn check_shape(node: Node, depth: u8, vertices: Bound, found: &mut Least)
     ensures { found.new ≡ least found.old (shape vertices.count depth (tree node.entry)) }
 {

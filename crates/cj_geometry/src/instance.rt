@@ -67,7 +67,7 @@ fn check_matrix_member(object: Node, found: &mut Least)
 }
 
 /// Checks an instance of one of this number of templates.
-#[tactic(auto, using(crate::proofs::OfKind::finding_steps))]
+#[tactic(auto, using(crate::proofs::Values::finding_steps))]
 pub fn check_instance(object: Node, templates: u64, vertices: Option<u64>, found: &mut Least)
     ensures { found.new ≡ least found.old (instance_rules vertices templates (tree object.entry)) }
 {

@@ -70,7 +70,7 @@ fn lod_of_template<'a>(node: Node, templates: Templates<'a>) -> Option<Node<'a>>
 /// Returns the level of detail of a geometry: its `lod`, or for an instance the one of its
 /// template. None if there is none. [`crate::Lods`] finds those of many instances faster.
 #[inline(always)]
-#[tactic(auto, using(crate::proofs::Places::line_if))]
+#[tactic(auto, using(crate::proofs::Values::line_if))]
 pub fn lod_of<'a>(node: Node<'a>, templates: Templates<'a>) -> Option<Node<'a>>
     ensures lod { option_map tree result ≡ lod (given templates.entry) (tree node.entry) }
     ensures line { IfSome result (λ n. Some (line_of n)

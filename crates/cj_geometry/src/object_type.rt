@@ -208,7 +208,7 @@ impl ObjectType {
     }
 
     /// Returns its number, from 0 to 32, in the order of the table.
-    #[tactic(auto, using(crate::proofs::ObjectTypes::type_facts))]
+    #[tactic(auto, using(crate::proofs::Values::type_facts))]
     pub fn number(self) -> u8
         ensures number { result ≡ (row_at self).number }
         ensures below { result < ObjectType.COUNT }

@@ -56,7 +56,7 @@ pub fn add(node: Node, reason: Reason, found: &mut Least)
 
 /// Returns whether the finding so far is before this value. Then no finding at the value is
 /// reported.
-#[tactic(auto, using(crate::proofs::Repeats::found_before))]
+#[tactic(auto, using(crate::proofs::Names::found_before))]
 #[inline(always)]
 pub fn is_found_before(found: Least, node: Node) -> bool
     ensures { IsTrue result → (r : ReasonOf) → least found (one r (tree node.entry)) ≡ found }

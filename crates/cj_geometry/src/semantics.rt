@@ -97,7 +97,7 @@ fn is_entry(node: Node, surfaces: Bound) -> bool
 /// Returns how many items at the front of an array are such values, in the way of
 /// [`count_indices`](crate::rule::count_indices). None of them has a finding.
 #[inline(always)]
-#[tactic(auto, using(crate::proofs::Lone::lone_facts))]
+#[tactic(auto, using(crate::proofs::Arrays::lone_facts))]
 fn count_entries(node: Node, surfaces: Bound) -> u32
     ensures lone { AreLone result (items_of (tree node.entry)) }
     ensures none { flat_map (entry surfaces.count) (take result (items_of (tree node.entry))) ≡ [] }
@@ -120,7 +120,7 @@ fn count_entries(node: Node, surfaces: Bound) -> u32
 ///
 /// It first counts the valid entries at the front, in a loop that does nothing else. The parts are
 /// counted by a walk of their own.
-#[tactic(auto, using(crate::proofs::OfKind::finding_steps))]
+#[tactic(auto, using(crate::proofs::Values::finding_steps))]
 fn check_entries(node: Node, part: Option<Node>, surfaces: Bound, found: &mut Least)
     ensures { found.new
         ≡ least found.old
@@ -139,7 +139,7 @@ fn check_entries(node: Node, part: Option<Node>, surfaces: Bound, found: &mut Le
 
 /// Checks that the values have this depth, for a part of the boundaries, and below it indices of
 /// surfaces.
-#[tactic(auto, using(crate::proofs::OfKind::finding_swaps, crate::proofs::Shapes::shape_facts))]
+#[tactic(auto, using(crate::proofs::Values::finding_swaps, crate::proofs::Values::shape_facts))]
 fn check_values(node: Node, part: Option<Node>, depth: u8, surfaces: Bound, found: &mut Least)
     ensures { found.new ≡ least found.old (values surfaces.count depth (tree node.entry) (option_map tree part.entry)) }
 {
@@ -169,7 +169,7 @@ fn check_values(node: Node, part: Option<Node>, depth: u8, surfaces: Bound, foun
 }
 
 /// Checks that the value is an object with a type.
-#[tactic(auto, using(crate::proofs::OfKind::finding_steps))]
+#[tactic(auto, using(crate::proofs::Values::finding_steps))]
 fn check_surface(node: Node, found: &mut Least)
     ensures { found.new ≡ least found.old (surface (tree node.entry)) }
 {
@@ -180,7 +180,7 @@ fn check_surface(node: Node, found: &mut Least)
 }
 
 /// Checks that the value is an array of surfaces.
-#[tactic(auto, using(crate::proofs::OfKind::finding_steps))]
+#[tactic(auto, using(crate::proofs::Values::finding_steps))]
 fn check_surfaces(node: Node, found: &mut Least)
     ensures { found.new ≡ least found.old (surfaces (tree node.entry)) }
 {
@@ -228,7 +228,7 @@ fn check_values_member(object: Node, boundaries: Option<Node>, depth: u8, found:
 }
 
 /// Checks that the value is a semantics object of this depth for the boundaries.
-#[tactic(auto, using(crate::proofs::OfKind::finding_steps))]
+#[tactic(auto, using(crate::proofs::Values::finding_steps))]
 fn check_semantics(node: Node, boundaries: Option<Node>, depth: u8, found: &mut Least)
     ensures { found.new ≡ least found.old (semantics depth (option_map tree boundaries.entry) (tree node.entry)) }
 {

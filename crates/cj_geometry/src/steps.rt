@@ -56,7 +56,7 @@ fn note_sizes(list: Node, step: u64, sizes: &mut [u32])
 
 /// Returns the item of a number below the count. `sizes` are the records at each multiple of
 /// `step`.
-#[tactic(auto, using(crate::proofs::ListSteps::found_item))]
+#[tactic(auto, using(crate::proofs::Arrays::found_item))]
 fn item_behind<'a>(list: Node<'a>, step: u64, sizes: &[u32], number: u64) -> Option<Node<'a>>
     requires some { 0 < step }
     requires sizes { AreSizesAt step (items_of (tree list)) sizes.now }
@@ -98,7 +98,7 @@ impl Steps {
     }
 
     /// Returns the item with this number, from 0. `list` is the list of these steps.
-    #[tactic(auto, using(crate::proofs::ListSteps::step_of))]
+    #[tactic(auto, using(crate::proofs::Arrays::step_of))]
     pub(crate) fn item<'a>(&self, list: Node<'a>, number: u64) -> Option<Node<'a>>
         requires { AreStepsOf (items_of (tree list)) self.now }
         ensures item { option_map tree result ≡ slice_get (items_of (tree list.entry)) number }
@@ -126,7 +126,7 @@ impl Steps {
 
 impl FinerSteps {
     /// Returns the item with this number, from 0. `list` is the list of these steps.
-    #[tactic(auto, using(crate::proofs::ListSteps::finer_step_of))]
+    #[tactic(auto, using(crate::proofs::Arrays::finer_step_of))]
     pub(crate) fn item<'a>(&self, list: Node<'a>, number: u64) -> Option<Node<'a>>
         requires { AreFinerStepsOf (items_of (tree list)) self.now }
         ensures item { option_map tree result ≡ slice_get (items_of (tree list.entry)) number }

@@ -5,13 +5,10 @@ use Rattle.std.proofs.lemmas.List.{get_or-append-add}
 use Rattle.std.proofs.Math.ListN.{get_or-append}
 use Rattle.cj_spans.specs.Meaning.Begins.{BeginsText, IsFirstFault, IsFirstTooDeep}
 use Rattle.cj_spans.proofs.Spellings.{some_same, stepped, lex_run, can_end}
-use Rattle.cj_spans.proofs.Lists.{slice_get-append, slice_get-seam, get_before, rise-nest}
-use Rattle.cj_spans.proofs.Runs.{IsEnd, colon, bracket, brace, Arrives, arrive_on, arrived, settled, settled_step, idle, BeginsName}
-use Rattle.cj_spans.proofs.Follows.{run_json}
+use Rattle.cj_spans.proofs.Lists.{slice_get-append, slice_get-seam, get_before, rise-nest, run_json}
+use Rattle.cj_spans.proofs.Facts.{IsEnd, colon, bracket, brace, Arrives, arrive_on, arrived, settled, settled_step, idle, BeginsName, next_place, same_state, lawful_reaches, state_before}
 use Rattle.cj_spans.proofs.Atoms.{atom_goes}
-use Rattle.cj_spans.proofs.Sound.{with_name, Context, root, in_array, in_member, Inv, ready, first_item, after_tree, first_name, next_name, after_name, in_scalar, in_name, inv_reaches}
-use Rattle.cj_spans.proofs.Facts.{next_place, same_state, lawful_reaches, state_before}
-use Rattle.cj_spans.proofs.Fronts.{front_runs, inv_front}
+use Rattle.cj_spans.proofs.Sound.{with_name, Context, root, in_array, in_member, Inv, ready, first_item, after_tree, first_name, next_name, after_name, in_scalar, in_name, inv_reaches, front_runs, inv_front}
 use Rattle.cj_spans.proofs.Verdicts.{spells, nest_of, sinks_deep, fronts_below, syntax_within}
 
 -- ---- lines that have the same bytes up to a place

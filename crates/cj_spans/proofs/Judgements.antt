@@ -1,11 +1,12 @@
--- Each line is a JSON text within the depth limit, or has the place of a fault: the machine finds out which.
-use Rattle.cj_spans.proofs.Common.{◌≡◌, ℕ, zero, suc, ◌+◌, ◌<◌, ◌≤◌, List, [], ◌∷◌, length, Bool, true, false, Option, Some, None, refl, sym, ap, arith, ◌∙◌, inl, inr, ltb, ltb-true, nat_tests, Token, After, byte, Json, Tree, nest, SyntaxAt, DeepAt, NowhereDeep, Judgement, spelled, broken, sunk, SaySame, IsReservedAnswerOf, LineFault, Syntax, TooDeep, Phase, State, state, between, start, step, settle, Reaches, here, on, Sticks}
+-- The judgement on a line, the most containers that are open, and worked lines.
+use Rattle.cj_spans.proofs.Common.{◌≡◌, ℕ, zero, suc, ◌+◌, ◌<◌, ◌≤◌, List, [], ◌∷◌, length, Bool, true, false, Option, Some, None, refl, sym, ap, arith, ◌∙◌, inl, inr, ltb, ltb-true, nat_tests, Token, After, byte, Json, Tree, nest, SyntaxAt, DeepAt, NowhereDeep, Judgement, spelled, broken, sunk, SaySame, IsReservedAnswerOf, LineFault, Syntax, TooDeep, Phase, State, state, between, start, step, settle, Reaches, here, on, Sticks, ◌⊎◌, Err, cases_lt, BoundedList, JsonPrefix, white, IsDeepest, HasPeakAt, option_and_then, IsSomeAnd}
 use Rattle.std.specs.Prelude.{IsOk, IsErrOf, Result}
 use Rattle.cj_spans.proofs.Spellings.{none_some, some_same}
-use Rattle.cj_spans.proofs.Facts.{next_place, lawful_reaches, goes}
-use Rattle.cj_spans.proofs.Runs.{settled}
-use Rattle.cj_spans.proofs.Sound.{inv_reaches}
-use Rattle.cj_spans.proofs.Verdicts.{spells, nest_of, sticks_syntax, sticks_nowhere, sinks_deep, json_only, one_deep, one_syntax, json_no_syntax, json_nowhere}
+use Rattle.cj_spans.proofs.Facts.{next_place, lawful_reaches, goes, settled}
+use Rattle.cj_spans.proofs.Sound.{inv_reaches, no_white, inv_front}
+use Rattle.cj_spans.proofs.Verdicts.{spells, nest_of, sticks_syntax, sticks_nowhere, sinks_deep, json_only, one_deep, one_syntax, json_no_syntax, json_nowhere, Ran, ran_sinks, ran_sticks, not_deeper, Spells}
+
+-- ---- each line is a JSON text within the depth limit, or has the place of a fault: the machine finds out which
 
 -- ---- the machine over a whole line
 
@@ -126,3 +127,108 @@ pub answer_of : {b : List ℕ} {d : ℕ} (j : Judgement b d) (r : Result (Unit {
 answer_of (spelled t j n) r tree deep syntax = tree t j n
 answer_of (broken i s n) r tree deep syntax = syntax n i s
 answer_of (sunk i s) r tree deep syntax = deep i s
+
+-- ---- the most containers that are open in what a pass over a line has read
+
+-- behind some of the bytes that the machine has read, as many containers are open as it tells
+record DeepestFront (b : List ℕ) (s : State) : Type 0 where
+  place : ℕ
+  within : place ≤ s.place
+  front : JsonPrefix b 0 place s.deepest
+
+deepest_front : {b : List ℕ} {s : State} → Reaches b start s → DeepestFront b s
+deepest_front {b} here = grind (arith, white, no_white)
+deepest_front {b} (on t v r h) =
+    let g = goes v (byte b t.place) (lawful_reaches r) h in
+    elim (cases_lt t.deepest (length v.stack)) [
+      | inl l ↦
+          let e : length v.stack ≡ v.deepest = omega arith in
+          record {
+            place = v.place;
+            within = omega arith;
+            front = rw (← e) (inv_front (inv_reaches (on t v r h)));
+          }
+      | inr l ↦
+          let f = deepest_front r in
+          let e : t.deepest ≡ v.deepest = omega arith in
+          record {
+            place = f.place;
+            within = omega arith;
+            front = rw (← e) f.front;
+          }
+    ]
+
+deepest_at : {b : List ℕ} {s : State} {i : ℕ} → Reaches b start s → s.place ≡ i → IsDeepest b i s.deepest
+deepest_at r e = grind (arith, deepest_front, not_deeper)
+
+-- the clause of the scan, with the peak that the stack had before it was emptied
+pub ran_peak : {b : List ℕ} {old new : BoundedList Token} {old_stack new_stack : BoundedList ℕ}
+    {r : Result (Unit {0}) LineFault} (h : Ran b old new old_stack new_stack r) (i : ℕ)
+    → (r ≡ Err (Syntax i)) ⊎ (r ≡ Err (TooDeep i)) → HasPeakAt b i old_stack new_stack
+ran_peak h i (inl e) = grind (arith, ran_sticks, deepest_at)
+ran_peak h i (inr e) = grind (arith, ran_sinks, deepest_at)
+
+-- the same from a peak that is no other
+pub peak_from : {b : List ℕ} {i : ℕ} (old empty : BoundedList ℕ) {new : BoundedList ℕ} → empty.peak ≡ old.peak
+    → HasPeakAt b i empty new
+    → HasPeakAt b i old new
+peak_from old empty e h = grind (arith, h.deepest, h.counted)
+
+-- ---- worked lines: the machine's run is computed, and gives the place
+
+-- the state after n bytes
+abbrev pub after : List ℕ → ℕ → Option State
+after b zero = Some start
+after b (suc n) = option_and_then (λ s. step (byte b n) s) (after b n)
+
+record Run (b : List ℕ) (n : ℕ) (s : State) : Type 0 where
+  reached : Reaches b start s
+  place : s.place ≡ n
+
+run_next : {b : List ℕ} {n : ℕ} {t : State} (s : State) → Run b n t → step (byte b n) t ≡ Some s → Run b (suc n) s
+run_next {b} {t} s r h =
+    let q : step (byte b t.place) t ≡ Some s = cc (r.place, h) in
+    record { reached = on t s r.reached q; place = next_place s r.reached q ∙ ap suc r.place }
+
+run_last : {b : List ℕ} (n : ℕ) (s : State) (o : Option State) → ((t : State) → o ≡ Some t → Run b n t)
+    → option_and_then (λ t. step (byte b n) t) o ≡ Some s → Run b (suc n) s
+run_last n s None r h = none_some s h
+run_last n s (Some t) r h = run_next s (r t refl) h
+
+run : (b : List ℕ) (n : ℕ) (s : State) → after b n ≡ Some s → Run b n s
+run b zero s h = grind (arith, some_same, here)
+run b (suc n) s h = run_last n s (after b n) (λ t e. run b n t e) h
+
+pub syntax_inside : (b : List ℕ) (n : ℕ) (s : State) → after b n ≡ Some s → n < length b → step (byte b n) s ≡ None
+    → SyntaxAt b n
+syntax_inside b n s h l stop =
+    let r = run b n s h in
+    sticks_syntax (record {
+      last = s;
+      reached = r.reached;
+      at = r.place;
+      within = omega arith;
+      stuck = inl (l, stop);
+    })
+
+pub syntax_end : (b : List ℕ) (n : ℕ) (s : State) → after b n ≡ Some s → n ≡ length b
+    → ((ts : List Token) (p : ℕ) → settle s ≡ Some (state (between After) [] ts (length b) p) → ⊥) → SyntaxAt b n
+syntax_end b n s h l stop =
+    let r = run b n s h in
+    sticks_syntax (record {
+      last = s;
+      reached = r.reached;
+      at = r.place;
+      within = omega arith;
+      stuck = inr (l, stop);
+    })
+
+pub deep_inside : (b : List ℕ) (n d : ℕ) (s : State) → after b n ≡ Some s → n < length b → s.deepest ≤ d
+    → IsSomeAnd (step (byte b n) s) (λ u. length u.stack ≡ suc d) → DeepAt b d n
+deep_inside b n d s h l g stop =
+    let r = run b n s h in
+    sinks_deep (record { last = s; reached = r.reached; at = r.place; within = l; shallow = g; deep = stop })
+
+pub spells_end : (b : List ℕ) (s : State) (us : List Token) (p : ℕ) → after b (length b) ≡ Some s
+    → settle s ≡ Some (state (between After) [] us (length b) p) → Spells b us
+spells_end b s us p h e = grind (arith, spells, inv_reaches, run)

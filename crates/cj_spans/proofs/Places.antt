@@ -3,7 +3,7 @@ use Rattle.cj_spans.proofs.Common.{◌≡◌, ℕ, suc, ◌+◌, ◌-◌, ◌<�
 use Rattle.std.proofs.lemmas.Bool.{eqb-true}
 use Rattle.cj_spans.proofs.Spellings.{none_some, some_same, lex_run, reading, reading_sound, reading_whole, reading-more, reading-append, reading-prefix, stepped, kind_of_lex, kind_done, run_kind, can_end}
 use Rattle.cj_spans.proofs.Atoms.{continues_reaches}
-use Rattle.cj_spans.proofs.Runs.{IsEnd, space, white_end, Arrives, BeginsName, idle}
+use Rattle.cj_spans.proofs.Facts.{IsEnd, space, white_end, Arrives, BeginsName, idle}
 
 -- the bytes from i to k begin a scalar, and x is how far it is
 pub record InAtom (b : List ℕ) (i k : ℕ) (x : Lex) : Type 0 where

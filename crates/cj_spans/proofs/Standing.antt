@@ -2,8 +2,7 @@
 use Rattle.cj_spans.proofs.Common.{◌≡◌, ℕ, suc, ◌+◌, ◌*◌, ◌/◌, ◌^◌, ◌<◌, ◌≤◌, List, [], ◌∷◌, ◌++◌, length, max, Bool, false, IsTrue, Option, Some, None, Err, refl, sym, ap, subst, arith, ◌∙◌, inl, inr, IsSomeAnd, BoundedList, IsWithin, Becomes, LineFault, NotUtf8, Syntax, TooDeep, Token, Mode, Ready, FirstItem, After, FirstName, NextName, AfterName, Move, Next, byte, KeepsLaw, State, state, step, read, Reaches, here, on, start, ComesTo, Sticks, phase_after, deepest_after, Answers, EndAnswers, Kept, Grown, BeginsValue, BeginsName, BeginsAtom, SticksAt, RunAnswers, Standing, common_steps}
 use Rattle.cj_spans.specs.declared.step.Move.TheVariants.{Stay, To, Open, Atom}
 use Rattle.cj_spans.proofs.Spellings.{some_same}
-use Rattle.cj_spans.proofs.Runs.{idle, Settled, settled, same_mode}
-use Rattle.cj_spans.proofs.Facts.{IsLawful, goes, lawful_reaches, lawful_settles, reaches_both}
+use Rattle.cj_spans.proofs.Facts.{idle, Settled, settled, same_mode, IsLawful, goes, lawful_reaches, lawful_settles, reaches_both}
 
 -- ---- the beginning
 

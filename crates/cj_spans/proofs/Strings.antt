@@ -1,10 +1,114 @@
--- The characters between the quotes of a string stand for code points.
-use Rattle.cj_spans.proofs.Common.{◌≡◌, ℕ, zero, suc, ◌<◌, ◌≤◌, List, [], ◌∷◌, ◌++◌, length, get_or, Bool, true, false, ◌&&◌, inl, inr, nat_eq, refl, sym, ap, subst, arith, ◌∙◌, length-append, take-length, first_so, second_so, append-nil, take-append-le, nat_tests, encode_utf8, is_plain, is_escape, is_hex, IsBody, nothing, plain as plain_byte, escape, unicode, IsString, char_of, four_digits, unit, is_unicode, is_pair, body_of, common_steps}
+-- Strings: their code points, their first ones as a number, and letters beyond ASCII.
+use Rattle.cj_spans.proofs.Common.{◌≡◌, ℕ, suc, ◌+◌, ◌*◌, ◌/◌, ◌<◌, ◌≤◌, ◌^◌, List, [], ◌∷◌, false, nat_eq, get_or, length, Option, Some, None, inl, inr, refl, arith, ◌∙◌, mul-le-mul_right, Less, cases_order, AreAlike, code_points_from, compare, compare_texts, digits, front_word, zero, ◌++◌, Bool, true, ◌&&◌, sym, ap, subst, length-append, take-length, first_so, second_so, append-nil, take-append-le, nat_tests, encode_utf8, is_plain, is_escape, is_hex, IsBody, nothing, plain as plain_byte, escape, unicode, IsString, char_of, four_digits, unit, is_unicode, is_pair, body_of, common_steps, ◌-◌, ◌%◌, map, take, drop, cond, ltb, replicate, take-add, drop_more, count_trailing_zeros, IsAscii, byte}
+use Rattle.std.specs.Int.{from_be_bytes, w64}
+use Rattle.cj_spans.proofs.Texts.{chars_past, plain_code, points_done}
 use Rattle.std.proofs.lemmas.Bool.{cases_lt, eqb-true}
-use Rattle.std.proofs.lemmas.Str.{encode_ascii, inside_one, cons_from_encodes, chars-encodes, IsUtf8-past_char, IsUtf8-take, IsCharBoundary-before_ascii}
+use Rattle.std.proofs.lemmas.Str.{encode_ascii, inside_one, cons_from_encodes, chars-encodes, IsUtf8-past_char, IsUtf8-take, IsCharBoundary-before_ascii, IsUtf8-append, IsUtf8-from_ascii}
 use Rattle.std.specs.Str.{chars, IsUtf8, encode_utf8_all}
 use Rattle.std.specs.Char.Utf16.{is_high_surrogate, is_low_surrogate}
 use Rattle.cj_spans.specs.Meaning.StandFor.{StandFor, done, plain, letter, single, pair}
+use Rattle.std.proofs.lemmas.Simd.{get_or-chunk, length-chunk}
+use Rattle.cj_spans.proofs.Vectors.{marks_over, none_marked, marks_within, not_marked}
+use Rattle.std.proofs.lemmas.Str.Ascii.{IsAscii-from_reads}
+use Rattle.std.specs.Simd.Lanes.{zip2, mask_l, top, chunk}
+use Rattle.simdutf8.specs.Steps.{first, second}
+use Rattle.simdutf8.proofs.Chars.{least_is, most_is, StepsThen-IsUtf8}
+
+-- ---- the first code points of a text as one number
+
+-- ---- the digits by cases
+
+pub digits_few : (w c : ℕ) (cs : List ℕ) → c < 255 → digits w (c ∷ cs) ≡ c * w + digits (w / 256) cs
+digits_few w c cs h = grind arith
+
+pub digits_cut : (w c : ℕ) (cs : List ℕ) → 255 ≤ c → digits w (c ∷ cs) ≡ 255 * w
+digits_cut w c cs h = grind arith
+
+-- ---- no number is as much as the next digit's weight more
+
+pub digits_below : (w : ℕ) (cs : List ℕ) → digits w cs ≤ 255 * w
+digits_below w [] = omega arith
+digits_below w (c ∷ cs) = grind (arith, digits_few, mul-le-mul_right, digits_cut, digits_below (w / 256) cs)
+
+pub digits_none : (cs : List ℕ) → digits 0 cs ≡ 0
+digits_none cs = omega (arith, digits_below 0 cs)
+
+pub word_fits : (cs : List ℕ) → digits (256 ^ 7) cs < 2 ^ 64
+word_fits cs = omega (arith, digits_below (256 ^ 7) cs)
+
+-- ---- a lesser word is of a lesser text
+
+-- the first code points decide
+first_less : (c d : ℕ) (cs ds : List ℕ) → c < d → compare (c ∷ cs) (d ∷ ds) ≡ Less
+first_less c d cs ds h = grind arith
+
+-- equal first code points leave the order to what follows
+first_same : {c d : ℕ} (cs ds : List ℕ) → c ≡ d → compare (c ∷ cs) (d ∷ ds) ≡ compare cs ds
+first_same {c} {d} cs ds h = grind arith
+
+-- a lesser first code point makes no greater number
+first_no_more : (w c d : ℕ) (cs ds : List ℕ) → d < c → digits w (d ∷ ds) ≤ digits w (c ∷ cs)
+first_no_more w c d cs ds h =
+    elim (cases_lt c 255) [
+      | inl l ↦
+          let e = digits_few w c cs l in
+          let f = digits_few w d ds (omega arith) in
+          let r = digits_below (w / 256) ds in
+          let k : suc d ≤ c = omega arith in
+          let m = mul-le-mul_right w k in
+          omega arith
+      | inr l ↦
+          let e = digits_cut w c cs l in
+          let r = digits_below w (d ∷ ds) in
+          omega arith
+    ]
+
+-- of one first code point it is one that does not end the number
+first_goes_on : (w c : ℕ) (cs ds : List ℕ) → digits w (c ∷ cs) < digits w (c ∷ ds)
+    → digits (w / 256) cs < digits (w / 256) ds
+first_goes_on w c cs ds h = grind (arith, digits_few, digits_cut)
+
+less_by_digits : (w : ℕ) (s t : List ℕ) → digits w s < digits w t → compare s t ≡ Less
+less_by_digits w s [] h = absurd (omega arith)
+less_by_digits w [] (d ∷ ds) h = refl
+less_by_digits w (c ∷ cs) (d ∷ ds) h =
+    elim (cases_order c d) [
+      | inl e ↦
+          let g : digits w (c ∷ cs) < digits w (c ∷ ds) =
+          rw (← e) at h in
+          first_same cs ds e ∙ less_by_digits (w / 256) cs ds (first_goes_on w c cs ds g)
+      | inr (inl l) ↦ first_less c d cs ds l
+      | inr (inr l) ↦ let m = first_no_more w c d cs ds l in absurd (omega arith)
+    ]
+
+pub less_by_words : (s t : Option (List ℕ)) → front_word s < front_word t → compare_texts s t ≡ Less
+less_by_words s None h = absurd (omega arith)
+less_by_words None (Some t) h = refl
+less_by_words (Some s) (Some t) h = less_by_digits (256 ^ 7) s t h
+
+-- ---- a word of plain bytes
+
+pub digits_end : (w : ℕ) (bs : List ℕ) (i : ℕ) → length bs ≤ i → digits w (code_points_from bs i) ≡ 0
+digits_end w bs i h = cc (points_done bs i (chars_past bs i h))
+
+-- a plain byte is a code point by itself
+pub digits_plain : (w : ℕ) (bs : List ℕ) (i b : ℕ) → i < length bs → b ≡ get_or bs i 0 → b < 128 → nat_eq b 92 ≡ false
+    → digits w (code_points_from bs i) ≡ b * w + digits (w / 256) (code_points_from bs (i + 1))
+digits_plain w bs i b h e l n = grind (arith, plain_code, digits_few)
+
+plain_digit : (w : ℕ) (bs : List ℕ) (i k : ℕ) → i + 8 ≤ length bs → AreAlike bs i bs i 8 → k < 8
+    → digits w (code_points_from bs (i + k)) ≡ get_or bs (i + k) 0 * w + digits (w / 256)
+    (code_points_from bs (i + (k + 1)))
+plain_digit w bs i k h a l = grind (arith, digits_plain)
+
+-- it is the sum of their weights
+pub plain_word : (bs : List ℕ) (i : ℕ) → i + 8 ≤ length bs → AreAlike bs i bs i 8
+    → digits (256 ^ 7) (code_points_from bs i)
+    ≡ from_be_bytes w64 (get_or bs i 0 ∷ get_or bs (i + 1) 0 ∷ get_or bs (i + 2) 0 ∷ get_or bs (i + 3) 0
+    ∷ get_or bs (i + 4) 0 ∷ get_or bs (i + 5) 0 ∷ get_or bs (i + 6) 0 ∷ get_or bs (i + 7) 0 ∷ [])
+plain_word bs i h a = grind (arith, digits, plain_digit, digits_none)
+
+-- ---- the characters between the quotes of a string stand for code points
 
 -- how the bytes b and r of a body begin
 data BodyBegins (b : ℕ) (r : List ℕ) : Type 0 where
@@ -202,3 +306,59 @@ text_of_string {s} h u =
     let r = stands (length v.0) v.0 (omega arith) y in
     let e : chars (body_of s) ≡ v.0 = cc (h.joined, body-joined b, v.1.1, chars-encodes v.0 v.1.0) in
     (r.0, rw e r.1)
+
+-- ---- letters beyond ASCII: what the marks of a vector say of its bytes, and UTF-8 past ASCII and past a letter
+
+-- a byte beyond ASCII
+abbrev beyond : ℕ → Bool
+beyond x = ltb 127 x
+
+ascii_from : (x : ℕ) → beyond x ≡ false → x < 128
+ascii_from x h = grind (arith, nat_tests)
+
+-- the marks of the bytes beyond ASCII, among the m from i on
+abbrev pub letter_marks : ℕ → List ℕ → ℕ → ℕ
+letter_marks m b i = mask_l (map (top 7) (zip2 (λ a c. cond (ltb a c) 255 0) (replicate m 127) (chunk i m b))) % 2 ^ 64
+
+pub all_ascii : (m : ℕ) (b : List ℕ) (i : ℕ) → m ≤ 64 → i + m ≤ length b → letter_marks m b i ≡ 0 → (k : ℕ)
+    → i ≤ k → k < i + m → byte b k < 128
+all_ascii m b i few room e k l h = grind (arith, ascii_from, none_marked, marks_over, length-chunk)
+
+pub letter_within : (m : ℕ) (b : List ℕ) (i : ℕ) → m ≤ 64 → i + m ≤ length b → (letter_marks m b i ≡ 0 → ⊥)
+    → count_trailing_zeros 64 (letter_marks m b i) ≤ m
+letter_within m b i few room n = grind (arith, marks_within, marks_over, length-chunk)
+
+pub ascii_before : (m : ℕ) (b : List ℕ) (i : ℕ) → m ≤ 64 → i + m ≤ length b → (letter_marks m b i ≡ 0 → ⊥)
+    → (k : ℕ) → i ≤ k → k < i + count_trailing_zeros 64 (letter_marks m b i) → byte b k < 128
+ascii_before m b i few room n k l h = grind (arith, ascii_from, not_marked, marks_over, length-chunk)
+
+-- ---- UTF-8
+
+joined : (b : List ℕ) (i n : ℕ) → i ≤ n → IsUtf8 (take i b) → IsUtf8 (take (n - i) (drop i b)) → IsUtf8 (take n b)
+joined b i n order front part =
+    let e : i + (n - i) ≡ n = omega arith in
+    rw (← e) (rw take-add (IsUtf8-append _ _ front part))
+
+pub past_ascii : (b : List ℕ) (i n : ℕ) → i ≤ n → n ≤ length b
+    → ((k : ℕ) → i ≤ k → k < n → byte b k < 128) → IsUtf8 (take i b) → IsUtf8 (take n b)
+past_ascii b i n order within ascii front =
+    let part = chunk i (n - i) b in
+    let long : length part ≡ n - i = length-chunk i (n - i) b (omega arith) in
+    let all : IsAscii part = IsAscii-from_reads part (n - i) (omega arith) (λ k l.
+    let here : byte b (i + k) < 128 = ascii (i + k) (omega arith) (omega arith) in
+    rw (get_or-chunk i (n - i) b k 0 l) here) in
+    joined b i n order front (IsUtf8-from_ascii part all)
+
+two_bytes : (x y : ℕ) → 194 ≤ x → x ≤ 223 → 128 ≤ y → y ≤ 191 → IsUtf8 (x ∷ y ∷ [])
+two_bytes x y a c d e =
+    let l = least_is x in
+    let m = most_is x in
+    (StepsThen-IsUtf8 (x ∷ y ∷ [])).0
+    (first (omega arith) (inr (omega arith)), (second (omega arith) (omega arith) (omega arith), omega arith))
+
+pub past_letter : (b : List ℕ) (i : ℕ) → i + 2 ≤ length b → 194 ≤ byte b i → byte b i ≤ 223 → 128 ≤ byte b (i + 1)
+    → byte b (i + 1) ≤ 191 → IsUtf8 (take i b) → IsUtf8 (take (i + 2) b)
+past_letter b i room a c d e front =
+    let both : drop i b ≡ byte b i ∷ byte b (i + 1) ∷ drop (i + 1 + 1) b = cc
+    (drop_more b i 0 (omega arith), drop_more b (i + 1) 0 (omega arith)) in
+    rw take-add (IsUtf8-append _ _ front (rw both (two_bytes (byte b i) (byte b (i + 1)) a c d e)))

@@ -1,17 +1,18 @@
--- What the pass over a line says of the line.
-use Rattle.cj_spans.proofs.Common.{◌≡◌, ℕ, suc, ◌+◌, ◌^◌, ◌<◌, ◌≤◌, List, [], ◌++◌, length, max, IsTrue, Option, Some, None, Result, Ok, Err, refl, sym, ap, subst, arith, rules, ◌∙◌, ◌⊎◌, inl, inr, take-length, eq-or-lt_of_le, cases_lt, IsValidUpTo, BoundedList, Becomes, LineFault, NotUtf8, Syntax, TooDeep, Kind, Token, Ready, After, Tree, scalar, size, nest, byte, atom_at, White, Value, atom, padded, Json, JsonPrefix, IsJsonPrefix, SyntaxAt, stuck, short, DeepAt, NowhereDeep, flatten, spans_of, IsScanOf, KeepsLaw, AreUnmarked, State, state, in_atom, step, settle, end_atom, lex_kind, Reaches, here, on, start, Sticks, SticksAt, SinksAt, Accepts, RunAnswers}
-use Rattle.std.specs.Prelude.{IsSomeAnd, OnOk, IsErrOf, IsOk, IsUtf8}
+-- What the pass over a line says of the line, and in which room.
+use Rattle.cj_spans.proofs.Common.{◌≡◌, ℕ, suc, ◌+◌, ◌^◌, ◌<◌, ◌≤◌, List, [], ◌++◌, length, max, IsTrue, Option, Some, None, Ok, Err, refl, sym, ap, subst, arith, rules, ◌∙◌, ◌⊎◌, inl, inr, take-length, eq-or-lt_of_le, cases_lt, IsValidUpTo, BoundedList, Becomes, LineFault, NotUtf8, Syntax, TooDeep, Kind, Token, Ready, After, Tree, scalar, size, nest, byte, atom_at, White, Value, atom, padded, Json, JsonPrefix, IsJsonPrefix, SyntaxAt, stuck, short, DeepAt, NowhereDeep, flatten, spans_of, IsScanOf, KeepsLaw, AreUnmarked, State, state, in_atom, step, settle, end_atom, lex_kind, Reaches, here, on, start, Sticks, SticksAt, SinksAt, Accepts, RunAnswers, Judgement, spelled, broken, sunk, IsAnswerOf, IsReservedAnswerOf, widened_fault}
+use Rattle.std.specs.Prelude.{IsSomeAnd, OnOk, IsErrOf, IsOk, IsUtf8, Result, IsErrAnd}
 use Rattle.std.proofs.lemmas.Str.{utf8_valid_len-IsValidUpTo}
 use Rattle.cj_spans.proofs.Spellings.{none_some, some_same}
-use Rattle.cj_spans.proofs.Lists.{rise, rise-nest, length-flatten, spans_of-flatten}
-use Rattle.cj_spans.proofs.Runs.{idle, settled}
-use Rattle.cj_spans.proofs.Follows.{run_json}
+use Rattle.cj_spans.proofs.Lists.{rise, rise-nest, length-flatten, spans_of-flatten, run_json}
+use Rattle.cj_spans.proofs.Facts.{idle, settled, lawful_reaches, next_place, same_state, state_before}
 use Rattle.cj_spans.proofs.Places.{atom_sound}
-use Rattle.cj_spans.proofs.Sound.{Context, root, Inv, after_tree, in_scalar, in_name, inv_reaches, no_white}
-use Rattle.cj_spans.proofs.Facts.{lawful_reaches, next_place, same_state, state_before}
-use Rattle.cj_spans.proofs.Fronts.{Live, front_runs, inv_front}
+use Rattle.cj_spans.proofs.Sound.{Context, root, Inv, after_tree, in_scalar, in_name, inv_reaches, no_white, Live, front_runs, inv_front}
 use Rattle.cj_spans.proofs.Forests.{json_shown, tree_by_preorder}
-use Rattle.cj_spans.proofs.Links.{json_linked, json_unmarked}
+use Rattle.cj_spans.proofs.Views.{json_linked, json_unmarked}
+use Rattle.std.proofs.lemmas.Result.{err_from_is_err_and}
+use Rattle.cj_spans.specs.declared.fault.ScanFault.{ScanFault}
+
+-- ---- what the pass over a line says of the line
 
 -- ---- a line that is read to its end
 
@@ -197,18 +198,18 @@ cleared old empty c = grind (arith, c.limit, c.room)
 module _ {b : List ℕ} {empty new : BoundedList Token} {empty_stack new_stack : BoundedList ℕ}
     (k : KeepsLaw b empty new empty_stack new_stack) (few_bytes : length b ≤ 1073741824)
     (a : Accepts b new empty_stack new_stack) where
-  spelled : Spells b new.elements
-  spelled = grind (arith, spells, inv_reaches)
+  spelled_line : Spells b new.elements
+  spelled_line = grind (arith, spells, inv_reaches)
 
-  count : length new.elements ≡ size spelled.tree
+  count : length new.elements ≡ size spelled_line.tree
   count = grind (arith, length-flatten)
 
-  few : size spelled.tree < 2 ^ 31
+  few : size spelled_line.tree < 2 ^ 31
   few = grind (arith, count)
 
   scan_of : {old : BoundedList Token} {old_stack : BoundedList ℕ} → Cleared old empty → Cleared old_stack empty_stack
       → (t : Tree) × IsScanOf b t old new old_stack new_stack
-  scan_of c d = grind (arith, spelled, nest_of, json_only, spans_of-flatten, json_shown, count, json_linked, few)
+  scan_of c d = grind (arith, spelled_line, nest_of, json_only, spans_of-flatten, json_shown, count, json_linked, few)
 
   -- it leaves no marks
   scan_unmarked : AreUnmarked new.elements
@@ -247,7 +248,7 @@ module _ {b : List ℕ} {old new : BoundedList Token} {old_stack new_stack : Bou
   pub finds_syntax : (r : Result (Unit {0}) LineFault) {i : ℕ} → Ran b old new old_stack new_stack r
       → NowhereDeep b old_stack.limit → SyntaxAt b i → r ≡ Err (Syntax i)
   finds_syntax (Ok v) h n s =
-      let z = spelled h.law h.short h.answer in absurd (json_no_syntax z.tree z.json s)
+      let z = spelled_line h.law h.short h.answer in absurd (json_no_syntax z.tree z.json s)
   finds_syntax (Err (NotUtf8 j)) h n s = absurd h.answer
   finds_syntax (Err (Syntax j)) h n s = search (arith, one_syntax, sticks_syntax, h.answer.0.sticks)
   finds_syntax (Err (TooDeep j)) h n s = absurd (n j (rw h.cleared_stack.limit at (sinks_deep h.answer.0)))
@@ -290,3 +291,33 @@ utf8_fault b n v i = (
   λ h. subst (IsValidUpTo b) (fault_same n i h) v,
   λ w. ap (λ k. Err (NotUtf8 k)) (sym (utf8_valid_len-IsValidUpTo b n v) ∙ utf8_valid_len-IsValidUpTo b i w),
 )
+
+-- ---- what a scan answers to which room was granted, from what the scan in reserved room answers
+
+err_same : (f g : ScanFault) → ◌≡◌ {A = Result (Unit {0}) ScanFault} (Err f) (Err g) → f ≡ g
+err_same f g h = cc
+
+line_err_same : (f g : LineFault) → ◌≡◌ {A = Result (Unit {0}) LineFault} (Err f) (Err g) → f ≡ g
+line_err_same f g h = cc
+
+no_ok : (f : LineFault) → IsOk {T = Unit {0}} (Err f) → ⊥
+no_ok f h = cc
+
+pub ok_no_fault : (v : Unit {0}) (f : LineFault) → ◌≡◌ {A = Result (Unit {0}) LineFault} (Ok v) (Err f) → ⊥
+ok_no_fault v f h = cc
+
+-- a fault of the line is answered as it is
+module _ (r : Result (Unit {0}) ScanFault) (f : LineFault) (a : IsErrAnd r (λ g. g ≡ widened_fault f)) where
+  fault_is : r ≡ Err (widened_fault f)
+  fault_is = grind (arith, err_from_is_err_and)
+
+  pub fault_back : (g : LineFault) → r ≡ Err (widened_fault g) → ◌≡◌ {A = Result (Unit {0}) LineFault} (Err f) (Err g)
+  fault_back g h = grind (arith, err_same, fault_is)
+
+  pub fault_on : (g : LineFault) → ◌≡◌ {A = Result (Unit {0}) LineFault} (Err f) (Err g) → r ≡ Err (widened_fault g)
+  fault_on g h = cc (fault_is, line_err_same f g h)
+
+  pub fault_judged : {b : List ℕ} {d : ℕ} (j : Judgement b d) → IsReservedAnswerOf j (Err f) → IsAnswerOf j r
+  fault_judged (spelled t j n) h = absurd (no_ok f h)
+  fault_judged (broken i s n) h = inl (fault_on (Syntax i) h)
+  fault_judged (sunk i s) h = inl (fault_on (TooDeep i) h)

@@ -3,10 +3,9 @@ use Rattle.cj_spans.proofs.Common.{◌≡◌, ℕ, zero, suc, ◌+◌, ◌-◌, 
 use Rattle.cj_spans.specs.declared.node.Source.{Source}
 use Rattle.cj_spans.proofs.Spellings.{some_same}
 use Rattle.cj_spans.proofs.Forests.{held_on, past_on, start-node}
-use Rattle.cj_spans.proofs.Links.{before_length, before_one, before_zero}
+use Rattle.cj_spans.proofs.Views.{before_length, before_one, before_zero, below, below_at, held_none, past_here, past-past, kind-node, kind_object, list-items_from, list-members_from, length-forest, length-pairs}
 use Rattle.cj_spans.proofs.Sizes.{are_sized, full_sized, before_walked, before_stopped}
 use Rattle.cj_spans.proofs.Scanned.{forest_small, length-spans_of}
-use Rattle.cj_spans.proofs.Views.{below, below_at, held_none, past_here, past-past, kind-node, kind_object, list-items_from, list-members_from, length-forest, length-pairs}
 
 -- ---- trees up to a place, of those up to a later one
 

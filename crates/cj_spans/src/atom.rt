@@ -31,7 +31,7 @@ fn halts(line: &[u8], place: usize, read: Lex) -> bool
 }
 
 /// Reads up to the first byte that does not continue the scalar, whatever has been read of it.
-#[tactic(auto, using(crate::proofs::Scalars::goes_same, crate::proofs::Scalars::goes_one, crate::proofs::Scalars::goes_far))]
+#[tactic(auto, using(crate::proofs::Atoms::goes_same, crate::proofs::Atoms::goes_one, crate::proofs::Atoms::goes_far))]
 #[inline(never)]
 fn read_on(line: &[u8], place: usize, first: Lex) -> Reach
     requires { place ≤ length line.now }
@@ -53,7 +53,7 @@ fn read_on(line: &[u8], place: usize, first: Lex) -> Reach
 
 /// Returns whether four hexadecimal digits are here.
 #[inline(always)]
-#[tactic(auto, using(crate::proofs::Scalars::goes_hex))]
+#[tactic(auto, using(crate::proofs::Atoms::goes_hex))]
 fn has_hex(line: &[u8], place: usize) -> bool
     requires { place + 4 ≤ length line.now }
     ensures { IsTrue result → GoesTo line.now place Hex4 (place + 4) InString }
@@ -66,7 +66,7 @@ fn has_hex(line: &[u8], place: usize) -> bool
 
 /// Returns where the escape that begins here in a string ends. None if no valid escape begins here.
 #[inline(always)]
-#[tactic(auto, using(crate::proofs::Scalars::goes_escape, crate::proofs::Scalars::goes_unicode))]
+#[tactic(auto, using(crate::proofs::Atoms::goes_escape, crate::proofs::Atoms::goes_unicode))]
 fn escape_stop(line: &[u8], place: usize) -> Option<usize>
     requires { place ≤ length line.now }
     ensures { IfSome result (λ k. (place < k) × GoesTo line.now place InString k InString) }
@@ -85,7 +85,7 @@ fn escape_stop(line: &[u8], place: usize) -> Option<usize>
 }
 
 /// Continues to read a string whose next byte is not plain.
-#[tactic(auto, using(crate::proofs::Scalars::goes_same, crate::proofs::Scalars::goes_far, crate::proofs::Scalars::reads_far, crate::proofs::Scalars::reads_quote))]
+#[tactic(auto, using(crate::proofs::Atoms::goes_same, crate::proofs::Atoms::goes_far, crate::proofs::Atoms::reads_far, crate::proofs::Atoms::reads_quote))]
 #[inline(never)]
 fn read_escapes(line: &[u8], place: usize) -> Reach
     requires { place ≤ length line.now }
@@ -122,7 +122,7 @@ fn read_string(line: &[u8], place: usize) -> Reach
 
 /// Returns whether a point and a digit are here.
 #[inline(always)]
-#[tactic(auto, using(crate::proofs::Scalars::goes_fraction))]
+#[tactic(auto, using(crate::proofs::Atoms::goes_fraction))]
 fn begins_fraction(line: &[u8], place: usize) -> bool
     requires { place ≤ length line.now }
     ensures { IsTrue result → (x : LexOf) → lex_step_of x 46 ≡ Some Point
@@ -135,7 +135,7 @@ fn begins_fraction(line: &[u8], place: usize) -> bool
 }
 
 /// Continues to read a number after the digits before the point.
-#[tactic(auto, using(crate::proofs::Scalars::reads_far, crate::proofs::Scalars::goes_far, crate::proofs::Scalars::goes_same))]
+#[tactic(auto, using(crate::proofs::Atoms::reads_far, crate::proofs::Atoms::goes_far, crate::proofs::Atoms::goes_same))]
 #[inline(never)]
 fn read_tail(line: &[u8], place: usize, digits: Lex) -> Reach
     requires point { lex_step_of digits 46 ≡ Some Point }
@@ -156,7 +156,7 @@ fn read_tail(line: &[u8], place: usize, digits: Lex) -> Reach
 }
 
 /// Continues to read a number after its first digit, which is not 0.
-#[tactic(auto, using(crate::proofs::Scalars::goes_same, crate::proofs::Scalars::reads_far))]
+#[tactic(auto, using(crate::proofs::Atoms::goes_same, crate::proofs::Atoms::reads_far))]
 #[inline(always)]
 fn read_whole(line: &[u8], place: usize) -> Reach
     requires { place ≤ length line.now }
@@ -173,7 +173,7 @@ fn read_whole(line: &[u8], place: usize) -> Reach
 }
 
 /// Continues to read a number after the 0 that begins it.
-#[tactic(auto, using(crate::proofs::Scalars::goes_same))]
+#[tactic(auto, using(crate::proofs::Atoms::goes_same))]
 #[inline(always)]
 fn read_zero(line: &[u8], place: usize) -> Reach
     requires { place ≤ length line.now }
@@ -218,7 +218,7 @@ fn has_letters(line: &[u8], place: usize, first: u8, second: u8, third: u8) -> b
 }
 
 /// Continues to read a word after its first letter.
-#[tactic(auto, using(crate::proofs::Scalars::reads_as, crate::proofs::Scalars::reads_null, crate::proofs::Scalars::reads_true, crate::proofs::Scalars::reads_false))]
+#[tactic(auto, using(crate::proofs::Atoms::reads_as, crate::proofs::Atoms::reads_null, crate::proofs::Atoms::reads_true, crate::proofs::Atoms::reads_false))]
 #[inline(never)]
 fn read_word(line: &[u8], place: usize, first: Lex) -> Reach
     requires { place ≤ length line.now }

@@ -48,7 +48,7 @@ pub fn texts_are_ordered()
 
 /// The result of [`crate::Node::text_word`] follows the order of texts: a text with a lesser word
 /// is less.
-#[tactic(auto, using(crate::proofs::Words::less_by_words))]
+#[tactic(auto, using(crate::proofs::Strings::less_by_words))]
 pub fn words_are_ordered()
     ensures { (s t : OptionOf (List ℕ)) → front_word s < front_word t → compare_texts s t ≡ Less }
 {}

@@ -36,7 +36,7 @@ fn with_mark(token: Token) -> Token
 ///
 /// The tokens show the same as before, so make views of them again with [`crate::Doc::of`]. It
 /// allocates nothing.
-#[tactic(auto, using(crate::proofs::Marking::marked_here, crate::proofs::Marking::marked_elsewhere, crate::proofs::Marking::keeps))]
+#[tactic(auto, using(crate::proofs::Noted::marked_here, crate::proofs::Noted::marked_elsewhere, crate::proofs::Noted::keeps))]
 pub fn set_mark(tokens: &mut Bounded<Token>, number: u32)
     requires { number < length tokens.old.elements }
     ensures marked { is_marked_at tokens.new.elements number ≡ true }

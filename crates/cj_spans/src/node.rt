@@ -330,7 +330,7 @@ impl<'a> Node<'a> {
 
     /// Returns the members of an object, names with values, in order (RFC 8259, section 4). Any
     /// other value has none.
-    #[tactic(auto, using(crate::proofs::Rising::pairs_rise, crate::proofs::Rising::shown_rise, crate::proofs::Rising::values_rise, crate::proofs::Walks::few_pairs), unfolding(crate::specs::View::members_left, crate::specs::View::line_of, crate::specs::View::members_line, crate::specs::View::members_source, crate::specs::View::source_of))]
+    #[tactic(auto, using(crate::proofs::Sizes::pairs_rise, crate::proofs::Sizes::shown_rise, crate::proofs::Sizes::values_rise, crate::proofs::Walks::few_pairs), unfolding(crate::specs::View::members_left, crate::specs::View::line_of, crate::specs::View::members_line, crate::specs::View::members_source, crate::specs::View::source_of))]
     pub fn members(self) -> Members<'a>
         ensures members { members_left result ≡ members_of (tree self.entry) }
         ensures order { AreNamesInOrder (members_left result) }

@@ -284,7 +284,7 @@ fn is_at_value(mode: Mode) -> bool
 }
 
 /// Reads a byte other than white space where a name or a colon may come.
-#[tactic(auto, using(crate::proofs::Steps::left_colon))]
+#[tactic(auto, using(crate::proofs::Atoms::left_colon))]
 #[inline(always)]
 fn read_name_byte(
     mode: Mode,
@@ -317,7 +317,7 @@ fn read_name_byte(
 }
 
 /// Reads a byte between scalars and names.
-#[tactic(auto, using(crate::proofs::Steps::left_after))]
+#[tactic(auto, using(crate::proofs::Atoms::left_after))]
 #[inline(always)]
 pub fn read_byte(
     mode: Mode,

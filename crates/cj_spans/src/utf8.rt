@@ -73,7 +73,7 @@ fn pass_ascii(line: &[u8], from: usize) -> usize
 /// Returns the place after the letter of two bytes at a place. The place itself if no such letter
 /// is there.
 #[inline(always)]
-#[tactic(auto, using(crate::proofs::Letters::past_letter))]
+#[tactic(auto, using(crate::proofs::Strings::past_letter))]
 fn pass_letter(line: &[u8], place: usize) -> usize
     requires { place ≤ length line.now }
     ensures order { (place ≤ result) × (result ≤ length line.now) }

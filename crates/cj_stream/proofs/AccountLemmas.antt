@@ -2,14 +2,12 @@
 use Rattle.cj_stream.proofs.Common.{Account, AreCounted, Complete, Counts, End, Ends, IsBounded, IsCut, IsExact, IsUnread, Kept, LimitPair, Line, List, Memory, NoLf, None, Outcome, Peaks, ReadFault, ReadLimit, Refused, Rules, Run, Some, WriteFault, [], ap, append-nil, append_assoc, arith, begun, both_outcomes, bytes_bound, closed, contents, ended_line, ending, ending_of, exact_peaks, filter, filter-append, good, greater_peaks, headed, inl, inr, is_feature, is_readable, judged, kept_from, later_of, length, length-append, length-map, lines, list_all, list_all-append, long_line, map, max, min, moved_end, moved_report, nat_tests, option_map, refl, refusal_in, reported_from, rulings, subst, suc, sym, take, take-append-add, take-append-le, true, verdict, whole, zero, ℕ, ◌++◌, ◌+◌, ◌-◌, ◌/◌, ◌∙◌, ◌∷◌, ◌≡◌, ◌≤◌, ◌⊎◌}
 use Rattle.cj_stream.specs.Meaning.Bound.{tokens_bound, of_first as first_measure}
 use Rattle.cj_stream.specs.Bound.{are_legible}
-use Rattle.cj_stream.proofs.FirstLemmas.{first-good}
+use Rattle.cj_stream.proofs.TookLemmas.{first-good}
 use Rattle.cj_stream.proofs.GoodLemmas.{some_of}
-use Rattle.cj_stream.proofs.IsLinesLemmas.{lines-whole}
-use Rattle.cj_stream.proofs.LineLemmas.{closed-ended, begun-ended, closed-then, begun-then, first-length, lines-cut}
+use Rattle.cj_stream.proofs.LineLemmas.{lines-whole, closed-ended, begun-ended, closed-then, begun-then, first-length, lines-cut}
 use Rattle.cj_stream.proofs.PartsLemmas.{none-begun, contents-headed, contents-parts, first-headed, exact-parts, all-lines, front-lines, back-lines, front-none, header-valid, front-good, back-good, lines-counted, ending-parts, kept-joined, reported-joined, refusal-joined, refused-stays}
 use Rattle.cj_stream.proofs.ReadingLemmas.{map_lines-append}
-use Rattle.cj_stream.proofs.VerdictLemmas.{and-both}
-use Rattle.cj_stream.proofs.RulingLemmas.{refusal-stays}
+use Rattle.cj_stream.proofs.VerdictLemmas.{and-both, refusal-stays}
 
 -- ---- what can be judged, and the whole lines
 

@@ -1,11 +1,16 @@
--- The list of judged lines says what the lines one after another say.
-use Rattle.cj_stream.proofs.Common.{Bool, Complete, Invalid, IsVerdict, Item, Json, Judgement, Kept, Line, List, None, Option, Report, Rules, Ruling, Some, Tree, Verdict, [], ap, arith, broken, cond, cons_option, ending, ending_of, false, first_end, flat_map, good, good_from, is_kept, is_some, item_after, item_by, item_of, judged_at, judged_later, judged_lines, judged_list, judged_tree, kept, kept_in, kept_of, length, length-append, lines, lines_before, map, nat_tests, nest, not, option_map, output, raw, raw_item, refl, refusal_from, refusal_of, reported, reported_of, reports_of, ruling_after, rulings, spelled, subst, sunk, sym, tree_of, true, unwrap_or, verdict, verdict_at, ℕ, ◌&&◌, ◌++◌, ◌+◌, ◌<◌, ◌∙◌, ◌∷◌, ◌≡◌, ◌≤◌}
+-- What the list of judged lines says: the lines, and what was held at most.
+use Rattle.cj_stream.proofs.Common.{Bool, Complete, Invalid, IsVerdict, Item, Json, Judgement, Kept, Line, List, None, Option, Report, Rules, Ruling, Some, Tree, Verdict, [], ap, arith, broken, cond, cons_option, ending, ending_of, false, first_end, flat_map, good, good_from, is_kept, is_some, item_after, item_by, item_of, judged_at, judged_later, judged_lines, judged_list, judged_tree, kept, kept_in, kept_of, length, length-append, lines, lines_before, map, nat_tests, nest, not, option_map, output, raw, raw_item, refl, refusal_from, refusal_of, reported, reported_of, reports_of, ruling_after, rulings, spelled, subst, sunk, sym, tree_of, true, unwrap_or, verdict, verdict_at, ℕ, ◌&&◌, ◌++◌, ◌+◌, ◌<◌, ◌∙◌, ◌∷◌, ◌≡◌, ◌≤◌, HasPeaks, IsExact, Peaks, Reason, Refused, drop, exact_peaks, first_content, greatest, held_length, is_blank, is_blank_byte, is_readable, judged_nest, judged_size, later_of, list_all, max, read_tree, spelled_tree, tree_nest, tree_size}
 use Rattle.std.proofs.Common.{eqb, ◌||◌, filter_map, option_and_then, find}
 use Rattle.std.proofs.lemmas.List.Sums.{take_while-cons}
 use Rattle.cj_spans.proofs.Judgements.{judgement, say_same}
 use Rattle.cj_stream.specs.Meaning.Judged.{JudgedLine, ends, handled, is_invalid, report_by, report_of, output_in, reported_in, end_of_report, ending_in, written_by}
 use Rattle.cj_stream.proofs.JudgedLemmas.{first-is, kept-tree, later-fits, behind-some, verdict-is}
-use Rattle.cj_stream.proofs.VerdictLemmas.{valid-first, verdict-first}
+use Rattle.cj_stream.proofs.VerdictLemmas.{valid-first, verdict-first, blank-tree}
+use Rattle.cj_stream.specs.Bound.{are_legible}
+use Rattle.cj_stream.specs.Meaning.Bound.{is_legible, nest_if, peaks_in, size_if}
+use Rattle.cj_stream.proofs.LineLemmas.{lines-cut}
+
+-- ---- the list of judged lines says what the lines one after another say
 
 item-none : (line : Line) (header tree : Option Tree) (v : Verdict) → is_kept v ≡ false
     → item_by line header tree v ≡ None
@@ -193,3 +198,155 @@ module _ (rules : Rules) where
                 → unwrap_or (option_map (λ j. end_of_report (report_of j)) o) Complete
                 ≡ end_of_report (option_and_then report_of o)
             by o = grind arith
+
+-- ---- what was held at most of a complete stream is what its judged lines say
+
+-- the first line begins a stream
+first-line : (s : List ℕ) (l : Line) (ls : List Line) → lines s ≡ l ∷ ls → first_content s ≡ l.content
+first-line s l ls e =
+    grind (arith, nat_tests, lines-cut)
+
+-- ---- one line
+
+sized-by : {c : List ℕ} {d : ℕ} (text blanks : Bool) (j : Judgement c d)
+    → (blanks ≡ true → cond text (judged_size j) 0 ≡ 0)
+    → cond text (judged_size j) 0 ≡ size_if (cond (text && not blanks) (spelled_tree j) None)
+sized-by false blanks j h = refl
+sized-by true true j h = h refl
+sized-by true false (spelled t k n) h = refl
+sized-by true false (broken i s n) h = refl
+sized-by true false (sunk i s) h = refl
+
+nested-by : {c : List ℕ} {d : ℕ} (text blanks : Bool) (j : Judgement c d)
+    → (blanks ≡ true → cond text (judged_nest j) 0 ≡ 0)
+    → cond text (judged_nest j) 0 ≡ nest_if (cond (text && not blanks) (spelled_tree j) None)
+nested-by false blanks j h = refl
+nested-by true true j h = h refl
+nested-by true false (spelled t k n) h = refl
+nested-by true false (broken i s n) h = refl
+nested-by true false (sunk i s) h = refl
+
+all-blank : (header : Option Tree) (c : List ℕ) → is_blank header c ≡ true → list_all is_blank_byte c ≡ true
+all-blank None c h = cc
+all-blank (Some t) c h = h
+
+module _ (rules : Rules) where
+  sized : (header : Option Tree) (c : List ℕ) → tree_size rules.limits c ≡ size_if (read_tree rules header c)
+  sized header c =
+      sized-by _ _ _
+      (λ b. (blank-tree _ c (all-blank _ c b)).0)
+
+  nested : (header : Option Tree) (c : List ℕ) → tree_nest rules.limits c ≡ nest_if (read_tree rules header c)
+  nested header c =
+      nested-by _ _ _
+      (λ b. (blank-tree _ c (all-blank _ c b)).1)
+
+  legible : (n : ℕ) (h : Tree) (l : Line) → 1 < n
+      → is_readable rules.limits l.content ≡ is_legible (judged_at rules n (Some h) l)
+  unfolding verdict_at
+  legible n h l later =
+      grind (arith, nat_tests)
+
+  -- ---- the later lines
+
+  later-greatest : (h : Tree) (f : List ℕ → ℕ) (g : JudgedLine → ℕ)
+      → ((n : ℕ) (l : Line) → f l.content ≡ g (judged_at rules n (Some h) l)) → (n : ℕ) (ls : List Line)
+      → greatest f (map (λ l. l.content) ls) ≡ greatest g (judged_later rules h n ls)
+  later-greatest h f g same n [] = refl
+  later-greatest h f g same n (l ∷ ls) =
+      ap (λ m. max m (greatest f (map (λ x. x.content) ls))) (same n l)
+      ∙ ap (max (g (judged_at rules n (Some h) l))) (later-greatest h f g same (n + 1) ls)
+
+  later-legible : (h : Tree) (n : ℕ) → 1 < n → (ls : List Line)
+      → list_all (is_readable rules.limits) (map (λ l. l.content) ls)
+      ≡ list_all is_legible (judged_later rules h n ls)
+  later-legible h n later [] = refl
+  later-legible h n later (l ∷ ls) =
+      ap (λ b. b && list_all (is_readable rules.limits) (map (λ l. l.content) ls)) (legible n h l later)
+      ∙ ap (λ b. is_legible (judged_at rules n (Some h) l) && b) (later-legible h (n + 1) (omega arith) ls)
+
+  -- ---- a complete stream
+
+  refused-first : (l : Line) (ls : List Line) (place : ℕ) (reason : Reason)
+      → (judged_at rules 1 None l).verdict ≡ Invalid place reason
+      → ending_in rules (judged_list rules (l ∷ ls)) ≡ Refused 1 place reason
+  refused-first l ls place reason e =
+      grind (arith, nat_tests)
+
+  pub kept-first : (l : Line) (ls : List Line) → ending_in rules (judged_list rules (l ∷ ls)) ≡ Complete
+      → (judged_at rules 1 None l).verdict ≡ Kept
+  kept-first l ls h = valid-first _ _ _ (go (judged_at rules 1 None l).verdict refl)
+    where
+      go : (v : Verdict) → (judged_at rules 1 None l).verdict ≡ v
+          → refusal_of rules 1 (judged_at rules 1 None l).verdict ≡ None
+      go (Invalid place reason) e = cc (refused-first l ls place reason e, h)
+      go other e = rw e
+
+  record SamePeaks (s : List ℕ) (js : List JudgedLine) : Type 0 where
+    peaks : exact_peaks rules.limits s ≡ peaks_in rules.limits js
+    readable : are_legible rules.limits s ≡ list_all is_legible (drop 1 js)
+
+  headed-peaks : (s : List ℕ) (h : Tree) (l : Line) (ls : List Line) → lines s ≡ l ∷ ls
+      → SamePeaks s (judged_at rules 1 None l ∷ judged_later rules h 2 ls)
+  headed-peaks s h l ls e =
+      let bytes = ap length (first-line s l _ e) in
+      let held = ap (λ z. greatest (held_length rules.limits) (later_of (map (λ l. l.content) z))) e
+      ∙ later-greatest h _ _ (λ n l. refl) 2 _ in
+      record {
+        peaks = λ i. record {
+          bytes = bytes i + held i;
+          tokens = (ap (λ z. first_size (map (λ (l : Line). l.content) z)) e ∙ sized None l.content) i +
+              (ap (λ z. greatest (tree_size rules.limits) (later_of (map (λ (l : Line). l.content) z))) e
+              ∙ later-greatest h (tree_size rules.limits) (λ j. size_if j.tree) (λ n l. sized (Some h) l.content) 2 ls)
+              i;
+          depth = (ap (λ z. greatest (tree_nest rules.limits) (map (λ (l : Line). l.content) z)) e
+              ∙ ap (λ m. max m (greatest (tree_nest rules.limits) (map (λ (l : Line). l.content) ls)))
+              (nested None l.content)
+              ∙ ap (λ m. max (nest_if (read_tree rules None l.content)) m)
+              (later-greatest h (tree_nest rules.limits) (λ j. nest_if j.tree) (λ n l. nested (Some h) l.content) 2
+              ls)) i;
+        };
+        readable = ap (λ z. list_all (is_readable rules.limits) (later_of (map (λ l. l.content) z))) e
+            ∙ later-legible h 2 (omega arith) _;
+      }
+    where
+      first_size : List (List ℕ) → ℕ
+      first_size [] = 0
+      first_size (c ∷ cs) = tree_size rules.limits c
+
+  same-peaks : (s : List ℕ) → ending rules s ≡ Complete → SamePeaks s (judged_lines rules s)
+  same-peaks s h = go (lines s) refl (sym (ending-in _ s) ∙ h)
+    where
+      go : (ls : List Line) → lines s ≡ ls → ending_in rules (judged_list rules ls) ≡ Complete
+          → SamePeaks s (judged_list rules ls)
+      go [] e h = cc
+      go (l ∷ ls) e h =
+          let k = kept-first l _ h in
+          let u = kept-tree _ _ _ _ _ (first-is _ l).verdict k in
+          let behind = behind-some _ _ _ _ _ k u.1 in
+          subst (λ js. SamePeaks s (judged_at rules 1 None l ∷ js)) (sym behind) (headed-peaks s _ l _ e)
+
+  pub HasPeaks-exact : (s : List ℕ) (peaks : Peaks) → ending rules s ≡ Complete → IsExact rules.limits s peaks
+      → HasPeaks rules.limits (judged_lines rules s) peaks
+  HasPeaks-exact s peaks h e =
+      let same = same-peaks s h in
+      record {
+        bytes = e.bytes ∙ ap (λ p. p.bytes) same.peaks;
+        tokens = omega (arith, ap (λ p. p.tokens) same.peaks);
+        depth = omega (arith, ap (λ p. p.depth) same.peaks);
+        legible = λ k. e.legible (same.readable ∙ k) ∙ same.peaks;
+      }
+
+  pub IsExact-peaks : (s : List ℕ) (peaks : Peaks) → ending rules s ≡ Complete
+      → HasPeaks rules.limits (judged_lines rules s) peaks → IsExact rules.limits s peaks
+  IsExact-peaks s peaks h e =
+      let same = same-peaks s h in
+      record {
+        bytes = e.bytes ∙ sym (ap (λ p. p.bytes) same.peaks);
+        least = record {
+          bytes = omega (arith, ap (λ p. p.bytes) same.peaks);
+          tokens = omega (arith, ap (λ p. p.tokens) same.peaks);
+          depth = omega (arith, ap (λ p. p.depth) same.peaks);
+        };
+        legible = λ k. e.legible (sym same.readable ∙ k) ∙ sym same.peaks;
+      }

@@ -83,7 +83,8 @@ module _ (test : ℤ → Bool) where
   in_order x xs =
       omega (arith, ints, (fold-int_min_bounds x xs _ refl).0, (fold-int_max_bounds x xs _ refl).0)
 
-  ends_decide : (Falls test ⊎ Rises test) → (x : ℤ) (xs : List ℤ) → (test (fold int_min x xs) || test (fold int_max x xs))
+  ends_decide : (Falls test ⊎ Rises test) → (x : ℤ) (xs : List ℤ) → (test (fold int_min x xs) || test (fold int_max x
+      xs))
       ≡ list_any test (x ∷ xs)
   ends_decide (inl falls) x xs = or_left _ _ (falls _ _ (in_order x xs)) ∙ least_decides falls x _
   ends_decide (inr rises) x xs = or_right _ _ (rises _ _ (in_order x xs)) ∙ greatest_decides rises x _

@@ -5,9 +5,8 @@ use Rattle.std.specs.Str.Iter.{split_steps, split_text, split_has_more, split_pa
 use Rattle.cj_decimal.specs.Meaning.Equality.{IsNormal, IsInRange, IsFixed}
 use Rattle.cj_decimal.specs.Meaning.Spelling.{SpellsNumber, IsValue, IsNumberOutOfRange}
 use Rattle.cj_decimal.specs.Meaning.Class.{Class, no_number, out_of_range, not_whole, whole, value_by}
-use Rattle.cj_decimal.proofs.Classes.{class}
-use Rattle.cj_decimal.proofs.Law.{has_one_value, not_both, value_is_number}
-use Rattle.cj_feature.proofs.Fixed.{test-decides, units-only}
+use Rattle.cj_decimal.proofs.Classes.{class, has_one_value, not_both, value_is_number}
+use Rattle.cj_feature.proofs.Rules.{test-decides, units-only}
 use Rattle.cj_stream.specs.BoxText.{is_number_by, is_edge, edge, is_empty, box_text}
 use Rattle.cj_stream.specs.declared.query.fault.QueryFault.TheVariants.{BadBox, BoxRange, EmptyBox}
 

@@ -1,13 +1,17 @@
--- Small streams of which each city object has to be reached, of which what is asked for is left out, or whose types of
--- extensions are known, computed.
-use Rattle.cj_stream.proofs.Common.{Bool, Complete, Kept, List, None, Reason, Refused, Rules, Some, Tree, [], ap, by_least, chars, ended_line, ending_of, false, feature, forest, found_at, is_blank_byte, is_kept_if_valid, is_utf8, least, length, list_all, lit≤, nat_lt, not, plain_header, raw, refl, small_header, tree_of, tree_verdict, true, verdict_at, ℕ, ◌&&◌, ◌++◌, ◌∙◌, ◌∷◌, ◌≡◌, ◌≤◌, Json, IsUtf8-from_is_utf8}
+-- Worked rows of what is chosen and held at most.
+use Rattle.cj_stream.proofs.Common.{Bool, Complete, Kept, List, None, Reason, Refused, Rules, Some, Tree, [], ap, by_least, chars, ended_line, ending_of, false, feature, forest, found_at, is_blank_byte, is_kept_if_valid, is_utf8, least, length, list_all, lit≤, nat_lt, not, plain_header, raw, refl, small_header, tree_of, tree_verdict, true, verdict_at, ℕ, ◌&&◌, ◌++◌, ◌∙◌, ◌∷◌, ◌≡◌, ◌≤◌, Json, IsUtf8-from_is_utf8, Judgement, LimitPair, arith, broken, contents, exact_peaks, first_content, is_utf8-from_IsUtf8, judged_nest, judged_size, max, min, nest, size, small_feature, spelled, sunk, tree_nest, tree_size, ◌+◌}
 use lib.Utf8.{encode}
-use Rattle.cj_spans.proofs.Judgements.{judgement}
+use Rattle.cj_spans.proofs.Judgements.{judgement, say_same}
 use Rattle.cj_feature.specs.Examples.{chain, part_apart, main_part, extension}
-use Rattle.cj_feature.proofs.Worked.{plain_header-valid, plain_feature-valid, chain-valid, part_apart-valid, part_apart-refused, main_part-refused, extension-refused, extension-valid}
+use Rattle.cj_feature.proofs.Valid.{plain_header-valid, plain_feature-valid, chain-valid, part_apart-valid, part_apart-refused, main_part-refused, extension-refused, extension-valid, plain_feature}
 use Rattle.cj_stream.specs.ChoiceRows.{choosing, ApartRow, ChainRow, ExcludeRow, ExtensionRow}
 use Rattle.cj_stream.proofs.RowLemmas.{by-tree, header_tree, holds-everything, written, second-refused, two-good, open_line, IsLine, header_line, feature_line, spelled-tree}
 use Rattle.cj_stream.proofs.VerdictLemmas.{verdict-json, tree-valid, tree-unasked}
+use Rattle.cj_stream.specs.BoundRows.{usual, held, EmptyRow, HeaderRow, CutRow, EdgeRow, ExactRow}
+
+-- ---- small streams of which each city object has to be reached, of which what is asked for is left out, or whose
+-- types of
+-- extensions are known, computed.
 
 apart_json : Json part_apart.line part_apart.tree
 unfolding forest
@@ -120,4 +124,60 @@ row_extension = (
       _ extension-refused,
   kept _ _ _ extension_line (lit≤ tt) refl
       extension-valid (holds-everything _ _),
+)
+
+-- ---- what small texts may hold at most, and what they hold, computed
+
+pub nothing : EmptyRow
+nothing = (refl, refl)
+
+pub header : HeaderRow
+header = ((refl, refl), (refl, refl), (refl, refl))
+
+pub long : CutRow
+long = ((refl, refl), (refl, refl))
+
+pub edge : EdgeRow
+edge = (
+  record { bytes = lit≤ tt; tokens = lit≤ tt; depth = lit≤ tt },
+  (λ b. let h = b.bytes in absurd (omega arith)),
+  (λ b. let h = b.tokens in absurd (omega arith)),
+  (λ b. let h = b.depth in absurd (omega arith)),
+)
+
+-- ---- what is held at most
+
+-- the size and the nest of a line that spells this tree
+module _ {b : List ℕ} {d : ℕ} (t : Tree) (json : Json b t) (shallow : nest t ≤ d) where
+  measured : (j : Judgement b d) → (judged_size j ≡ size t) × (judged_nest j ≡ nest t)
+  measured (spelled u k m) =
+      let same = say_same (spelled u k m) (spelled t json shallow) in (ap size same, ap nest same)
+  measured (broken i s m) = absurd (say_same (broken i s m) (spelled t json shallow))
+  measured (sunk i s) = absurd (say_same (sunk i s) (spelled t json shallow))
+
+-- of one line, and of two
+module _ (limits : LimitPair) (s a : List ℕ) (n d : ℕ) (first : first_content s ≡ a) (size : tree_size limits a ≡ n)
+    (nest : tree_nest limits a ≡ d) where
+  one-line : contents s ≡ a ∷ [] → exact_peaks limits s ≡ held (length a + 0) (n + 0) (max d 0)
+  one-line all = rw (all, first, size, nest)
+
+  two-lines : (b : List ℕ) (m e : ℕ) → contents s ≡ a ∷ b ∷ [] → tree_size limits b ≡ m → tree_nest limits b ≡ e
+      → exact_peaks limits s ≡ held (length a + max (min (length b) limits.line) 0) (n + max m 0) (max d (max e 0))
+  two-lines b m e all more deep = rw (all, first, size, nest, more, deep)
+
+header-held : (tree_size usual small_header ≡ 21) × (tree_nest usual small_header ≡ 3)
+header-held =
+    rw (is_utf8-from_IsUtf8 small_header header_line.is_text)
+    (measured plain_header header_line.json header_line.shallow _)
+
+feature-held : (tree_size usual small_feature ≡ 13) × (tree_nest usual small_feature ≡ 3)
+feature-held =
+    rw (is_utf8-from_IsUtf8 small_feature feature_line.is_text)
+    (measured plain_feature.tree feature_line.json feature_line.shallow _)
+
+pub exact : ExactRow
+exact = (
+  one-line usual small_header small_header 21 3 refl header-held.0 header-held.1 refl,
+  two-lines usual (small_header ++ 10 ∷ (small_feature ++ 10 ∷ [])) small_header 21 3 refl header-held.0 header-held.1
+      small_feature _ 3 refl feature-held.0 feature-held.1,
 )

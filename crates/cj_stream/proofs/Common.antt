@@ -95,3 +95,8 @@ pub use Rattle.std.specs.Str.Pattern.{FindsChar}
 pub use Rattle.std.specs.declared.cmp.Ordering.{Ordering}
 pub use Rattle.std.specs.declared.cmp.Ordering.TheVariants.{Equal, Greater, Less}
 pub use Rattle.std.specs.declared.str.Split.{Split}
+
+-- ---- values that are not equal
+
+pub false-true : false ≡ true → ⊥
+false-true e = cc

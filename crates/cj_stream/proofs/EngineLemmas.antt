@@ -1,14 +1,31 @@
 -- What an engine holds, says and delivers, from what its splitter did.
-use Rattle.cj_stream.proofs.Common.{Bool, Counts, Delivers, End, EngineState, Faults, Going, HasRoom, HoldsFew, Invalid, IsBelow, IsBounded, IsWithin, LacksMemory, LimitPair, Line, List, Memory, None, Option, Peaks, Reading, Reads, Refused, Rules, Ruling, Scanned, Scanning, SinkContract, Some, StandsFor, Stops, IsEndAfter, WriteFault, [], ap, append-nil, append_assoc, arith, begun, bytes_bound, closed, cond, ended_line, false, first_content, further, goes_on, held_by, is_lenient, judged, last_line, length, length-append, limits_of, lines, map, nat_lt, nat_tests, peaks_of, refl, refusal_from, refusal_in, rulings_closed, rulings_first, slice_get, stretch, sym, take, true, up_to, verdict, with_sink, ℕ, ◌++◌, ◌+◌, ◌<◌, ◌∙◌, ◌∷◌, ◌≡◌, ◌≤◌}
+use Rattle.cj_stream.proofs.Common.{Bool, End, Err, Item, JudgedAs, Reading, Handles, SinkContract, Stays, Verdict, arith, refl, with_sink, ◌+◌, ◌∙◌, ◌≡◌, nat_tests, Counts, Delivers, EngineState, Faults, Going, HasRoom, HoldsFew, Invalid, IsBelow, IsBounded, IsWithin, LacksMemory, LimitPair, Line, List, Memory, None, Option, Peaks, Reads, Refused, Rules, Ruling, Scanned, Scanning, Some, StandsFor, Stops, IsEndAfter, WriteFault, [], ap, append-nil, append_assoc, begun, bytes_bound, closed, cond, ended_line, false, first_content, further, goes_on, held_by, is_lenient, judged, last_line, length, length-append, limits_of, lines, map, nat_lt, peaks_of, refusal_from, refusal_in, rulings_closed, rulings_first, slice_get, stretch, sym, take, true, up_to, verdict, ℕ, ◌++◌, ◌<◌, ◌∷◌, ◌≤◌}
 use Rattle.cj_stream.specs.Reading.{IsSound, Advances, IsNext, HasCause, stop_at}
-use Rattle.cj_stream.proofs.FirstLemmas.{take-front, lines-front, first-front, first-closed_lines}
-use Rattle.cj_stream.proofs.LineLemmas.{closed-grows, first_content-grows, first-length, lines-cut}
-use Rattle.cj_stream.proofs.IsLinesLemmas.{lines-whole}
+use Rattle.cj_stream.proofs.TookLemmas.{take-front, lines-front, first-front, first-closed_lines, More-over, over-kept}
+use Rattle.cj_stream.proofs.LineLemmas.{closed-grows, first_content-grows, first-length, lines-cut, lines-whole}
 use Rattle.cj_stream.proofs.ScanningLemmas.{few-scanned, first-closed}
 use Rattle.cj_stream.proofs.ReadingLemmas.{length-map_lines, dropped-long}
-use Rattle.cj_stream.proofs.RulingLemmas.{refusal-append}
-use Rattle.cj_stream.proofs.TookLemmas.{More-over, over-kept}
+use Rattle.cj_stream.proofs.VerdictLemmas.{refusal-append}
 use Rattle.std.proofs.lemmas.List.{nil_from_length}
+
+-- ---- what stays of a reading, whatever comes of some bytes
+
+pub Stays-same : (f g : Reading) → g ≡ f → Stays f g
+Stays-same f g e = rw e (record { rules = refl; header_rises = omega arith; line_rises = omega arith })
+
+pub Stays-then : (f g h : Reading) → Stays f g → Stays g h → Stays f h
+Stays-then f g h a b = record {
+  rules = b.rules ∙ a.rules;
+  header_rises = omega arith;
+  line_rises = omega arith;
+}
+
+-- an error leaves the count of lines
+pub handled-err : {S : Type 0} (law : SinkContract S) (on : Bool) (v : Verdict) (i : Item) (f g : Reading) (s t : S)
+    (e : End) → Handles law (JudgedAs (f.lines + 1) on v i) (with_sink f s) (Err e) (with_sink g t) → g.lines ≡ f.lines
+handled-err law on v i f g s t e x = grind (arith, nat_tests)
+
+-- ---- what an engine holds, says and delivers, from what its splitter did
 
 -- what is held is within the peaks
 pub held-below : (e : EngineState) → IsWithin e.reading.header → IsWithin e.reading.line

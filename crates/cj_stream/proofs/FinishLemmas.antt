@@ -1,15 +1,38 @@
--- What the end of a text makes of an engine.
-use Rattle.cj_stream.proofs.Common.{Complete, Concludes, Counts, Delivers, End, Err, Faults, Finishes, FinishesWith, HasRoom, HoldsFew, IsExact, IsLeft, IsWithin, LimitPair, Line, List, Memory, NoHeader, None, Ok, OnErr, OnOk, Reading, Reads, Refused, Result, Rules, Scanned, Scanning, ScansNext, Handles, SinkContract, Some, StandsFor, WriteFault, [], answer_of, ap, append-nil, arith, begun, begun_after, bytes_bound, closed, contents, end_of, ended_line, ending, ending_of, exact_peaks, false, first_content, goes_on, greatest, held_length, inl, inr, is_lenient, judged_next, last_line, later_of, length, length-append, lines, map, max, nat_tests, next_verdict, refl, refusal_from, refusal_in, rulings_first, stretch, sym, take, take_all, true, unwrap_or, up_to, with_sink, ℕ, ◌++◌, ◌+◌, ◌<◌, ◌∙◌, ◌∷◌, ◌≡◌, ◌≤◌, ◌⊎◌}
+-- What the end of a text makes of an engine, and what devices say of an end.
+use Rattle.cj_stream.proofs.Common.{Bool, End, Err, IsTrue, IsUnread, Ok, ReadFault, ReadLimit, Result, false, suc, true, zero, ℕ, ◌↔◌, ◌≡◌, Complete, Concludes, Counts, Delivers, Faults, Finishes, FinishesWith, HasRoom, HoldsFew, IsExact, IsLeft, IsWithin, LimitPair, Line, List, Memory, NoHeader, None, OnErr, OnOk, Reading, Reads, Refused, Rules, Scanned, Scanning, ScansNext, Handles, SinkContract, Some, StandsFor, WriteFault, [], answer_of, ap, append-nil, arith, begun, begun_after, bytes_bound, closed, contents, end_of, ended_line, ending, ending_of, exact_peaks, first_content, goes_on, greatest, held_length, inl, inr, is_lenient, judged_next, last_line, later_of, length, length-append, lines, map, max, nat_tests, next_verdict, refl, refusal_from, refusal_in, rulings_first, stretch, sym, take, take_all, unwrap_or, up_to, with_sink, ◌++◌, ◌+◌, ◌<◌, ◌∙◌, ◌∷◌, ◌≤◌, ◌⊎◌}
+use Rattle.cj_stream.specs.Device.{taken_by}
 use Rattle.std.proofs.Common.{eqb}
 use Rattle.cj_stream.proofs.LineLemmas.{lines-cut, begun_after-empty}
-use Rattle.cj_stream.proofs.HandledLemmas.{Came, ended, refused, failed, lacked, came}
+use Rattle.cj_stream.proofs.TookLemmas.{Came, ended, refused, failed, lacked, came, lines-front, More-line, More-none, over-kept}
 use Rattle.cj_stream.proofs.ReadingLemmas.{length-map_lines, left-same, zero_or, Counted-next, greatest-later, held-nothing}
 use Rattle.cj_stream.proofs.GoodLemmas.{good-complete, good-refused}
 use Rattle.cj_stream.proofs.EngineLemmas.{held-below, peaks-bounded, same-peaks, get-next, Counts-front}
-use Rattle.cj_stream.proofs.FirstLemmas.{lines-front}
-use Rattle.cj_stream.proofs.RulingLemmas.{refusal-append}
-use Rattle.cj_stream.proofs.TookLemmas.{More-line, More-none, over-kept}
+use Rattle.cj_stream.proofs.VerdictLemmas.{refusal-append}
 use Rattle.std.proofs.lemmas.List.{nil_from_length}
+
+-- ---- what the answers of devices say of an end
+
+-- where no read has failed, an end that no reader makes is no read fault
+pub unfailed-end : (failed : Bool) (e : End) → failed ≡ false → IsUnread e → IsTrue failed ↔ (e ≡ ReadFault)
+unfailed-end true e f u = cc
+unfailed-end false e f u = (λ t. cc, λ is. absurd (rw is at u))
+
+-- and so the end by the number of reads
+pub unfailed-limit : (failed : Bool) → failed ≡ false → IsTrue failed ↔ (ReadLimit ≡ ReadFault)
+unfailed-limit true f = cc
+unfailed-limit false f = (λ t. cc, λ is. cc)
+
+-- such an end is none by the number of reads
+pub unread-limit : {P : Type 0} (e : End) → IsUnread e → e ≡ ReadLimit → P
+unread-limit e u is = absurd (rw is at u)
+
+-- a write took as many bytes as it answered
+pub taken-is : {E : Type 0} (r : Result ℕ E) (n : ℕ) → taken_by r ≡ Ok n → r ≡ Ok n
+taken-is (Ok zero) n e = cc
+taken-is (Ok (suc m)) n e = cc
+taken-is (Err x) n e = cc
+
+-- ---- what the end of a text makes of an engine
 
 -- the end of a text, by the number of its lines
 abbrev pub Concluded : Rules → List ℕ → ℕ → End → Type 0

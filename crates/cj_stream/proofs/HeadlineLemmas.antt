@@ -2,10 +2,9 @@
 use Rattle.cj_stream.proofs.Common.{Account, Appends, BeginsWell, Channel, Complete, Copies, End, Ends, Fate, HasRisen, Headline, IsBounded, IsExact, IsUnhindered, IsUnread, Keeps, Kept, LacksMemory, Line, List, Memory, NotesPieces, NotesRun, Option, Outputs, Peaks, ReadFault, ReadLimit, Refused, RefusedMemory, Report, Rules, Run, SinkContract, Some, Took, WriteFault, [], ap, append-nil, arith, begun, closed, ended_line, ending, in_pieces, inl, inr, joined, judged, judged_lines, judged_list, last_line, lines, map, output, outputs, refl, refusal_in, reported, slice_get, stream_of, subst, sym, verdict, ℕ, ◌++◌, ◌∙◌, ◌∷◌, ◌≡◌, ◌⊎◌, nat_tests}
 use Rattle.cj_stream.specs.Run.{fate_of, HeadlineOfRun, LacksRoom, Runs, Writes}
 use Rattle.cj_stream.specs.Meaning.Judged.{output_in, reported_in, ending_in}
-use Rattle.cj_stream.proofs.AgreeLemmas.{ending-in, output-in, reported-in}
+use Rattle.cj_stream.proofs.AgreeLemmas.{ending-in, output-in, reported-in, HasPeaks-exact, IsExact-peaks}
 use Rattle.cj_stream.proofs.CutLemmas.{refused-more}
 use Rattle.cj_stream.proofs.JudgedLemmas.{list-are, list-only}
-use Rattle.cj_stream.proofs.JudgedPeaks.{HasPeaks-exact, IsExact-peaks}
 use Rattle.cj_stream.proofs.LineLemmas.{closed-then, lines-cut}
 use Rattle.cj_stream.proofs.NoteLemmas.{noted-none}
 use Rattle.cj_stream.proofs.OutputLemmas.{memory-sink}

@@ -1,11 +1,45 @@
--- The bytes that a writer gets in a run.
-use Rattle.cj_stream.proofs.Common.{Account, Appends, AppendsMore, AppendsPart, Complete, Counts, Delivers, End, Ends, Item, Keeps, LeavesNext, Line, List, Memory, None, Option, Puts, Refused, Rules, Ruling, Run, SinkContract, Some, Took, TookFront, WriteFault, [], ap, flat_map, flat_map-append, good, good_from, is_kept, item_after, kept, kept_of, length, lines, output_first, prefixes, raw_item, refl, refusal_in, ruling_after, rulings, rulings_first, rulings_good, slice_get, stream_of, stretch, take, true, up_to, verdict, whole, writes_law, ℕ, ◌++◌, ◌∙◌, ◌∷◌, ◌≡◌, arith, nat_tests}
-use Rattle.cj_stream.specs.Run.{Runs, Writes, WritesLines}
-use Rattle.cj_stream.proofs.FirstLemmas.{first-split}
-use Rattle.cj_stream.proofs.GoodLemmas.{drop-next, kept-head}
-use Rattle.cj_stream.proofs.KnownLemmas.{AppendsPart-after, AppendsPart-front}
-use Rattle.cj_stream.proofs.TookLemmas.{More-all, Took-split, front-took, over-kept, took-good, took-whole}
+-- The bytes that a writer gets in a run, and known bytes that grow.
+use Rattle.cj_stream.proofs.Common.{Appends, AppendsPart, Err, List, Ok, OnErr, Option, Result, ap, append_assoc, arith, drop, length, length-drop, sym, take, take-append-drop, take_all, ℕ, ◌++◌, ◌-◌, ◌∙◌, ◌≡◌, ◌≤◌, Account, AppendsMore, Complete, Counts, Delivers, End, Ends, Item, Keeps, LeavesNext, Line, Memory, None, Puts, Refused, Rules, Ruling, Run, SinkContract, Some, Took, TookFront, WriteFault, [], flat_map, flat_map-append, good, good_from, is_kept, item_after, kept, kept_of, lines, output_first, prefixes, raw_item, refl, refusal_in, ruling_after, rulings, rulings_first, rulings_good, slice_get, stream_of, stretch, true, up_to, verdict, whole, writes_law, ◌∷◌, nat_tests}
 use Rattle.std.proofs.KnownBytes.{Appends-trans, Appends-nil}
+use Rattle.cj_stream.specs.Run.{Runs, Writes, WritesLines}
+use Rattle.cj_stream.proofs.TookLemmas.{first-split, More-all, Took-split, front-took, over-kept, took-good, took-whole}
+use Rattle.cj_stream.proofs.GoodLemmas.{drop-next, kept-head}
+
+-- ---- known bytes that grow twice
+
+-- what is left of a slice after its first n bytes were taken
+pub taken_more : (all done rest : List ℕ) (n : ℕ) → n ≤ length rest → all ≡ done ++ rest
+    → all ≡ (done ++ take n rest) ++ take (length rest - n) (drop n rest)
+taken_more all done rest n le e =
+    rw (take_all (length rest - n) (drop n rest) (omega (arith, length-drop n rest)))
+    (e ∙ ap (λ z. done ++ z) (sym (take-append-drop n _))
+    ∙ sym (append_assoc done (take n rest) (drop n rest)))
+
+-- a fact, whatever the result
+pub on_err_any : {T E P : Type 0} (r : Result T E) → P → OnErr r P
+on_err_any (Ok x) p = tt
+on_err_any (Err x) p = p
+
+-- some bytes, and then a prefix of others
+pub AppendsPart-after : (a b c : Option (List ℕ)) (x y : List ℕ) → Appends a b x → AppendsPart b c y
+    → AppendsPart a c (x ++ y)
+AppendsPart-after a b c x y p q = record {
+  front = x ++ q.front;
+  rest = q.rest;
+  whole = ap (λ z. x ++ z) q.whole ∙ sym (append_assoc x q.front q.rest);
+  grows = Appends-trans a b c x _ p q.grows;
+}
+
+-- a prefix of some bytes, of which others follow
+pub AppendsPart-front : (a b : Option (List ℕ)) (x y : List ℕ) → AppendsPart a b x → AppendsPart a b (x ++ y)
+AppendsPart-front a b x y q = record {
+  front = q.front;
+  rest = q.rest ++ y;
+  whole = ap (λ z. z ++ y) q.whole ∙ append_assoc q.front q.rest y;
+  grows = q.grows;
+}
+
+-- ---- the bytes that a writer gets in a run
 
 -- lines that a writer took, one after another
 pub Took-appends : {S : Type 0} (contents : S → Option (List ℕ)) (s t : S) (ls : List Item)

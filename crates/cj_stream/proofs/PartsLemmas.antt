@@ -1,14 +1,14 @@
--- A stream in parts: its lines, and what is said of them.
-use Rattle.cj_stream.proofs.Common.{Complete, End, IsCut, Kept, LimitPair, Line, List, NoLf, None, Option, Peaks, Rules, Some, [], ap, append-nil, append_assoc, arith, begun, closed, contents, ended_line, ending, ending_of, exact_peaks, filter, filter-append, first_content, flat_map, flat_map-append, good, good_from, greater_peaks, greatest, headed, held_length, is_feature, item_after, kept, kept_from, later_of, length, length-append, length-map, lines, map, map-append, max, moved_end, moved_report, nat_tests, option_map, output, raw_item, refl, refusal_in, reported, reported_from, sym, tree_nest, tree_size, unwrap_or, verdict, whole, ℕ, ◌++◌, ◌+◌, ◌∙◌, ◌∷◌, ◌≡◌}
+-- A stream in parts, and one of which lines are left out.
+use Rattle.cj_stream.proofs.Common.{Complete, End, IsCut, Kept, LimitPair, Line, List, NoLf, None, Option, Peaks, Rules, Some, [], ap, append-nil, append_assoc, arith, begun, closed, contents, ended_line, ending, ending_of, exact_peaks, filter, filter-append, first_content, flat_map, flat_map-append, good, good_from, greater_peaks, greatest, headed, held_length, is_feature, item_after, kept, kept_from, later_of, length, length-append, length-map, lines, map, map-append, max, moved_end, moved_report, nat_tests, option_map, output, raw_item, refl, refusal_in, reported, reported_from, sym, tree_nest, tree_size, unwrap_or, verdict, whole, ℕ, ◌++◌, ◌+◌, ◌∙◌, ◌∷◌, ◌≡◌, Bool, cond, is_kept, refusal_from, refusal_of, suc}
 use Rattle.cj_stream.proofs.CutLemmas.{lines-more}
 use Rattle.cj_stream.proofs.EngineLemmas.{same-peaks}
-use Rattle.cj_stream.proofs.GoodLemmas.{complete-none, ending-refused}
-use Rattle.cj_stream.proofs.IsLinesLemmas.{lines-ended, whole-begun}
-use Rattle.cj_stream.proofs.LineLemmas.{closed-ended, lines-cut}
-use Rattle.cj_stream.proofs.MovedLemmas.{refusal-moved, good-moved, kept-moved, reported-moved}
-use Rattle.cj_stream.proofs.VerdictLemmas.{valid-first}
-use Rattle.cj_stream.proofs.RulingLemmas.{good-all, good-append, good-stays, kept-append, refusal-append, refusal-stays, refusal-step, reported-append}
+use Rattle.cj_stream.proofs.GoodLemmas.{complete-none, ending-refused, refusal-moved, good-moved, kept-moved, reported-moved}
+use Rattle.cj_stream.proofs.LineLemmas.{lines-ended, whole-begun, closed-ended, lines-cut}
+use Rattle.cj_stream.proofs.VerdictLemmas.{valid-first, good-all, good-append, good-stays, kept-append, refusal-append, refusal-stays, refusal-step, reported-append}
 use Rattle.std.proofs.lemmas.List.{nil_from_length}
+use Rattle.cj_stream.specs.Selection.{LeavesKept, all_lines, staying}
+
+-- ---- a stream in parts: its lines, and what is said of them
 
 -- ---- the lines of a part
 
@@ -230,3 +230,75 @@ module _ (limits : LimitPair) (h : List ℕ) where
         exact-headed,
         exact-headed,
       )
+
+-- ---- a stream keeps the same where lines are left out of it that are not kept
+
+map-none : (f : End → End) (o : Option End) → option_map f o ≡ None → o ≡ None
+map-none f None h = refl
+map-none f (Some x) h = cc
+
+module _ (rules : Rules) (e : Line) where
+  -- one line more before some others changes nothing
+  none-before : (l : Line) (zs : List Line) → refusal_from rules (e ∷ l ∷ []) zs ≡ None
+      → refusal_from rules (e ∷ []) zs ≡ None
+  none-before l zs h = map-none _ _ (sym (refusal-moved _ e _ _) ∙ h)
+
+  none-after : (l : Line) (zs : List Line) → refusal_from rules (e ∷ []) zs ≡ None
+      → refusal_from rules (e ∷ l ∷ []) zs ≡ None
+  none-after l zs h = refusal-moved _ e _ _ ∙ ap (option_map (moved_end 1)) h
+
+  -- no refusal is an end among the lines that stay
+  none-staying : (xs : List (Line × Bool)) → refusal_from rules (e ∷ []) (all_lines xs) ≡ None
+      → refusal_from rules (e ∷ []) (staying xs) ≡ None
+  none-staying [] h = refl
+  none-staying (x ∷ xs) h =
+      grind (arith, none-staying xs, none-before x.0 (all_lines xs), none-after x.0 (staying xs))
+
+  -- the same is kept of them
+  kept-staying : (xs : List (Line × Bool)) → LeavesKept rules e xs
+      → kept_from rules (e ∷ []) (staying xs) ≡ kept_from rules (e ∷ []) (all_lines xs)
+  kept-staying [] h = refl
+  kept-staying (x ∷ xs) h =
+      grind (
+        arith,
+        h 0 x (omega arith),
+        kept-moved,
+        kept-moved rules e (x.0 ∷ []) (staying xs),
+        kept-staying xs (λ k d small. h (suc k) d (omega (arith, small))),
+      )
+
+module _ (rules : Rules) (h a b : List ℕ) (xs : List (Line × Bool)) (free : NoLf h) (all : lines a ≡ all_lines xs)
+    (some : lines b ≡ staying xs)
+    (left : LeavesKept rules (ended_line h) xs) (done : ending rules (headed h a) ≡ Complete) where
+  lines_headed : lines (headed h a) ≡ ended_line h ∷ all_lines xs
+  lines_headed = lines-headed h a free ∙ ap (λ z. ended_line h ∷ z) all
+
+  part : lines (headed h b) ≡ ended_line h ∷ staying xs
+  part = lines-headed h b free ∙ ap (λ z. ended_line h ∷ z) some
+
+  none-whole : refusal_in rules (ended_line h ∷ all_lines xs) ≡ None
+  none-whole = let k = complete-none _ _ done in rw lines_headed at k
+
+  none-part : refusal_in rules (ended_line h ∷ staying xs) ≡ None
+  none-part =
+      let both = refusal-step (refusal_of rules 1 (verdict rules [] h))
+      _ none-whole in
+      let later = none-staying rules (ended_line h) xs both.1 in
+      rw (both.0, later) refl
+
+  pub ending-selection : ending rules (headed h b) ≡ Complete
+  ending-selection = rw part (ap (λ o. unwrap_or o Complete) none-part)
+
+  pub kept-selection : kept rules (headed h b) ≡ kept rules (headed h a)
+  kept-selection =
+      rw (
+        part,
+        lines_headed,
+        good-all rules [] (ended_line h ∷ staying xs) none-part,
+        good-all rules [] (ended_line h ∷ all_lines xs) none-whole,
+      )
+      (ap (λ z. cond (is_kept (verdict rules [] h)) (item_after rules [] (ended_line h) ∷ z) z)
+      (kept-staying rules (ended_line h) xs left))
+
+  pub output-selection : output rules (headed h b) ≡ output rules (headed h a)
+  output-selection = ap (flat_map raw_item) kept-selection

@@ -1,14 +1,16 @@
--- How a splitter advances over a piece, and where it stops.
-use Rattle.cj_stream.proofs.Common.{Bool, End, Err, Invalid, IsLeft, Item, JudgedAs, LimitPair, LineTooLong, List, Memory, NoLf, Ok, Reading, Reads, Reason, Refused, Result, Rules, Handles, SinkContract, Stops, Stores, TookMore, Unstored, Verdict, WriteFault, [], ap, append-nil, append_assoc, arith, begun, begun_of, closed, ended_line, false, further, is_kept, is_lenient, judged_next, kept_of, length, length-append, long_line, map, nat_tests, next_verdict, refl, ruling_after, rulings, rulings_closed, subst, sym, begun_verdict, true, with_sink, ℕ, ◌++◌, ◌+◌, ◌<◌, ◌∙◌, ◌∷◌, ◌≡◌}
+-- How a splitter advances over a piece, where it stops, and what it carries on.
+use Rattle.cj_stream.proofs.Common.{Bool, End, Err, Invalid, IsLeft, Item, JudgedAs, LimitPair, LineTooLong, List, Memory, NoLf, Ok, Reading, Reads, Reason, Refused, Result, Rules, Handles, SinkContract, Stops, Stores, TookMore, Unstored, Verdict, WriteFault, [], ap, append-nil, append_assoc, arith, begun, begun_of, closed, ended_line, false, further, is_kept, is_lenient, judged_next, kept_of, length, length-append, long_line, map, nat_tests, next_verdict, refl, ruling_after, rulings, rulings_closed, subst, sym, begun_verdict, true, with_sink, ℕ, ◌++◌, ◌+◌, ◌<◌, ◌∙◌, ◌∷◌, ◌≡◌, SplitterState, HeldUntil, Scanned, Scanning, TakesAll, TakesSome, HoldsFewNext, ScansNext, judged_begun, newline}
 use Rattle.std.proofs.Common.{ltb}
 use Rattle.cj_stream.specs.Reading.{IsBegun, Advances, IsNext, HasCause, stop_at}
 use Rattle.cj_stream.proofs.LineLemmas.{closed-more, begun-more, closed-lf, begun-lf}
 use Rattle.cj_stream.proofs.VerdictLemmas.{verdict-long}
 use Rattle.cj_stream.proofs.ReadingLemmas.{left-same, strict-first, Reads-left, Reads-stored, Reads-ended, held-whole, dropped-long, said-verdict, closed-next, map_lines-append}
-use Rattle.cj_stream.proofs.TookLemmas.{More-none, More-then, over-kept}
-use Rattle.cj_stream.proofs.HandledLemmas.{Came, ended, refused, failed, lacked, came}
+use Rattle.cj_stream.proofs.TookLemmas.{More-none, More-then, over-kept, Came, ended, refused, failed, lacked, came}
 use Rattle.cj_stream.proofs.EngineLemmas.{next-line}
 use Rattle.std.proofs.lemmas.List.{nil_from_length}
+use Rattle.cj_stream.proofs.ScanningLemmas.{few-line, few-scanned, first-closed, scanned-begun, scanned-line}
+
+-- ---- how a splitter advances over a piece, and where it stops
 
 module _ {S : Type 0} (law : SinkContract S) where
   -- nothing was put where no line was ended
@@ -241,4 +243,104 @@ module _ {S : Type 0} (law : SinkContract S) where
         reads = Reads-left g h (p ++ part) u.0 a.reads;
         puts = a.puts;
         cause = let k = rw st.rules at u.1 in rw u.0.same k;
+      }
+
+-- ---- what a splitter carries on where some bytes come after others that were all taken
+
+module _ {S : Type 0} (law : SinkContract S) {f g : SplitterState} {s t : S} {bytes : List ℕ}
+    (all : TakesAll law bytes (with_sink f s) (with_sink g t)) where
+  limits : (p : List ℕ) → Reads f.reading p → g.reading.rules.limits ≡ f.reading.rules.limits
+  limits p reads = ap (λ r. r.limits) (all.advances p reads).rules
+
+  scanned : (p : List ℕ) → Reads f.reading p → Scanned f.reading.rules.limits (closed p) f.scanning
+      → Scanned g.reading.rules.limits (closed (p ++ bytes)) g.scanning
+  scanned p reads k = rw (limits p reads) (all.scanned p reads k)
+
+  pub TakesAll-then : {more : List ℕ} {h : SplitterState} {u : S} → TakesAll law more (with_sink g t) (with_sink h u)
+      → TakesAll law (bytes ++ more) (with_sink f s) (with_sink h u)
+  TakesAll-then {more} rest = record {
+    advances = λ p reads.
+        let a = all.advances p reads in
+        Advances-then _ a (rest.advances (p ++ bytes) a.reads);
+    scanned = λ p reads k.
+        let z = rest.scanned (p ++ bytes) (all.advances p reads).reads (scanned p reads k) in
+        rw (limits p reads, append_assoc p bytes more) at z;
+  }
+
+  pub TakesSome-then : {more : List ℕ} {h : SplitterState} {u : S} {e : End}
+      → TakesSome law more (with_sink g t) e (with_sink h u)
+      → TakesSome law (bytes ++ more) (with_sink f s) e (with_sink h u)
+  TakesSome-then {more} rest = record {
+    stops = λ p reads.
+        let a = all.advances p reads in
+        Stops-later _ a (rest.stops (p ++ bytes) a.reads);
+    held = λ p reads k.
+        let z = rest.held (p ++ bytes) (all.advances p reads).reads (scanned p reads k) in
+        rw (limits p reads, append_assoc p bytes more) at z;
+  }
+
+  -- how much of trees was held by n lines
+  pub HeldUntil-then : (more : List ℕ) (n : ℕ) (now : Scanning)
+      → ((q : List ℕ) → Reads g.reading q → Scanned g.reading.rules.limits (closed q) g.scanning
+      → HeldUntil g.reading.rules.limits q more n now)
+      → (p : List ℕ) → Reads f.reading p → Scanned f.reading.rules.limits (closed p) f.scanning
+      → HeldUntil f.reading.rules.limits p (bytes ++ more) n now
+  HeldUntil-then more n now rest p reads k =
+      let x = rw (limits p reads) at (rest (p ++ bytes) (all.advances p reads).reads (scanned p reads k)) in
+      record {
+        done = bytes ++ x.done;
+        left = x.left;
+        cut = ap (λ z. bytes ++ z) x.cut ∙ sym (append_assoc bytes x.done x.left);
+        lines = rw (← append_assoc p bytes x.done) x.lines;
+        held = rw (← append_assoc p bytes x.done) x.held;
+      }
+
+-- ---- what a splitter has taken with a part of a line, or with its last part and LF
+
+module _ {S : Type 0} (law : SinkContract S) where
+  module _ (f : SplitterState) (s : S) (part : List ℕ) (free : NoLf part) where
+    -- a part that is stored
+    pub TakesAll-stored : (g : SplitterState) → Stores f.reading part g.reading → g.scanning ≡ f.scanning
+        → TakesAll law part (with_sink f s) (with_sink g s)
+    TakesAll-stored g stored same = record {
+      advances = λ q reads. Advances-stored _ reads free stored;
+      scanned = λ q reads scanned. scanned-begun _ q _ _ _ free same scanned;
+    }
+
+    -- and one that is not, where LF comes after it or not
+    pub TakesSome-unstored : (more : List ℕ) (e : End) → Unstored f.reading part e
+        → TakesSome law (part ++ newline ∷ more) (with_sink f s) e (with_sink f s)
+    TakesSome-unstored more e unstored = record {
+      stops = λ q reads. Stops-unstored _ _ _ reads free unstored;
+      held = λ q reads scanned. few-scanned _ _ _ _ scanned
+          (first-closed q _);
+    }
+
+    pub TakesSome-last : (e : End) → Unstored f.reading part e → TakesSome law part (with_sink f s) e (with_sink f s)
+    TakesSome-last e unstored = record {
+      stops = λ q reads. Stops-unstored_last _ reads free unstored;
+      held = λ q reads scanned. few-scanned _ _ _ _ scanned
+          (first-closed q _);
+    }
+
+    module _ (g h : SplitterState) (t : S) (stored : Stores f.reading part g.reading) (same : g.scanning ≡ f.scanning)
+        (r : Result (Unit {0}) End)
+        (handles : Handles law (judged_begun g.reading (is_lenient g.reading) (begun_verdict g.reading) true)
+        (with_sink g.reading s) r (with_sink h.reading t)) where
+      -- LF comes after it, and the line is handled
+      pub TakesAll-line : r ≡ Ok tt → ScansNext g.reading g.scanning h.scanning
+          → TakesAll law (part ++ newline ∷ []) (with_sink f s) (with_sink h t)
+      TakesAll-line ok scans = record {
+        advances = λ q reads. Advances-line _ reads free stored handles ok;
+        scanned = λ q reads scanned. scanned-line f.reading _ q _ f.scanning _ _ reads free
+            stored same scanned scans;
+      }
+
+      -- or it is the end
+      pub TakesSome-line : (more : List ℕ) (e : End) → r ≡ Err e → HoldsFewNext g.reading g.scanning h.scanning
+          → TakesSome law (part ++ newline ∷ more) (with_sink f s) e (with_sink h t)
+      TakesSome-line more e err few = record {
+        stops = λ q reads. Stops-unhandled _ _ reads free stored handles err;
+        held = λ q reads scanned. few-line f.reading _ q _ f.scanning _ h.scanning reads free stored
+            same scanned _ few;
       }

@@ -3,8 +3,7 @@ use Rattle.cj_stream.proofs.Common.{AreCounted, Bool, Invalid, IsLeft, IsWithin,
 use Rattle.std.proofs.Common.{eqb, ltb, ltb-true}
 use Rattle.cj_stream.specs.Reading.{held_header, stored, IsBegun, Fits, Drops, StaysDropped}
 use Rattle.cj_stream.proofs.LineLemmas.{closed-more, begun-more, closed-lf, begun-lf, first_of-some, first_of-lf, begun_after-some, begun_after-empty}
-use Rattle.cj_stream.proofs.VerdictLemmas.{verdict-first, verdict-long}
-use Rattle.cj_stream.proofs.RulingLemmas.{end-append, kept_of-append, rulings-next}
+use Rattle.cj_stream.proofs.VerdictLemmas.{verdict-first, verdict-long, end-append, kept_of-append, rulings-next}
 use Rattle.std.proofs.lemmas.List.{nil_from_length}
 
 pub zero_or : (n : ℕ) → (n ≡ 0) ⊎ (0 < n)

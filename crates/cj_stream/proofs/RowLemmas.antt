@@ -1,17 +1,20 @@
 -- Worked rows: the trees of their lines, the verdicts, and what comes of them.
-use Rattle.cj_stream.proofs.Common.{Blank, Complete, Gives, IdNotFound, Invalid, IsUtf8, IsUtf8-from_is_utf8, Json, Judgement, Kept, Line, LineTooLong, List, MissingMember, NotUtf8, Reason, Refused, Rules, Some, Syntax, Token, TooDeep, Tree, [], ap, broken, by_least, chars, codes, ended_line, ending_of, false, flat_map, forest, goes_on, good_from, holds, is_blank_byte, is_kept_if_valid, is_utf8, judged_tree, kept_from, length, list_all, lit<, lit≤, nat_lt, nest, other_id, plain_header, raw, raw_item, refl, replicate, small_feature, small_header, spelled, subst, sunk, sym, take, text_verdict, tight_rules, tree_of, tree_verdict, true, utf8_valid_len, verdict, verdict_at, wide_rules, ℕ, ◌&&◌, ◌++◌, ◌∙◌, ◌∷◌, ◌≡◌, ◌≤◌}
+use Rattle.cj_stream.proofs.Common.{Blank, Complete, Gives, IdNotFound, Invalid, IsUtf8, IsUtf8-from_is_utf8, Json, Judgement, Kept, Line, LineTooLong, List, MissingMember, NotUtf8, Reason, Refused, Rules, Some, Syntax, Token, TooDeep, Tree, [], ap, broken, by_least, chars, codes, ended_line, ending_of, false, flat_map, forest, goes_on, good_from, holds, is_blank_byte, is_kept_if_valid, is_utf8, judged_tree, kept_from, length, list_all, lit<, lit≤, nat_lt, nest, other_id, plain_header, raw, raw_item, refl, replicate, small_feature, small_header, spelled, subst, sunk, sym, take, text_verdict, tight_rules, tree_of, tree_verdict, true, utf8_valid_len, verdict, verdict_at, wide_rules, ℕ, ◌&&◌, ◌++◌, ◌∙◌, ◌∷◌, ◌≡◌, ◌≤◌, arith, nat_tests, reported_from}
 use lib.Utf8.{encode}
 use Rattle.cj_spans.specs.declared.step.Mode.TheVariants.{After}
 use Rattle.cj_spans.specs.inner.Machine.{State, state, between, settle}
 use Rattle.cj_spans.specs.Preorder.{spans_of}
 use Rattle.cj_spans.proofs.Forests.{json_shown}
-use Rattle.cj_spans.proofs.Judgements.{judgement, over, by_step, by_depth, sinks, at_end, by_end, text_of, no_end, ends_at, say_same}
+use Rattle.cj_spans.proofs.Judgements.{judgement, over, by_step, by_depth, sinks, at_end, by_end, text_of, no_end, ends_at, say_same, after, spells_end}
 use Rattle.cj_spans.proofs.Lists.{spans_of-flatten}
-use Rattle.cj_spans.proofs.WorkedLines.{after, spells_end}
-use Rattle.cj_feature.proofs.Worked.{plain_feature, euro_feature as euro_tree, euro_feature-valid, plain_header-valid, plain_feature-valid, other_id-refused, feature-no_header, header-no_feature}
+use Rattle.cj_feature.proofs.Valid.{plain_feature, euro_feature as euro_tree, euro_feature-valid, plain_header-valid, plain_feature-valid, other_id-refused, feature-no_header, header-no_feature}
 use Rattle.cj_stream.specs.Rows.{lost_feature, euro_feature, WholeRow, BlankRow, OrderRow, BadRow, LongRow}
 use Rattle.cj_stream.specs.Usual.{everything, usual_options}
 use Rattle.cj_stream.proofs.VerdictLemmas.{verdict-long, verdict-json, verdict-blank, tree-valid}
+use Rattle.cj_stream.specs.LineRows.{TabRow, HeaderRow}
+use Rattle.cj_stream.specs.GoingRows.{going, BetweenRow, FirstRow, LastRow}
+
+-- ---- worked rows: the trees of their lines, the verdicts, and what comes of them
 
 -- ---- trees
 
@@ -278,3 +281,93 @@ deep_after = after_header _ _ _ (deep_second _) _ refl
 
 pub open_after : Gives wide_rules (small_header ++ 10 ∷ replicate 64 91) (Refused 2 64 Syntax) (small_header ++ 10 ∷ [])
 open_after = after_header _ _ _ (open_second _) _ refl
+
+-- ---- small texts with a blank line that is not empty, and with a header alone, computed
+
+-- a form feed is no JSON text, whatever the header
+feed_second : (header : Tree) → verdict_at wide_rules 2 header (12 ∷ []) ≡ Invalid 0 Syntax
+unfolding verdict_at is_utf8 chars encode judgement over by_step by_depth at_end by_end text_of no_end ends_at
+feed_second header = refl
+
+-- a valid header alone
+header-alone : (rules : Rules) (h : Line) → verdict rules [] h.content ≡ Kept → (ending_of rules (h ∷ []) ≡ Complete)
+    × (written rules (h ∷ []) ≡ raw h ++ [])
+header-alone rules h valid = rw valid (refl, rw valid)
+
+tab_between : Gives wide_rules (small_header ++ 10 ∷ 9 ∷ 10 ∷ small_feature) Complete
+    (small_header ++ 10 ∷ small_feature)
+tab_between =
+    blank-between _ _ (header_first _) _ _
+    (verdict-blank _ 2 _ _ (lit≤ tt) refl) feature_third
+
+tab_first : Gives wide_rules (9 ∷ []) (Refused 1 1 Syntax) []
+unfolding verdict_at is_utf8 chars encode utf8_valid_len judgement over by_step by_depth sinks at_end by_end text_of
+    no_end ends_at
+tab_first = (refl, refl)
+
+feed_after : Gives wide_rules (small_header ++ 10 ∷ 12 ∷ []) (Refused 2 0 Syntax) (small_header ++ 10 ∷ [])
+feed_after = after_header _ 0 _ (feed_second _) _ refl
+
+pub tab : TabRow
+tab = (tab_between, tab_first, feed_after)
+
+pub header : HeaderRow
+header = (
+  header-alone _ _ (header_first _),
+  header-alone _ _ (header_first _),
+)
+
+-- ---- small streams in which reading goes on after invalid lines, computed
+
+-- no verdict hangs on whether reading goes on
+pub same-verdict : (rules : Rules) (n : ℕ) (header : Tree) (c : List ℕ)
+    → verdict_at (going rules) n header c ≡ verdict_at rules n header c
+unfolding verdict_at
+same-verdict rules n header c =
+    grind (arith, nat_tests)
+
+module _ (rules : Rules) (on : rules.options.keep_going ≡ true) (place : ℕ) (reason : Reason) where
+  -- a refused line between two good ones, and at the end
+  between_good : (h l f : Line) → verdict rules [] h.content ≡ Kept → verdict rules (h ∷ []) l.content ≡ Invalid place
+      reason
+      → verdict rules (h ∷ l ∷ []) f.content ≡ Kept
+      → ((ending_of rules (h ∷ l ∷ f ∷ []) ≡ Complete) × (written rules (h ∷ l ∷ f ∷ []) ≡ raw h ++ (raw f ++ [])))
+      × (reported_from rules [] (good_from rules [] (h ∷ l ∷ f ∷ []))
+      ≡ record { line = 2; place = place; reason = reason } ∷ [])
+  unfolding verdict_at
+  between_good h l f valid bad good = (
+    (rw (valid, bad, on, good), rw (valid, bad, on, good) (rw (valid, bad, good))),
+    rw (valid, bad, on, good) (rw (valid, bad, good)),
+  )
+
+  last : (h l : Line) → verdict rules [] h.content ≡ Kept → verdict rules (h ∷ []) l.content ≡ Invalid place reason
+      → ((ending_of rules (h ∷ l ∷ []) ≡ Complete) × (written rules (h ∷ l ∷ []) ≡ raw h ++ []))
+      × (reported_from rules [] (good_from rules [] (h ∷ l ∷ [])) ≡ record { line = 2; place = place; reason = reason }
+      ∷ [])
+  unfolding verdict_at
+  last h l valid bad = (
+    (rw (valid, bad, on), rw (valid, bad, on) (rw (valid, bad))),
+    rw (valid, bad, on) (rw (valid, bad)),
+  )
+
+first_refused : (rules : Rules) (place : ℕ) (reason : Reason) (l : Line) (rest : List Line)
+    → verdict rules [] l.content ≡ Invalid place reason
+    → ((ending_of rules (l ∷ rest) ≡ Refused 1 place reason) × (written rules (l ∷ rest) ≡ []))
+    × (reported_from rules [] (good_from rules [] (l ∷ rest)) ≡ [])
+first_refused rules place reason l rest bad = ((rw bad, rw bad), rw bad)
+
+pub row_between : BetweenRow
+row_between =
+    between_good _ refl _ _ _ _ _
+    (same-verdict _ 1 _ _ ∙ header_first _) (same-verdict _ 2 _ _ ∙ comma_second _)
+    (same-verdict _ 3 _ _ ∙ feature_third)
+
+pub row_first : FirstRow
+row_first = first_refused _ 0 _ _ (open_line small_header ∷ [])
+    (same-verdict _ 1 _ _ ∙ feature_first _)
+
+pub row_last : LastRow
+row_last =
+    last _ refl _ _ _ _
+    (same-verdict _ 1 _ _ ∙ header_tight _)
+    (verdict-long _ 2 _ _ (lit< tt))

@@ -5,10 +5,10 @@ use Rattle.cj_stream.specs.Engine.{EngineFailsToGrow, HasFailedToGrow}
 use Rattle.cj_stream.specs.Run.{Gave, HeldBegun, IsLastRead, IsReadWithin, LacksRoom, Runs, StopsInTime}
 use Rattle.cj_stream.proofs.EngineLemmas.{begun-good, judged-front}
 use Rattle.cj_stream.proofs.ReadingLemmas.{length-map_lines}
-use Rattle.cj_stream.proofs.IsLinesLemmas.{lines-whole}
+use Rattle.cj_stream.proofs.LineLemmas.{lines-whole}
 use Rattle.cj_stream.proofs.GoodLemmas.{good-refused, ending-refused}
-use Rattle.cj_stream.proofs.LeastLemmas.{held-scanned, least-read}
-use Rattle.cj_stream.proofs.RulingLemmas.{refusal-stays}
+use Rattle.cj_stream.proofs.FeedingLemmas.{held-scanned, least-read}
+use Rattle.cj_stream.proofs.VerdictLemmas.{refusal-stays}
 use Rattle.cj_stream.proofs.TookLemmas.{More-over, More-then, over-kept}
 pub use Rattle.cj_stream.proofs.OutputLemmas.{memory-sink}
 

@@ -1,7 +1,15 @@
--- Tallies of what a sink took.
-use Rattle.cj_stream.proofs.Common.{End, IsTallyOf, Item, LeavesNext, List, None, Number, Option, Puts, PutsPieces, Rules, Some, Tally, Took, Tree, Widens, [], ap, arith, beside, capped, chars, codes, cond, filter, filter-append, get_or, how_often, in_pieces, is_feature, is_header, is_some, last_or, length, length-append, lod_classes, map, nat_eq, nat_tests, never_fails, numbers_on, option_map, over_features, refl, replicate, stream_of, subst, suc, transform_values, type_numbers, zero, ℕ, ℤ, ◌++◌, ◌+◌, ◌-◌, ◌<◌, ◌^◌, ◌∙◌, ◌∷◌, ◌≡◌, ◌≤◌}
+-- Tallies of what a sink took, counts that go up, and small ones that are computed.
+use Rattle.cj_stream.proofs.Common.{End, IsTallyOf, Item, LeavesNext, List, None, Number, Option, Puts, PutsPieces, Rules, Some, Tally, Took, Tree, Widens, [], ap, arith, beside, capped, chars, codes, cond, filter, filter-append, get_or, how_often, in_pieces, is_feature, is_header, is_some, last_or, length, length-append, lod_classes, map, nat_eq, nat_tests, never_fails, numbers_on, option_map, over_features, refl, replicate, stream_of, subst, suc, transform_values, type_numbers, zero, ℕ, ℤ, ◌++◌, ◌+◌, ◌-◌, ◌<◌, ◌^◌, ◌∙◌, ◌∷◌, ◌≡◌, ◌≤◌, Bool, RisesBy, cases_lt, class_count, class_of, eqb-false, false, flat_map, get_or_past, inl, inr, lod, map-append, member_of, object_geometries, own_classes, sym, true, HasRisen, code_points_after, first_code_point, first_width, lit<, text}
 use Rattle.cj_stream.specs.TallySink.{no_tally, Shows, TalliesBy, Tallies, TalliesRun, TalliesPieces}
 use Rattle.cj_stream.proofs.Ranges.{Widens-no, Widens-two}
+use Rattle.std.proofs.Common.{set, length-set, eqb-true, get_or-set_same, get_or-set_other}
+use Rattle.std.proofs.lemmas.Simd.{map-map}
+use Rattle.cj_geometry.specs.Meaning.Geometry.{TemplateSource}
+use lib.Utf8.{encode}
+use Rattle.cj_stream.specs.CountRows.{RiseRows, ClassRows, LodRows, three_classes}
+use Rattle.cj_stream.specs.QueryRows.{plain_header}
+
+-- ---- tallies of what a sink took
 
 -- ---- counts
 
@@ -168,3 +176,130 @@ pub TalliesPieces-puts : (rules : Rules) (pieces : List (List ℕ)) (n : ℕ) (s
     → PutsPieces (never_fails Tallies) (in_pieces rules pieces n) e start t
     → TalliesPieces (in_pieces rules pieces n) e t
 TalliesPieces-puts rules pieces n start t x new h = grind (arith, nat_tests, never, tally-all)
+
+-- ---- counts that go up, number by number
+
+-- some counts went up on the way to all numbers, and the numbers `left` are left
+pub record Counting (size : ℕ) (old all counts left : List ℕ) : Type 0 where
+  pub long : length counts ≡ size
+  pub fit : (n : ℕ) → get_or counts n 0 < 2 ^ 64
+  pub rises : (n : ℕ) → n < size
+      → capped (get_or counts n 0 + how_often n left) ≡ capped (get_or old n 0 + how_often n all)
+
+-- at the start all numbers are left
+pub Counting-start : (size : ℕ) (counts all : List ℕ) → length counts ≡ size → ((n : ℕ) → get_or counts n 0 < 2 ^ 64)
+    → Counting size counts all counts all
+Counting-start size counts all long fit = record { long = long; fit = fit; rises = λ n b. refl }
+
+-- at the end none is left
+pub Counting-end : (size : ℕ) (old all counts : List ℕ) → Counting size old all counts [] → RisesBy size old all counts
+Counting-end size old all counts h n b = omega (arith, h.fit n, h.rises n b)
+
+-- a number of the list is counted: the count of its own goes up, and the others stay
+module _ (counts : List ℕ) (k v : ℕ) (inside : k < length counts) where
+  set-fit : v < 2 ^ 64 → ((n : ℕ) → get_or counts n 0 < 2 ^ 64) → (n : ℕ) (b : Bool) → nat_eq n k ≡ b
+      → get_or (set counts k v) n 0 < 2 ^ 64
+  set-fit small fit n true e =
+      rw (eqb-true n k e) (omega (arith, get_or-set_same counts k v 0 inside, small))
+  set-fit small fit n false e = omega (arith, get_or-set_other counts k n v 0 (eqb-false n k e), fit n)
+
+  set-rises : v ≡ capped (get_or counts k 0 + 1) → (n : ℕ) (left : List ℕ) (total : ℕ) (b : Bool) → nat_eq n k ≡ b
+      → capped (get_or counts n 0 + length (cond b (k ∷ filter (nat_eq n) left) (filter (nat_eq n) left))) ≡ total
+      → capped (get_or (set counts k v) n 0 + how_often n left) ≡ total
+  set-rises up n left total true e h =
+      grind (arith, nat_tests, eqb-true, get_or-set_same)
+  set-rises up n left total false e h =
+      omega (arith, get_or-set_other counts k n v 0 (eqb-false n k e))
+
+-- the first number that is left is counted
+pub Counting-step : (size : ℕ) (old all counts : List ℕ) (k v : ℕ) (whole left : List ℕ) → k < size → whole ≡ k ∷ left
+    → v ≡ capped (get_or counts k 0 + 1)
+    → Counting size old all counts whole → Counting size old all (set counts k v) left
+Counting-step size old all counts k v whole left inside first up h =
+    let within : k < length counts = omega arith in
+    record {
+      long = length-set _ k v ∙ h.long;
+      fit = λ n. set-fit _ k v within (omega arith) h.fit n _ refl;
+      rises = λ n b. set-rises _ k v within up n _ _ _ refl
+          (rw first at (h.rises n b));
+    }
+
+-- ---- some numbers at once
+
+-- the first numbers that are left are counted
+pub Counting-some : (size : ℕ) (old all counts new whole ks left : List ℕ) → length new ≡ size → whole ≡ ks ++ left
+    → RisesBy size counts ks new → Counting size old all counts whole → Counting size old all new left
+Counting-some size old all counts new whole ks left long first up h = record {
+  long = long;
+  fit = λ n.
+      elim (cases_lt n size) [
+        | inl below ↦ omega (arith, up n below)
+        | inr above ↦ omega (arith, get_or_past new n 0 (omega (arith, long, above)))
+      ];
+  rises = λ n b.
+      let before = rw first at (h.rises n b) in
+      omega (arith, how_often-append n ks left, up n b);
+}
+
+-- ---- the classes of LoDs that geometries have themselves
+
+pub own-first : (m : Tree × Tree) (whole rest : List (Tree × Tree)) → whole ≡ m ∷ rest
+    → own_classes (flat_map object_geometries whole)
+    ≡ own_classes (object_geometries m) ++ own_classes (flat_map object_geometries rest)
+own-first m whole rest e =
+    ap (λ ms. own_classes (flat_map object_geometries ms)) e
+    ∙ map-append (λ g. class_of (member_of (chars (codes "lod")) g)) (object_geometries m)
+    (flat_map object_geometries rest)
+
+-- if no geometry is an instance, they are those of its LoDs
+pub RisesBy-own : (templates : TemplateSource) (gs : List Tree) (old new : List ℕ)
+    → map (lod templates) gs ≡ map (member_of (chars (codes "lod"))) gs → RisesBy class_count old (own_classes gs) new
+    → RisesBy class_count old (map (λ g. class_of (lod templates g)) gs) new
+RisesBy-own templates gs old new same =
+    subst (λ ns. RisesBy class_count old ns new)
+    (sym (map-map _ _ _) ∙ ap (map class_of) (sym same)
+    ∙ map-map _ _ _)
+
+-- ---- small counts, computed
+
+no-rise : HasRisen 0 0 → ⊥
+no-rise (inl less) = absurd (omega arith)
+no-rise (inr full) = absurd (omega arith)
+
+no-fall : HasRisen 1 0 → ⊥
+no-fall (inl less) = absurd (omega arith)
+no-fall (inr full) = absurd (omega arith)
+
+pub rise : RiseRows
+rise = (inl (lit< tt), no-rise, no-fall, inr (refl, refl))
+
+pub classes : ClassRows
+unfolding text code_points_after first_code_point first_width chars encode
+classes = (refl, refl, refl, refl, refl, refl, refl)
+
+-- ---- classes of a feature
+
+its_classes : lod_classes plain_header three_classes ≡ 0 ∷ 4 ∷ 5 ∷ []
+unfolding text code_points_after first_code_point first_width chars encode
+its_classes = refl
+
+abbrev CountsRow : List ℕ → List ℕ → Type 0
+CountsRow ns new = RisesBy 6 (replicate 6 0) ns new
+
+abbrev three_of : List ℕ
+three_of = 0 ∷ 4 ∷ 5 ∷ []
+
+counted : CountsRow three_of (1 ∷ 0 ∷ 0 ∷ 0 ∷ 1 ∷ 1 ∷ [])
+counted x below = grind (arith, nat_tests)
+
+differ : ◌≡◌ {A = ℕ} 0 1 → ⊥
+differ e = absurd (omega arith)
+
+pub lods : LodRows
+lods = (
+  its_classes,
+  rw its_classes counted,
+  (λ h. differ ((rw its_classes at h) 0 (lit< tt))),
+  (λ h. differ ((rw its_classes at h) 4 (lit< tt))),
+  (λ h. differ ((rw its_classes at h) 5 (lit< tt))),
+)

@@ -1,4 +1,4 @@
-use Rattle.cityseq_c.proofs.CalledLemmas.{goes, never-full, unjudged}
+use Rattle.cityseq_c.proofs.JudgedLemmas.{goes, never-full, unjudged}
 use Rattle.cityseq_c.proofs.cityseq_check.Goals as goal
 
 pub returns-clause-checks : goal.returns-clause-checks

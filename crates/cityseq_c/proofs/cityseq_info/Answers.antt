@@ -1,6 +1,6 @@
 use Rattle.cityseq_c.proofs.Common.{Complete, IsTalliedOf, IsTally, IsUnhindered, OnOk, Tallies, never_fails, stream_of, sym, ◌++◌, ◌∙◌}
-use Rattle.cityseq_c.proofs.CalledLemmas.{goes-known, known-ok, never-full, unknown-err}
-use Rattle.cityseq_c.proofs.TallyLemmas.{tallied}
+use Rattle.cityseq_c.proofs.JudgedLemmas.{goes-known, known-ok, never-full, unknown-err}
+use Rattle.cityseq_c.proofs.AnswerLemmas.{tallied}
 use Rattle.cityseq_c.proofs.cityseq_info.Goals.{then-is_ok, else-is_ok}
 use Rattle.cityseq_c.proofs.cityseq_info.Goals as goal
 

@@ -154,7 +154,7 @@ fn check_part(objects: Node, name: Node, object: Node, found: &mut Least)
 }
 
 /// The links of a city object. If it lists no parents, nothing can be wrong with them.
-#[tactic(auto, using(crate::proofs::Verdict::finding_steps))]
+#[tactic(auto, using(crate::proofs::Rules::finding_steps))]
 fn check_object_links(objects: Node, name: Node, object: Node, found: &mut Least)
     ensures { found.new
         ≡ least found.old (object_links (members_of (tree objects.entry)) (trees (name.entry, object.entry))) }
@@ -213,7 +213,7 @@ pub fn has_many(objects: Node) -> bool {
 }
 
 /// The links of few city objects.
-#[tactic(auto, using(crate::proofs::Verdict::finding_steps))]
+#[tactic(auto, using(crate::proofs::Rules::finding_steps))]
 fn check_few_links(objects: Node, found: &mut Least)
     ensures { let all = members_of (tree objects.entry) in
         found.new ≡ least found.old (flat_map (object_links all) all) }

@@ -72,7 +72,7 @@ fn check_type_there(object: Node, member: Option<Node>, extensions: bool, found:
 }
 
 /// Checks that the value is an array of geometries.
-#[tactic(auto, using(crate::proofs::Verdict::finding_steps))]
+#[tactic(auto, using(crate::proofs::Rules::finding_steps))]
 fn check_geometries(node: Node, vertices: Option<u64>, templates: Templates, found: &mut Least)
     ensures { found.new ≡ least found.old (geometries vertices (given templates.entry) (tree node.entry)) }
 {
@@ -100,7 +100,7 @@ fn check_geometries_if(
 }
 
 /// Checks that the value is an array of texts.
-#[tactic(auto, using(crate::proofs::Verdict::finding_steps))]
+#[tactic(auto, using(crate::proofs::Rules::finding_steps))]
 fn check_texts(node: Node, found: &mut Least)
     ensures { found.new ≡ least found.old (texts (tree node.entry)) }
 {
@@ -145,7 +145,7 @@ fn check_second_level(object: Node, second: bool, found: &mut Least)
 
 /// Checks that the value is a city object. `vertices` is the number of vertices, if it is known.
 /// Returns whether it may have links.
-#[tactic(auto, using(crate::proofs::Verdict::finding_steps))]
+#[tactic(auto, using(crate::proofs::Rules::finding_steps))]
 fn check_city_object(node: Node, vertices: Option<u64>, beside: Beside, found: &mut Least) -> bool
     ensures unlinked { result ≡ false → (all : List (Tree × Tree)) → (name : Tree)
         → object_links all (name, tree node.entry) ≡ [] }
@@ -174,7 +174,7 @@ fn check_city_object(node: Node, vertices: Option<u64>, beside: Beside, found: &
 }
 
 /// Checks that the value is an object of city objects. Returns whether they may have links.
-#[tactic(auto, using(crate::proofs::Verdict::finding_steps))]
+#[tactic(auto, using(crate::proofs::Rules::finding_steps))]
 fn check_city_objects(node: Node, vertices: Option<u64>, beside: Beside, found: &mut Least) -> bool
     ensures unlinked { result ≡ false → links (Some (tree node.entry)) ≡ [] }
     ensures found { found.new

@@ -74,7 +74,7 @@ fn check_vertex(node: Node, found: &mut Least)
 ///
 /// It is never inlined, so that its loop has the registers.
 #[inline(never)]
-#[tactic(auto, using(crate::proofs::Verdict::finding_steps))]
+#[tactic(auto, using(crate::proofs::Rules::finding_steps))]
 fn check_vertices(node: Node, found: &mut Least) -> Option<u64>
     ensures count { result ≡ count_if (tree node.entry) }
     ensures found { found.new ≡ least found.old (vertex_list (tree node.entry)) }

@@ -71,7 +71,7 @@ fn check_first_two(node: Node, found: &mut Least)
 }
 
 /// Checks that the value is an array of three numbers. With a box, the first two must be fixed.
-#[tactic(auto, using(crate::proofs::Verdict::finding_steps))]
+#[tactic(auto, using(crate::proofs::Rules::finding_steps))]
 fn check_axes(node: Node, with_box: bool, found: &mut Least)
     ensures { found.new ≡ least found.old (three_numbers with_box (tree node.entry)) }
 {
@@ -91,7 +91,7 @@ fn check_axes_member(object: Node, name: &str, with_box: bool, found: &mut Least
 }
 
 /// Checks that the value is an object with a scale and a translation.
-#[tactic(auto, using(crate::proofs::Verdict::finding_steps))]
+#[tactic(auto, using(crate::proofs::Rules::finding_steps))]
 fn check_transform(node: Node, with_box: bool, found: &mut Least)
     ensures { found.new ≡ least found.old (transform with_box (tree node.entry)) }
 {
@@ -123,7 +123,7 @@ fn check_no_members(object: Node, found: &mut Least)
 
 /// Checks that the value is an object without members. Its names are checked as those of any other
 /// object.
-#[tactic(auto, using(crate::proofs::Verdict::finding_steps))]
+#[tactic(auto, using(crate::proofs::Rules::finding_steps))]
 fn check_no_objects(node: Node, found: &mut Least)
     ensures { found.new ≡ least found.old (empty_object (tree node.entry)) }
 {
@@ -152,7 +152,7 @@ fn check_no_vertices_member(object: Node, found: &mut Least)
 }
 
 /// Checks that the value is an array of vertices, each of three numbers.
-#[tactic(auto, using(crate::proofs::Verdict::finding_steps))]
+#[tactic(auto, using(crate::proofs::Rules::finding_steps))]
 fn check_template_vertices(node: Node, found: &mut Least)
     ensures { found.new ≡ least found.old (template_vertices (tree node.entry)) }
 {
@@ -175,7 +175,7 @@ fn check_template_vertices_member(object: Node, found: &mut Least)
 
 /// Checks that the value is an array of templates. `vertices` is the number of their vertices, if
 /// it is known.
-#[tactic(auto, using(crate::proofs::Verdict::finding_steps))]
+#[tactic(auto, using(crate::proofs::Rules::finding_steps))]
 fn check_template_list(node: Node, vertices: Option<u64>, found: &mut Least)
     ensures { found.new ≡ least found.old (template_list vertices (tree node.entry)) }
 {
@@ -201,7 +201,7 @@ fn check_template_list_member(object: Node, found: &mut Least)
 }
 
 /// Checks that the value is an object of templates and their vertices.
-#[tactic(auto, using(crate::proofs::Verdict::finding_steps))]
+#[tactic(auto, using(crate::proofs::Rules::finding_steps))]
 fn check_templates(node: Node, found: &mut Least)
     ensures { found.new ≡ least found.old (geometry_templates (tree node.entry)) }
 {
@@ -223,7 +223,7 @@ fn check_templates_member(object: Node, found: &mut Least)
 }
 
 /// Checks that the value is a header, with or without a box.
-#[tactic(auto, using(crate::proofs::Verdict::finding_steps))]
+#[tactic(auto, using(crate::proofs::Rules::finding_steps))]
 fn check_root(node: Node, with_box: bool, found: &mut Least)
     ensures { found.new ≡ least found.old (header with_box (tree node.entry)) }
 {

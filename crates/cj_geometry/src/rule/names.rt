@@ -71,7 +71,7 @@ fn check_later(name: Node, rest: Members, found: &mut Least)
 
 /// The names of an object are distinct. Each is compared with each later one.
 #[inline(always)]
-#[tactic(auto, using(crate::proofs::OfKind::finding_steps))]
+#[tactic(auto, using(crate::proofs::Values::finding_steps))]
 fn check_pairs(object: Node, found: &mut Least)
     ensures { found.new ≡ least found.old (distinct (tree object.entry)) }
 {
@@ -385,7 +385,7 @@ fn check_alike(object: Node, found: &mut Least)
 
 /// The names of an object are distinct. They are if a walk of the caller has seen them begin apart
 /// ([`Node::get_four`]).
-#[tactic(auto, using(crate::proofs::Initials::begin_distinct))]
+#[tactic(auto, using(crate::proofs::Names::begin_distinct))]
 #[inline(always)]
 pub fn check_names_unless(apart: bool, object: Node, found: &mut Least)
     requires { apart ≡ true → begin_apart (members_of (tree object)) ≡ true }

@@ -85,7 +85,7 @@ fn compare(object: Node, first: WordedName, second: WordedName) -> Ordering
 
 /// Returns whether the first of two names comes before the second.
 #[inline(always)]
-#[tactic(auto, using(crate::proofs::WordedNames::less_as_earlier))]
+#[tactic(auto, using(crate::proofs::Distinct::less_as_earlier))]
 pub(super) fn is_before(object: Node, first: WordedName, second: WordedName) -> bool
     requires first { IsWorded (source_of object) first }
     requires second { IsWorded (source_of object) second }

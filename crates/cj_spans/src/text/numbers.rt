@@ -30,7 +30,7 @@ fn stands_for_itself(byte: u8) -> bool
 
 /// Returns the word of eight plain bytes.
 #[inline(always)]
-#[tactic(auto, using(crate::proofs::Words::plain_word))]
+#[tactic(auto, using(crate::proofs::Strings::plain_word))]
 fn word_of_plain(bytes: &[u8], place: usize) -> u64
     requires within { place + 8 ≤ length bytes.now }
     requires plain { AreAlike bytes.now place bytes.now place 8 }
@@ -51,7 +51,7 @@ fn word_of_plain(bytes: &[u8], place: usize) -> u64
 /// Returns the word that begins so, with the next code points. The first of these has this weight.
 ///
 /// It is cold, since most texts are plain.
-#[tactic(auto, using(crate::proofs::Words::digits_none, crate::proofs::Words::digits_few, crate::proofs::Words::digits_cut))]
+#[tactic(auto, using(crate::proofs::Strings::digits_none, crate::proofs::Strings::digits_few, crate::proofs::Strings::digits_cut))]
 #[cold]
 #[inline(never)]
 fn word_on(front: u64, first_weight: u64, points: CodePoints) -> u64
@@ -75,7 +75,7 @@ fn word_on(front: u64, first_weight: u64, points: CodePoints) -> u64
 
 /// Returns the word of a string's text, by its bytes up to the first one that is not plain.
 #[inline(always)]
-#[tactic(auto, using(crate::proofs::Words::digits_plain, crate::proofs::Words::digits_end, crate::proofs::Words::digits_below, crate::proofs::Words::word_fits))]
+#[tactic(auto, using(crate::proofs::Strings::digits_plain, crate::proofs::Strings::digits_end, crate::proofs::Strings::digits_below, crate::proofs::Strings::word_fits))]
 fn word_by_bytes(points: CodePoints) -> u64
     ensures { result ≡ digits (256 ^ 7) (code_points_left points.entry) }
 {

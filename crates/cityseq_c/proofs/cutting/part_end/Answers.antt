@@ -1,6 +1,5 @@
-use Rattle.std.proofs.Common.{arith}
-use Rattle.std.proofs.Common.{take}
-use Rattle.cityseq_c.proofs.CuttingLemmas.{end-first, end-last, end-none, front-wanted}
+use Rattle.std.proofs.Common.{arith, take}
+use Rattle.cityseq_c.proofs.CursorLemmas.{end-first, end-last, end-none, front-wanted}
 use Rattle.cityseq_c.proofs.cutting.part_end.Goals as goal
 
 pub returns-in-Some-clause-end : goal.returns-in-Some-clause-end

@@ -1,5 +1,5 @@
 use Rattle.std.proofs.Common.{sym, ◌∙◌}
-use Rattle.cityseq_c.proofs.PlaceLemmas.{edge-read, none-read}
+use Rattle.cityseq_c.proofs.RoomLemmas.{edge-read, none-read}
 use Rattle.cityseq_c.proofs.fault_place.edge_of.Goals as goal
 
 pub returns-in-Ok : goal.returns-in-Ok

@@ -1,5 +1,5 @@
 use Rattle.std.proofs.Common.{◌∙◌, ap, not}
-use Rattle.cityseq_c.proofs.AskedLemmas.{is-text, not-flipped}
+use Rattle.cityseq_c.proofs.QueryLemmas.{is-text, not-flipped}
 use Rattle.cityseq_c.proofs.fault_place.is_broken.Goals as goal
 
 pub returns-then-asked : goal.returns-then-asked

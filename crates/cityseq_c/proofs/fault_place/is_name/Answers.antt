@@ -1,7 +1,6 @@
-use Rattle.std.proofs.Common.{arith}
-use Rattle.std.proofs.Common.{refl}
+use Rattle.std.proofs.Common.{arith, refl}
 use Rattle.std.proofs.lemmas.Str.{is_utf8-from_IsUtf8}
-use Rattle.cityseq_c.proofs.AskedLemmas.{not_text}
+use Rattle.cityseq_c.proofs.QueryLemmas.{not_text}
 use Rattle.cityseq_c.proofs.fault_place.is_name.Goals as goal
 
 pub returns-in-Ok : goal.returns-in-Ok

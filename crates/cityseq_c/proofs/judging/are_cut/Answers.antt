@@ -1,5 +1,5 @@
 use Rattle.std.proofs.Common.{◌+◌, ◌∙◌, ap, length, nat_eq, sym, eqb-true, eq-eqb}
-use Rattle.cityseq_c.proofs.LineCutLemmas.{cut-last, cut-none, last-cut, none-cut, empty-length}
+use Rattle.cityseq_c.proofs.CursorLemmas.{cut-last, cut-none, last-cut, none-cut, empty-length}
 use Rattle.cityseq_c.proofs.judging.are_cut.Goals as goal
 
 pub returns-in-Some : goal.returns-in-Some

@@ -1,7 +1,7 @@
 use Rattle.cityseq_c.proofs.Common.{IsFit, Rules, ap, criteria, err_from_is_err_and, inl, rules_of, ◌∙◌}
 use Rattle.cj_stream.specs.Query.{rules_for}
-use Rattle.cityseq_c.proofs.CalledLemmas.{known-ok}
-use Rattle.cityseq_c.proofs.FaultLemmas.{call-declined, no-fault}
+use Rattle.cityseq_c.proofs.JudgedLemmas.{known-ok}
+use Rattle.cityseq_c.proofs.QueryLemmas.{call-declined, no-fault}
 use Rattle.cityseq_c.proofs.NarrowLemmas.{asked-ok, declined-memory}
 use Rattle.cityseq_c.proofs.judging.judge.Goals as goal
 

@@ -1,6 +1,6 @@
 use Rattle.std.proofs.Common.{◌+◌, ◌∙◌, ap, length, nat_eq, sym}
 use Rattle.std.proofs.lemmas.List.Splits.{length-slice_split}
-use Rattle.cityseq_c.proofs.ItemLemmas.{items-some}
+use Rattle.cityseq_c.proofs.QueryLemmas.{items-some}
 use Rattle.cityseq_c.proofs.memory.count_texts.Goals as goal
 
 pub returns-else-is_empty : goal.returns-else-is_empty

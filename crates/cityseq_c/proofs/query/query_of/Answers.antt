@@ -1,5 +1,5 @@
 use Rattle.cityseq_c.proofs.Common.{err_from_is_err_and, arith}
-use Rattle.cityseq_c.proofs.FaultLemmas.{edges-declined, ids-declined, lods-declined, types-declined}
+use Rattle.cityseq_c.proofs.QueryLemmas.{edges-declined, ids-declined, lods-declined, types-declined}
 use Rattle.cityseq_c.proofs.query.query_of.Goals as goal
 
 pub returns-in_err-set_ids-clause-declined : goal.returns-in_err-set_ids-clause-declined

@@ -1,5 +1,5 @@
 use Rattle.cityseq_c.proofs.Common.{box_text, criteria, refl}
-use Rattle.cityseq_c.proofs.BoxLemmas.{box-declined, box-set}
+use Rattle.cityseq_c.proofs.QueryLemmas.{box-declined, box-set}
 use Rattle.cityseq_c.proofs.query.set_box.Goals as goal
 
 pub returns-in-Ok-clause-ok : goal.returns-in-Ok-clause-ok

@@ -1,5 +1,5 @@
 use Rattle.cityseq_c.proofs.Common.{IfErr-weaker, arith}
-use Rattle.cityseq_c.proofs.TypeLemmas.{part-declined, types-set}
+use Rattle.cityseq_c.proofs.QueryLemmas.{part-declined, types-set}
 use Rattle.cityseq_c.proofs.query.set_types.Goals as goal
 
 pub returns-in-Some-clause-ok : goal.returns-in-Some-clause-ok

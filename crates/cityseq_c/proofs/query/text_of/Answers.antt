@@ -1,4 +1,4 @@
-use Rattle.cityseq_c.proofs.AskedLemmas.{asked-bytes, asked-text}
+use Rattle.cityseq_c.proofs.QueryLemmas.{asked-bytes, asked-text}
 use Rattle.cityseq_c.proofs.query.text_of.Goals as goal
 
 pub returns-in-Ok : goal.returns-in-Ok

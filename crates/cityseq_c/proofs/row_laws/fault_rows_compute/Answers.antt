@@ -1,4 +1,4 @@
-use Rattle.cityseq_c.proofs.RowLemmas.{fault}
+use Rattle.cityseq_c.proofs.AnswerLemmas.{fault}
 use Rattle.cityseq_c.proofs.row_laws.fault_rows_compute.Goals as goal
 
 pub returns : goal.returns

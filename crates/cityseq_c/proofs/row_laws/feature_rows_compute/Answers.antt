@@ -1,4 +1,4 @@
-use Rattle.cityseq_c.proofs.RowLemmas.{attributes, between, bit, blank, record_of}
+use Rattle.cityseq_c.proofs.AnswerLemmas.{attributes, between, bit, blank, record_of}
 use Rattle.cityseq_c.proofs.row_laws.feature_rows_compute.Goals as goal
 
 pub returns-clause-blank : goal.returns-clause-blank

@@ -1,7 +1,5 @@
-use Rattle.std.proofs.Common.{rules}
-use Rattle.std.proofs.Common.{[], arith}
-use Rattle.cityseq_command.proofs.TextLemmas.{joined-map}
-use Rattle.cityseq_command.proofs.WroteLemmas.{Wrote-nothing, part-wrote, part-stops, parts-wrote}
+use Rattle.std.proofs.Common.{rules, [], arith}
+use Rattle.cityseq_command.proofs.WroteLemmas.{joined-map, Wrote-nothing, part-wrote, part-stops, parts-wrote}
 use Rattle.cityseq_command.proofs.fault_lines.write_texts.Goals as goal
 
 pub loop-text-init : goal.loop-text-init

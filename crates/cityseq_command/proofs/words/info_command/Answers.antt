@@ -1,5 +1,5 @@
 use Rattle.cityseq_command.proofs.Common.{IfOk-weaker, codes, new_app}
-use Rattle.cityseq_command.proofs.CommandLemmas.{with_option}
+use Rattle.cityseq_command.proofs.PerformLemmas.{with_option}
 use Rattle.cityseq_command.proofs.words.info_command.Goals as goal
 
 pub returns : goal.returns

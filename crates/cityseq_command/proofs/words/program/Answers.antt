@@ -1,5 +1,5 @@
 use Rattle.cityseq_command.proofs.Common.{IfOk-weaker, IsCommand, bare_app, rules}
-use Rattle.cityseq_command.proofs.CommandLemmas.{with_command}
+use Rattle.cityseq_command.proofs.PerformLemmas.{with_command}
 use Rattle.cityseq_command.proofs.words.program.Goals as goal
 
 pub returns : goal.returns

@@ -1,5 +1,5 @@
 use Rattle.cj_decimal.proofs.Common.{arith, sym, ◌∙◌, rules}
-use Rattle.cj_decimal.proofs.Ways.{passes_step, carries_step, stops_here, carried_here, is_digit_at}
+use Rattle.cj_decimal.proofs.Grammar.{passes_step, carries_step, stops_here, carried_here, is_digit_at}
 use Rattle.cj_decimal.proofs.digits.read_long.Goals as goal
 
 pub loop-digits-smaller : goal.loop-digits-smaller
@@ -27,7 +27,8 @@ loop-digits-preserved c =
       passes = passes_step _ _ _ c.loop-digits.invariant.passes there.1.within there.1.digit;
       stands = λ n s.
           let so_far = c.loop-digits.invariant.stands n s in
-          (_, carries_step _ _ _ _ _ so_far.1 there.1.within there.1.digit, c.push-digits.ensures.stands so_far.0 so_far.2);
+          (_, carries_step _ _ _ _ _ so_far.1 there.1.within there.1.digit, c.push-digits.ensures.stands so_far.0
+              so_far.2);
       bounded = omega arith;
     }
 

@@ -1,5 +1,5 @@
 use Rattle.cj_decimal.proofs.Common.{sym, ◌∙◌}
-use Rattle.cj_decimal.proofs.Ways.{passes_refl, stops_here}
+use Rattle.cj_decimal.proofs.Grammar.{passes_refl, stops_here}
 use Rattle.cj_decimal.proofs.digits.read_on.Goals as goal
 
 pub returns-then-not-has_digit-clause-stops : goal.returns-then-not-has_digit-clause-stops

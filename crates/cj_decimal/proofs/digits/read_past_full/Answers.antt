@@ -1,6 +1,6 @@
 use Rattle.cj_decimal.proofs.Common.{◌≡◌, ◌-◌, true, sym, ap, arith, get_or, ◌∙◌, rules, is_ascii_digit}
-use Rattle.cj_decimal.proofs.Pushes.{push_zero, push_lost}
-use Rattle.cj_decimal.proofs.Ways.{passes_step, carries_step, stops_here, carried_here, is_digit_at}
+use Rattle.cj_decimal.proofs.Parts.{push_zero, push_lost}
+use Rattle.cj_decimal.proofs.Grammar.{passes_step, carries_step, stops_here, carried_here, is_digit_at}
 use Rattle.cj_decimal.proofs.digits.read_past_full.Goals as goal
 
 pub loop-at-preserved : goal.loop-at-preserved
@@ -30,7 +30,8 @@ loop-lost-preserved c =
           let so_far = c.loop-lost.invariant.stands n s in (
             _,
             carries_step _ _ _ _ _ so_far.1 there.1.within there.1.digit,
-            push_lost _ _ c.requires.full (λ e. omega (arith, c.loop-lost.invariant.other e there.1.within, there.1.low))
+            push_lost _ _ c.requires.full (λ e. omega (arith, c.loop-lost.invariant.other e there.1.within,
+                there.1.low))
                 (omega (arith, there.1.high)) so_far.2,
           );
       other = λ e. absurd (cc e);

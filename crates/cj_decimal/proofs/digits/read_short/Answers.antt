@@ -1,5 +1,5 @@
 use Rattle.cj_decimal.proofs.Common.{arith, sym, ◌∙◌, get_or}
-use Rattle.cj_decimal.proofs.Ways.{passes_step, carries_step, digit_bounds}
+use Rattle.cj_decimal.proofs.Grammar.{passes_step, carries_step, digit_bounds}
 use Rattle.cj_decimal.proofs.digits.read_short.Goals as goal
 
 pub loop-at-preserved : goal.loop-at-preserved

@@ -1,5 +1,5 @@
 use Rattle.cj_decimal.proofs.Common.{arith, ap, sym, ◌∙◌, refl, length, rules, ints, is_int, is_frac, is_exp, digits_front, digits_rest, after_frac, written_of, frac_digits, exp_value}
-use Rattle.cj_decimal.proofs.Ways.{carried_at_end}
+use Rattle.cj_decimal.proofs.Grammar.{carried_at_end}
 use Rattle.cj_decimal.proofs.Parts.{stops_whole, not_int, not_frac, not_exp, passed, both_digits, nothing, saturates_at}
 use Rattle.cj_decimal.proofs.spelling.read_parts.Goals as goal
 

@@ -1,5 +1,5 @@
 use Rattle.cj_decimal.proofs.Common.{Err, sym, ap, ◌∙◌}
-use Rattle.cj_decimal.proofs.Wholes.{answer_of_whole, answer_fault}
+use Rattle.cj_decimal.proofs.Readings.{answer_of_whole, answer_fault}
 use Rattle.cj_decimal.proofs.whole.read_any.Goals as goal
 
 pub returns-in-Ok : goal.returns-in-Ok

@@ -1,8 +1,8 @@
 use Rattle.cj_decimal.proofs.Common.{ℕ, ◌≡◌, ◌+◌, ◌*◌, ◌^◌, ◌<◌, ◌≤◌, length, get_or, refl, sym, ◌∙◌, arith, drop_all, false≢true}
-use Rattle.cj_decimal.proofs.TenPowers.{ten_pow_suc, ten_pow_le}
-use Rattle.cj_decimal.proofs.Ways.{passes_step, carries_step, digit_bounds, stops_at_end, carried_at_end}
+use Rattle.cj_decimal.proofs.Values.{ten_pow_suc, ten_pow_le}
+use Rattle.cj_decimal.proofs.Grammar.{passes_step, carries_step, digit_bounds, stops_at_end, carried_at_end}
 use Rattle.cj_decimal.proofs.Parts.{stops_whole}
-use Rattle.cj_decimal.proofs.Wholes.{int_alone_reads, int_alone_read, no_int_past_other}
+use Rattle.cj_decimal.proofs.Readings.{int_alone_reads, int_alone_read, no_int_past_other}
 use Rattle.cj_decimal.proofs.whole.read_counted.Goals as goal
 
 -- so many digits spell less than that power

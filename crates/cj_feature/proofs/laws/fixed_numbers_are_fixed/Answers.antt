@@ -1,5 +1,5 @@
 use Rattle.cj_feature.proofs.Common.{units_of}
-use Rattle.cj_feature.proofs.Fixed.{fixed-units, test-fixed}
+use Rattle.cj_feature.proofs.Rules.{fixed-units, test-fixed}
 use Rattle.cj_feature.proofs.laws.fixed_numbers_are_fixed.Goals as goal
 
 pub returns : goal.returns

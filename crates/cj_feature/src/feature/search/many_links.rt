@@ -51,7 +51,7 @@ struct Current<'a> {
 
 /// Checks an item of the list of the current city object. Returns whether it is known to be an id
 /// in the feature.
-#[tactic(auto, using(crate::proofs::Passes::lists_known, crate::proofs::Passes::hidden_linked, crate::proofs::Passes::listed_linked))]
+#[tactic(auto, using(crate::proofs::Questions::lists_known, crate::proofs::Questions::hidden_linked, crate::proofs::Questions::listed_linked))]
 fn check_item<'a, const ROOM: usize, const KEPT: usize>(
     objects: Node<'a>,
     item: Node<'a>,
@@ -149,7 +149,7 @@ fn check_list<'a, const ROOM: usize, const KEPT: usize>(
 }
 
 /// The children of all city objects.
-#[tactic(auto, using(crate::proofs::Verdict::finding_steps))]
+#[tactic(auto, using(crate::proofs::Rules::finding_steps))]
 fn check_all_children<'a, const ROOM: usize, const KEPT: usize>(
     objects: Node<'a>,
     questions: &mut Questions<ROOM, KEPT>,
@@ -170,7 +170,7 @@ fn check_all_children<'a, const ROOM: usize, const KEPT: usize>(
 }
 
 /// Returns whether a parent of the current city object is an id in the feature.
-#[tactic(auto, using(crate::proofs::Passes::lists_known))]
+#[tactic(auto, using(crate::proofs::Questions::lists_known))]
 fn is_known_parent<'a, const ROOM: usize, const KEPT: usize>(
     objects: Node<'a>,
     item: Node<'a>,
@@ -243,7 +243,7 @@ fn check_part<'a, const ROOM: usize, const KEPT: usize>(
 }
 
 /// The parents of all city objects.
-#[tactic(auto, using(crate::proofs::Verdict::finding_steps, crate::proofs::Passes::known_part))]
+#[tactic(auto, using(crate::proofs::Rules::finding_steps, crate::proofs::Questions::known_part))]
 fn check_all_parents<'a, const ROOM: usize, const KEPT: usize>(
     objects: Node<'a>,
     questions: &mut Questions<ROOM, KEPT>,

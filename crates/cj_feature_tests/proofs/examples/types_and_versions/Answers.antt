@@ -1,7 +1,7 @@
 use Rattle.std.proofs.Common.{refl}
 use Rattle.std.specs.Str.{chars}
 use Rattle.cj_spans.specs.Meaning.Text.{text, code_points_after, first_code_point, first_width}
-use Rattle.cj_geometry.proofs.Digits.{number-zero, number-one}
+use Rattle.cj_geometry.proofs.Arrays.{number-zero, number-one}
 use Rattle.cj_feature_tests.proofs.examples.types_and_versions.Goals as goal
 
 pub returns : goal.returns

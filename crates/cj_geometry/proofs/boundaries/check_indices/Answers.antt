@@ -1,5 +1,5 @@
 use Rattle.cj_geometry.proofs.Common.{refl, VertexIndex, shape}
-use Rattle.cj_geometry.proofs.Lone.{past-none}
+use Rattle.cj_geometry.proofs.Arrays.{past-none}
 use Rattle.cj_geometry.proofs.boundaries.check_indices.Goals as goal
 
 pub loop-item-init : goal.loop-item-init

@@ -1,5 +1,5 @@
 use Rattle.cj_geometry.proofs.Common.{Some, ap, chars, codes, sym, ◌∙◌}
-use Rattle.cj_geometry.proofs.Texts.{other_text}
+use Rattle.cj_geometry.proofs.Values.{other_text}
 use Rattle.cj_geometry.proofs.form.form_of.Goals as goal
 
 -- the two rows before it are of other names

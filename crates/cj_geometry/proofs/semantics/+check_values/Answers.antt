@@ -1,5 +1,5 @@
 use Rattle.cj_geometry.proofs.Common.{left_of, rules, values, ◌-◌}
-use Rattle.cj_geometry.proofs.Sequences.{beside-on}
+use Rattle.cj_geometry.proofs.Values.{beside-on}
 use Rattle.cj_geometry.proofs.semantics.+check_values.Goals as goal
 
 pub loop-item-preserved : goal.loop-item-preserved

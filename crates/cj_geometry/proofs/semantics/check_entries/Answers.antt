@@ -1,5 +1,5 @@
 use Rattle.cj_geometry.proofs.Common.{refl, ap, arith, entry, items_left, items_of, length, length-drop, tree, ◌∙◌}
-use Rattle.cj_geometry.proofs.Lone.{past-none}
+use Rattle.cj_geometry.proofs.Arrays.{past-none}
 use Rattle.cj_geometry.proofs.semantics.check_entries.Goals as goal
 
 pub loop-item-init : goal.loop-item-init

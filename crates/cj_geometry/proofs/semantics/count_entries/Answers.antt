@@ -1,5 +1,5 @@
 use Rattle.cj_geometry.proofs.Common.{entry, items_of, sym, tree, ◌+◌, ◌∙◌}
-use Rattle.cj_geometry.proofs.Lone.{lone-more, none-more}
+use Rattle.cj_geometry.proofs.Arrays.{lone-more, none-more}
 use Rattle.cj_geometry.proofs.semantics.count_entries.Goals as goal
 
 pub loop-item-preserved : goal.loop-item-preserved

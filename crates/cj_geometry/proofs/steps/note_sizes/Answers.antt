@@ -1,4 +1,4 @@
-use Rattle.cj_geometry.proofs.ListSteps.{on_then, on_else}
+use Rattle.cj_geometry.proofs.Arrays.{on_then, on_else}
 use Rattle.cj_geometry.proofs.steps.note_sizes.Goals.{then-until-eq0, else-until-eq0}
 use Rattle.cj_geometry.proofs.steps.note_sizes.Goals as goal
 

@@ -1,5 +1,5 @@
 use Rattle.cj_geometry.proofs.Common.{items_left, items_of, length, tree}
-use Rattle.cj_geometry.proofs.ListSteps.{IsNoted}
+use Rattle.cj_geometry.proofs.Arrays.{IsNoted}
 use Rattle.cj_geometry.proofs.steps.note_sizes.Given as goal
 
 abbrev pub invariant-loop-item : goal.invariant-loop-item

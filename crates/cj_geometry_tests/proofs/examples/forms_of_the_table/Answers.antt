@@ -1,7 +1,7 @@
 use Rattle.std.proofs.Common.{refl}
 use Rattle.std.specs.Prelude.{codes}
 use Rattle.std.specs.Str.{chars}
-use Rattle.cj_geometry.proofs.Texts.{text-is}
+use Rattle.cj_geometry.proofs.Values.{text-is}
 use Rattle.cj_geometry_tests.proofs.examples.forms_of_the_table.Goals as goal
 
 pub returns-clause-named : goal.returns-clause-named

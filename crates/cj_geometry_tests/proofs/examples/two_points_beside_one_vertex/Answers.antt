@@ -1,7 +1,7 @@
 use Rattle.std.proofs.Common.{refl}
 use Rattle.std.specs.Str.{chars}
 use Rattle.cj_spans.specs.Meaning.Text.{text, code_points_after, first_code_point, first_width}
-use Rattle.cj_geometry.proofs.Digits.{index-zero, index-one}
+use Rattle.cj_geometry.proofs.Arrays.{index-zero, index-one}
 use Rattle.cj_geometry_tests.proofs.examples.two_points_beside_one_vertex.Goals as goal
 
 pub returns : goal.returns

@@ -1,5 +1,5 @@
 use Rattle.cj_spans.proofs.Common.{arith, refl, rules}
-use Rattle.cj_spans.proofs.Nested.{stands_on, stands_small, stands_room, opens_array, standing_opened, opened_in, standing_refused}
+use Rattle.cj_spans.proofs.WholeNumbers.{stands_on, stands_small, stands_room, opens_array, standing_opened, opened_in, standing_refused}
 use Rattle.cj_spans.proofs.arrays.enter_arrays.Goals as goal
 
 pub open-requires : goal.open-requires

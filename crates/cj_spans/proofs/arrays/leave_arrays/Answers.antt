@@ -1,5 +1,5 @@
 use Rattle.cj_spans.proofs.Common.{◌≡◌, ℕ, List, ◌+◌, arith, refl, inl, inr, subst, sym, ◌∙◌, BoundedList, Token, After, Next, byte, MayCloseArray, EndsItems, Standing}
-use Rattle.cj_spans.proofs.Nested.{stands_on, stands_small, standing_closed, standing_comma}
+use Rattle.cj_spans.proofs.WholeNumbers.{stands_on, stands_small, standing_closed, standing_comma}
 use Rattle.cj_spans.proofs.arrays.leave_arrays.Goals as goal
 
 may_close : (b : List ℕ) (n : Next) → EndsItems b n → MayCloseArray n.mode

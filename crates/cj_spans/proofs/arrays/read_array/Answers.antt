@@ -1,5 +1,5 @@
 use Rattle.cj_spans.proofs.Common.{length, arith}
-use Rattle.cj_spans.proofs.Nested.{stands_on, stands_small, stands_room}
+use Rattle.cj_spans.proofs.WholeNumbers.{stands_on, stands_small, stands_room}
 use Rattle.cj_spans.proofs.Leads.{in_small, flat_stands, flat_read, flat_innermost, flat_inside, flat_left, flat_outer, standing_stack, kept_all, kept_more, index_within}
 use Rattle.cj_spans.proofs.arrays.read_array.Goals as goal
 

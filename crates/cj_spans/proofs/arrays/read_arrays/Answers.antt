@@ -1,6 +1,6 @@
 use Rattle.cj_spans.proofs.Common.{◌≡◌, Bool, true, false, not, refl, arith}
 use Rattle.std.specs.Prelude.{IsTrue}
-use Rattle.cj_spans.proofs.Nested.{stands_on}
+use Rattle.cj_spans.proofs.WholeNumbers.{stands_on}
 use Rattle.cj_spans.proofs.arrays.read_arrays.Goals as goal
 
 pub returns-in-Err-clause-answer : goal.returns-in-Err-clause-answer

@@ -1,6 +1,6 @@
 use Rattle.cj_spans.proofs.Common.{◌≡◌, ℕ, ◌+◌, ◌^◌, ◌/◌, ◌⊎◌, inl, inr, subst, arith, w64, AreMarked, ReadsNumbers, rules}
 use Rattle.std.specs.Int.{trailing_zeros}
-use Rattle.cj_spans.proofs.Blocks.{first_mark, block_number}
+use Rattle.cj_spans.proofs.WholeNumbers.{first_mark, block_number}
 use Rattle.cj_spans.proofs.Leads.{reads_on, stands_leads}
 use Rattle.cj_spans.proofs.arrays.read_block.Goals as goal
 

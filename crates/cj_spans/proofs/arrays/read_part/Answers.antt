@@ -1,5 +1,5 @@
 use Rattle.cj_spans.proofs.Common.{sym, ◌∙◌}
-use Rattle.cj_spans.proofs.Nested.{stands_on}
+use Rattle.cj_spans.proofs.WholeNumbers.{stands_on}
 use Rattle.cj_spans.proofs.Leads.{too_deep}
 use Rattle.cj_spans.proofs.arrays.read_part.Goals as goal
 

@@ -1,5 +1,5 @@
 use Rattle.cj_spans.proofs.Common.{arith, sym, ◌∙◌}
-use Rattle.cj_spans.proofs.Scalars.{goes_minus, goes_minus_zero, reads_far}
+use Rattle.cj_spans.proofs.Atoms.{goes_minus, goes_minus_zero, reads_far}
 use Rattle.cj_spans.proofs.atom.read_minus.Goals as goal
 
 pub returns-then-line-place-eq48 : goal.returns-then-line-place-eq48

@@ -1,5 +1,5 @@
 use Rattle.cj_spans.proofs.Common.{rules}
-use Rattle.cj_spans.proofs.Scalars.{goes_same, reads_far, reads_quote}
+use Rattle.cj_spans.proofs.Atoms.{goes_same, reads_far, reads_quote}
 use Rattle.cj_spans.proofs.atom.read_string.Goals as goal
 
 pub returns-then-ends_string : goal.returns-then-ends_string

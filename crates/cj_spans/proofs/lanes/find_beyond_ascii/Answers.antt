@@ -1,5 +1,5 @@
 use Rattle.cj_spans.proofs.Common.{arith}
-use Rattle.cj_spans.proofs.Letters.{all_ascii, letter_within, ascii_before}
+use Rattle.cj_spans.proofs.Strings.{all_ascii, letter_within, ascii_before}
 use Rattle.cj_spans.proofs.lanes.find_beyond_ascii.Goals as goal
 
 pub returns-then-others-eq0-clause-none : goal.returns-then-others-eq0-clause-none

@@ -1,5 +1,5 @@
 use Rattle.cj_spans.proofs.Common.{arith, eqb-true}
-use Rattle.cj_spans.proofs.Letters.{all_ascii}
+use Rattle.cj_spans.proofs.Strings.{all_ascii}
 use Rattle.cj_spans.proofs.lanes.is_ascii_block.Goals as goal
 
 pub returns : goal.returns

@@ -1,5 +1,5 @@
 use Rattle.cj_spans.proofs.Common.{◌≡◌, ◌+◌, ◌-◌, ◌^◌, ◌/◌, ◌≤◌, length, subst, arith, AreMarkedTo}
-use Rattle.cj_spans.proofs.Blocks.{later}
+use Rattle.cj_spans.proofs.WholeNumbers.{later}
 use Rattle.cj_spans.proofs.lanes.mark_others.Goals as goal
 
 pub returns : goal.returns

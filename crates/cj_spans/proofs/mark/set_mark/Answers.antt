@@ -1,6 +1,6 @@
 use Rattle.cj_spans.proofs.Common.{◌≡◌, slice_get, Some, ap, sym, ◌∙◌, is_marked_at}
 use Rattle.std.specs.Prelude.{slice_set}
-use Rattle.cj_spans.proofs.Marking.{with_mark, marked_here, marked_elsewhere, keeps}
+use Rattle.cj_spans.proofs.Noted.{with_mark, marked_here, marked_elsewhere, keeps}
 use Rattle.cj_spans.proofs.mark.set_mark.Goals as goal
 
 -- the elements afterwards

@@ -1,6 +1,6 @@
 use Rattle.cj_spans.proofs.Common.{rules, AfterName}
 use Rattle.cj_spans.proofs.Leads.{leads_on}
-use Rattle.cj_spans.proofs.Named.{name_leads, leads_string, leads_colon, name_small, name_room, name_reserved}
+use Rattle.cj_spans.proofs.Signs.{name_leads, leads_string, leads_colon, name_small, name_room, name_reserved}
 use Rattle.cj_spans.proofs.members.pass_name.Goals as goal
 
 pub read_string-requires : goal.read_string-requires

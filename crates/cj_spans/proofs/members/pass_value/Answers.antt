@@ -1,6 +1,6 @@
 use Rattle.cj_spans.proofs.Common.{rules, Ready, After}
 use Rattle.cj_spans.proofs.Leads.{leads_on}
-use Rattle.cj_spans.proofs.Named.{leads_string, leads_comma, name_small, string_room, name_reserved}
+use Rattle.cj_spans.proofs.Signs.{leads_string, leads_comma, name_small, string_room, name_reserved}
 use Rattle.cj_spans.proofs.members.pass_value.Goals as goal
 
 pub read_string-requires : goal.read_string-requires

@@ -1,5 +1,5 @@
 use Rattle.cj_spans.proofs.Common.{arith, refl, rules, Ready}
-use Rattle.cj_spans.proofs.Nested.{stands_on, stands_small, stands_within, stands_room, stands_reserved, opens_array, opens_object, standing_opened, opened_in, standing_refused}
+use Rattle.cj_spans.proofs.WholeNumbers.{stands_on, stands_small, stands_within, stands_room, stands_reserved, opens_array, opens_object, standing_opened, opened_in, standing_refused}
 use Rattle.cj_spans.proofs.Leads.{leads_from, stands_from, innermost_from, stands_inside}
 use Rattle.cj_spans.proofs.members.read_members.Goals as goal
 

@@ -1,7 +1,6 @@
 use Rattle.cj_spans.proofs.Common.{Err, subst, inl, inr, arith, NotUtf8, Syntax, TooDeep, Judgement, IsReservedAnswerOf}
-use Rattle.cj_spans.proofs.Granted.{fault_back, fault_on, fault_judged, ok_no_fault}
-use Rattle.cj_spans.proofs.Judgements.{judgement}
-use Rattle.cj_spans.proofs.Peaks.{peak_from}
+use Rattle.cj_spans.proofs.Verdicts.{fault_back, fault_on, fault_judged, ok_no_fault}
+use Rattle.cj_spans.proofs.Judgements.{judgement, peak_from}
 use Rattle.cj_spans.proofs.scanner.scan.Goals as goal
 
 pub returns-in_err-scan_reserved-clause-not_utf8 : goal.returns-in_err-scan_reserved-clause-not_utf8

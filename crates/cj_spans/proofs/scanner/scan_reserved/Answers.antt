@@ -1,8 +1,7 @@
 use Rattle.cj_spans.proofs.Common.{refl, rules}
 use Rattle.cj_spans.proofs.Verdicts.{Ran, cleared, ran_tree, ran_unmarked, ran_sinks, ran_syntax, ran_utf8, finds_deep, finds_syntax, finds_tree, sinks_deep, utf8_whole, utf8_fault}
-use Rattle.cj_spans.proofs.Judgements.{judgement, answer_of}
+use Rattle.cj_spans.proofs.Judgements.{judgement, answer_of, ran_peak}
 use Rattle.cj_spans.proofs.Endings.{first_too_deep, first_fault}
-use Rattle.cj_spans.proofs.Peaks.{ran_peak}
 use Rattle.cj_spans.proofs.Sizes.{ran_sized}
 use Rattle.cj_spans.proofs.scanner.scan_reserved.Goals as goal
 

@@ -1,5 +1,5 @@
 use Rattle.cj_spans.proofs.Common.{rules}
-use Rattle.cj_spans.proofs.Letters.{past_ascii}
+use Rattle.cj_spans.proofs.Strings.{past_ascii}
 use Rattle.cj_spans.proofs.utf8.pass_ascii.Goals as goal
 
 pub returns-clause-utf8 : goal.returns-clause-utf8

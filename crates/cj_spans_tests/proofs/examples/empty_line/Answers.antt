@@ -1,6 +1,6 @@
 use Rattle.std.proofs.Common.{refl, ap}
 use Rattle.cj_spans.proofs.Spellings.{some_same}
-use Rattle.cj_spans.proofs.WorkedLines.{syntax_end}
+use Rattle.cj_spans.proofs.Judgements.{syntax_end}
 use Rattle.cj_spans_tests.proofs.examples.empty_line.Goals as goal
 
 pub returns : goal.returns

@@ -1,5 +1,5 @@
 use Rattle.std.proofs.Common.{refl}
-use Rattle.cj_spans.proofs.WorkedLines.{syntax_end}
+use Rattle.cj_spans.proofs.Judgements.{syntax_end}
 use Rattle.cj_spans_tests.proofs.examples.lone_minus.Goals as goal
 
 pub returns : goal.returns

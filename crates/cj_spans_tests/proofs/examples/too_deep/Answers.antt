@@ -1,5 +1,5 @@
 use Rattle.std.proofs.Common.{refl, lit<, lit≤}
-use Rattle.cj_spans.proofs.WorkedLines.{deep_inside}
+use Rattle.cj_spans.proofs.Judgements.{deep_inside}
 use Rattle.cj_spans_tests.proofs.examples.too_deep.Goals as goal
 
 pub returns : goal.returns

@@ -1,5 +1,5 @@
 use Rattle.std.proofs.Common.{refl, lit<}
-use Rattle.cj_spans.proofs.WorkedLines.{syntax_inside}
+use Rattle.cj_spans.proofs.Judgements.{syntax_inside}
 use Rattle.cj_spans_tests.proofs.examples.trailing_comma.Goals as goal
 
 pub returns : goal.returns

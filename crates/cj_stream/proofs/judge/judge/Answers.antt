@@ -1,8 +1,7 @@
 use Rattle.cj_stream.proofs.Common.{Err, Invalid, IsUtf8, IsUtf8-from_is_utf8, NotUtf8, ap, is_utf8-from_IsUtf8, rules, utf8_valid_len-IsValidUpTo, ◌∙◌, ◌≡◌}
 use Rattle.cj_spans.proofs.Judgements.{judgement}
 use Rattle.cj_spans.specs.declared.fault.LineFault.TheVariants.{Syntax, TooDeep}
-use Rattle.cj_stream.proofs.VerdictLemmas.{verdict-bytes, verdict-json}
-use Rattle.cj_stream.proofs.JudgeLemmas.{ok-tree, ok-verdict, syntax-refused, deep-refused, not_text, syntax-unspelled, deep-unspelled}
+use Rattle.cj_stream.proofs.VerdictLemmas.{verdict-bytes, verdict-json, ok-tree, ok-verdict, syntax-refused, deep-refused, not_text, syntax-unspelled, deep-unspelled}
 use Rattle.cj_stream.proofs.LineLemmas.{not_true}
 use Rattle.cj_stream.proofs.judge.judge.Goals as goal
 

@@ -1,4 +1,4 @@
-use Rattle.cj_stream.proofs.LenientLemmas.{never-reported, usual-exact}
+use Rattle.cj_stream.proofs.GoodLemmas.{never-reported, usual-exact}
 use Rattle.cj_stream.proofs.NoteLemmas.{first-silent}
 use Rattle.cj_stream.proofs.laws.first_invalid_line_is_the_end.Goals as goal
 

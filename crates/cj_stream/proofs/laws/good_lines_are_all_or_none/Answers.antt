@@ -1,4 +1,4 @@
-use Rattle.cj_stream.proofs.LenientLemmas.{all-good, none-good}
+use Rattle.cj_stream.proofs.GoodLemmas.{all-good, none-good}
 use Rattle.cj_stream.proofs.laws.good_lines_are_all_or_none.Goals as goal
 
 pub returns-clause-all : goal.returns-clause-all

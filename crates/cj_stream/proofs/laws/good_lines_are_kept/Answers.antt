@@ -1,5 +1,5 @@
 use Rattle.cj_stream.proofs.Common.{ap, kept_of, reported_of}
-use Rattle.cj_stream.proofs.FirstLemmas.{first-good}
+use Rattle.cj_stream.proofs.TookLemmas.{first-good}
 use Rattle.cj_stream.proofs.laws.good_lines_are_kept.Goals as goal
 
 pub returns-clause-kept : goal.returns-clause-kept

@@ -1,4 +1,4 @@
-use Rattle.cj_stream.proofs.IsGoodLemmas.{good-are, good-only, ends-after}
+use Rattle.cj_stream.proofs.GoodLemmas.{good-are, good-only, ends-after}
 use Rattle.cj_stream.proofs.laws.good_lines_are_the_longest.Goals as goal
 
 pub returns-clause-are : goal.returns-clause-are

@@ -1,5 +1,4 @@
-use Rattle.cj_stream.proofs.AgreeLemmas.{good-in, kept-in, output-in, reported-in, ending-in}
-use Rattle.cj_stream.proofs.JudgedPeaks.{HasPeaks-exact, IsExact-peaks}
+use Rattle.cj_stream.proofs.AgreeLemmas.{good-in, kept-in, output-in, reported-in, ending-in, HasPeaks-exact, IsExact-peaks}
 use Rattle.cj_stream.proofs.laws.judged_lines_say_all.Goals as goal
 
 pub returns-clause-good : goal.returns-clause-good

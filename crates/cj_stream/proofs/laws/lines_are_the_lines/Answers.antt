@@ -1,4 +1,4 @@
-use Rattle.cj_stream.proofs.IsLinesLemmas.{lines-are_lines, only-lines, whole-is_whole}
+use Rattle.cj_stream.proofs.LineLemmas.{lines-are_lines, only-lines, whole-is_whole}
 use Rattle.cj_stream.proofs.laws.lines_are_the_lines.Goals as goal
 
 pub returns-clause-are : goal.returns-clause-are

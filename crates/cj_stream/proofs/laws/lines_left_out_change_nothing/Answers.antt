@@ -1,4 +1,4 @@
-use Rattle.cj_stream.proofs.SelectionLemmas.{ending-selection, kept-selection, output-selection}
+use Rattle.cj_stream.proofs.PartsLemmas.{ending-selection, kept-selection, output-selection}
 use Rattle.cj_stream.proofs.laws.lines_left_out_change_nothing.Goals as goal
 
 pub returns-clause-ending : goal.returns-clause-ending

@@ -1,6 +1,5 @@
-use Rattle.cj_stream.proofs.JudgedParts.{judged-parts}
+use Rattle.cj_stream.proofs.ManyPartsLemmas.{judged-parts, tally-parts}
 use Rattle.cj_stream.proofs.PartsLemmas.{kept-parts, output-parts, ending-parts, reported-parts, lines-counted, features-counted, refused-counted, exact-parts}
-use Rattle.cj_stream.proofs.TallyPartsLemmas.{tally-parts}
 use Rattle.cj_stream.proofs.laws.parts_are_joined.Goals as goal
 
 pub returns-clause-judged : goal.returns-clause-judged

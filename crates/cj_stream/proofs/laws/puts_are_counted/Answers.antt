@@ -1,4 +1,4 @@
-use Rattle.cj_stream.proofs.TallyLemmas.{CountsRun-puts, CountsPieces-puts}
+use Rattle.cj_stream.proofs.TookLemmas.{CountsRun-puts, CountsPieces-puts}
 use Rattle.cj_stream.proofs.laws.puts_are_counted.Goals as goal
 
 pub returns-clause-runs : goal.returns-clause-runs

@@ -1,4 +1,4 @@
-use Rattle.cj_stream.proofs.CountReportsLemmas.{counts-lines, counts-run, counts-pieces}
+use Rattle.cj_stream.proofs.TookLemmas.{counts-lines, counts-run, counts-pieces}
 use Rattle.cj_stream.proofs.laws.reports_are_counted.Goals as goal
 
 pub returns-clause-lines : goal.returns-clause-lines

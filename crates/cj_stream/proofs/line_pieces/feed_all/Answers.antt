@@ -1,6 +1,6 @@
 use Rattle.cj_stream.proofs.Common.{Err, [], ap, arith, get_or, joined, length-append, length-map, line_end, map, refl, sym, take, List, StandsFor, length, lines_of, rules_of, ℕ}
-use Rattle.cj_stream.proofs.GivingLemmas.{Given-none, Given-next, Given-fed, Given-finished}
-use Rattle.cj_stream.proofs.JoinedLemmas.{joined-more, joined-short}
+use Rattle.cj_stream.proofs.NoteLemmas.{Given-none, Given-next, Given-fed, Given-finished}
+use Rattle.cj_stream.proofs.LineLemmas.{joined-more, joined-short}
 use Rattle.cj_stream.proofs.RunLemmas.{HasRisen-after}
 use Rattle.cj_stream.proofs.line_pieces.feed_all.Goals as goal
 

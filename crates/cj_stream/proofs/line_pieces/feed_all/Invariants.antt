@@ -1,5 +1,5 @@
 use Rattle.cj_stream.proofs.Common.{List, None, StandsFor, joined, length, lines_of, map, rules_of, take, ℕ, ◌+◌, ◌≡◌, ◌≤◌}
-use Rattle.cj_stream.proofs.GivingLemmas.{IsGiven}
+use Rattle.cj_stream.proofs.NoteLemmas.{IsGiven}
 use Rattle.cj_stream.proofs.line_pieces.feed_all.Given as goal
 
 abbrev pub invariant-loop-taken : goal.invariant-loop-taken

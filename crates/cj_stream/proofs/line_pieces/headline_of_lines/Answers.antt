@@ -1,5 +1,5 @@
 use Rattle.cj_stream.proofs.Common.{ap, line_end}
-use Rattle.cj_stream.proofs.LinePieceLemmas.{CopiesLines-puts}
+use Rattle.cj_stream.proofs.CutLemmas.{CopiesLines-puts}
 use Rattle.cj_stream.proofs.line_pieces.headline_of_lines.Goals as goal
 
 pub returns-clause-copies : goal.returns-clause-copies

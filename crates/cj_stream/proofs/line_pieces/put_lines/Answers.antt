@@ -1,5 +1,5 @@
 use Rattle.cj_stream.proofs.Common.{lines_of, line_end, map, rules_of}
-use Rattle.cj_stream.proofs.LinePieceLemmas.{Delivers-whole, lines-noted, lines-put}
+use Rattle.cj_stream.proofs.CutLemmas.{Delivers-whole, lines-noted, lines-put}
 use Rattle.cj_stream.proofs.line_pieces.put_lines.Goals as goal
 
 pub returns-clause-puts : goal.returns-clause-puts

@@ -1,6 +1,6 @@
 use Rattle.cj_stream.proofs.Common.{Err, [], ap, arith, get_or, length-map, refl, sym, length, rules_of}
-use Rattle.cj_stream.proofs.GivingLemmas.{Given-none, Given-next, Given-fed, Given-finished}
-use Rattle.cj_stream.proofs.JoinedLemmas.{joined-more, joined-short}
+use Rattle.cj_stream.proofs.NoteLemmas.{Given-none, Given-next, Given-fed, Given-finished}
+use Rattle.cj_stream.proofs.LineLemmas.{joined-more, joined-short}
 use Rattle.cj_stream.proofs.RunLemmas.{HasRisen-after, fails-grown}
 use Rattle.cj_stream.proofs.pieces.feed_all.Goals as goal
 

@@ -1,5 +1,5 @@
 use Rattle.cj_stream.proofs.Common.{[], map, rules_of, ◌≤◌}
-use Rattle.cj_stream.proofs.GivingLemmas.{IsGiven}
+use Rattle.cj_stream.proofs.NoteLemmas.{IsGiven}
 use Rattle.cj_stream.proofs.pieces.feed_all.Given as goal
 
 abbrev pub invariant-loop-taken : goal.invariant-loop-taken

@@ -1,9 +1,9 @@
 use Rattle.cj_stream.proofs.Common.{map, rules_of, ◌+◌, BeginsWell, Keeps, channel, drop, joined, judged_lines, lines_of, output_failures, output_writer, outputs, subst, sym, take}
 use Rattle.cj_stream.proofs.CutLemmas.{Copies-puts}
 use Rattle.cj_stream.proofs.HeadlineLemmas.{Copies-writes, Copies-ends, Headline-said, NotesPieces-gives, begins-well}
-use Rattle.cj_stream.proofs.JoinedLemmas.{joined-cut}
-use Rattle.cj_stream.proofs.pieces.headline.Goals as goal
+use Rattle.cj_stream.proofs.LineLemmas.{joined-cut}
 use Rattle.std.proofs.KnownBytes.{Keeps-refl}
+use Rattle.cj_stream.proofs.pieces.headline.Goals as goal
 
 pub returns-clause-headline : goal.returns-clause-headline
 returns-clause-headline g c =

@@ -1,9 +1,7 @@
 use Rattle.cj_stream.proofs.Common.{joined, map, rules_of, take, ◌+◌, [], lines_of, refl}
-use Rattle.cj_stream.proofs.CutLemmas.{unread-at}
-use Rattle.cj_stream.proofs.LinePieceLemmas.{Delivers-whole, PutsPieces-ends}
+use Rattle.cj_stream.proofs.CutLemmas.{unread-at, Delivers-whole, PutsPieces-ends, CountsAll-ends}
 use Rattle.cj_stream.proofs.NoteLemmas.{NotesRun-said, NotesPieces-said, noted-none}
 use Rattle.cj_stream.proofs.RunLemmas.{memory-sink}
-use Rattle.cj_stream.proofs.WholeCounts.{CountsAll-ends}
 use Rattle.cj_stream.proofs.pieces.put_pieces.Goals as goal
 
 pub returns : goal.returns

@@ -1,4 +1,4 @@
-use Rattle.cj_stream.proofs.BoundRowLemmas.{nothing, header, long, edge, exact}
+use Rattle.cj_stream.proofs.ChoiceRowLemmas.{nothing, header, long, edge, exact}
 use Rattle.cj_stream.proofs.row_laws.bounds_compute.Goals as goal
 
 pub returns : goal.returns

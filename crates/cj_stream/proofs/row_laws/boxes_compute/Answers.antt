@@ -1,4 +1,4 @@
-use Rattle.cj_stream.proofs.BoxRowLemmas.{a_box, fields, range, empty, order}
+use Rattle.cj_stream.proofs.QueryRowLemmas.{a_box, fields, range, empty, order}
 use Rattle.cj_stream.proofs.row_laws.boxes_compute.Goals as goal
 
 pub returns : goal.returns

@@ -1,14 +1,13 @@
 use Rattle.cj_stream.proofs.Common.{Err, Run, ap, append-nil, arith, inr, is_err, length, length-append, length-take, lines_of, outcome_of, refl, rules_of, sym, take, ◌++◌, ◌+◌, ◌∙◌, IsAtEnd, Memory, ReadFault, ReadLimit, [], ◌≡◌}
 use Rattle.cj_stream.proofs.RunLemmas.{Delivers-then, Ends-finished, Ends-fed, whole-good, HasRisen-after, said-not_complete, Gave-finished, Gave-fed, last-none, last-piece, least-going, begun-judged, stops-after}
-use Rattle.cj_stream.proofs.LeastLemmas.{begun-held}
+use Rattle.cj_stream.proofs.FeedingLemmas.{begun-held}
 use Rattle.cj_stream.proofs.CutLemmas.{unread-said, unread-concludes}
-use Rattle.cj_stream.proofs.FirstLemmas.{first-same}
+use Rattle.cj_stream.proofs.TookLemmas.{first-same, More-over, More-then, over-reported}
 use Rattle.cj_stream.proofs.NoteLemmas.{Both-left, Both-said}
-use Rattle.cj_stream.proofs.TookLemmas.{More-over, More-then, over-reported}
-use Rattle.cj_stream.proofs.DeviceLemmas.{unfailed-end, unfailed-limit, unread-limit}
-use Rattle.cj_stream.proofs.running.drive.Goals as goal
+use Rattle.cj_stream.proofs.FinishLemmas.{unfailed-end, unfailed-limit, unread-limit}
 use Rattle.std.proofs.KnownBytes.{Consumes-trans, Consumes-kept}
 use Rattle.cj_stream.specs.Source.{source_reader}
+use Rattle.cj_stream.proofs.running.drive.Goals as goal
 
 pub returns-in-Err-clause-runs : goal.returns-in-Err-clause-runs
 returns-in-Err-clause-runs g c =

@@ -1,7 +1,6 @@
-use Rattle.std.proofs.Common.{arith}
-use Rattle.std.proofs.Common.{◌∙◌}
-use Rattle.cityseq_c.proofs.AskedLemmas.{is-text}
-use Rattle.cityseq_c.proofs.PlaceLemmas.{edge-kept, number-read}
+use Rattle.std.proofs.Common.{arith, ◌∙◌}
+use Rattle.cityseq_c.proofs.QueryLemmas.{is-text}
+use Rattle.cityseq_c.proofs.RoomLemmas.{edge-kept, number-read}
 use Rattle.cityseq_c.proofs.fault_place.ItemRule.is_kept.Goals as goal
 
 pub returns-in-Utf8 : goal.returns-in-Utf8

@@ -1,5 +1,5 @@
 use Rattle.cityseq_c.proofs.Common.{arith}
-use Rattle.cityseq_c.proofs.MainLemmas.{line-kept}
+use Rattle.cityseq_c.proofs.RecordLemmas.{line-kept}
 use Rattle.cityseq_c.proofs.features.record_of.attributes_of.Goals as goal
 
 pub returns-in-Some-clause-tree : goal.returns-in-Some-clause-tree

@@ -1,5 +1,5 @@
 use Rattle.cityseq_c.proofs.Common.{arith}
-use Rattle.cityseq_c.proofs.MainLemmas.{no-span, span-of}
+use Rattle.cityseq_c.proofs.RecordLemmas.{no-span, span-of}
 use Rattle.cityseq_c.proofs.features.record_of.attributes_span.Goals as goal
 
 pub returns-in-Some : goal.returns-in-Some

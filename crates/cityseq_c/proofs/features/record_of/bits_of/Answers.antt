@@ -1,6 +1,6 @@
 use Rattle.cityseq_c.proofs.Common.{Bool, arith, false, get_or, nat_tests, pow_mono, refl, sym, true, ℕ}
 use Rattle.std.specs.Prelude.{nat_lt}
-use Rattle.cityseq_c.proofs.BitLemmas.{bits-none, bits-step}
+use Rattle.cityseq_c.proofs.QueryLemmas.{bits-none, bits-step}
 use Rattle.cityseq_c.proofs.features.record_of.bits_of.Goals.{then-count-gt0, else-count-gt0}
 use Rattle.cityseq_c.proofs.features.record_of.bits_of.Goals as goal
 

@@ -1,5 +1,5 @@
 use Rattle.cityseq_c.proofs.Common.{ap, first_named, objects_left, sym, tree, ◌∙◌, arith}
-use Rattle.cityseq_c.proofs.MainLemmas.{main-first, main-here, main-past}
+use Rattle.cityseq_c.proofs.RecordLemmas.{main-first, main-here, main-past}
 use Rattle.cityseq_c.proofs.features.record_of.main_object.Goals as goal
 
 pub loop-object-init : goal.loop-object-init

@@ -3,8 +3,8 @@ use Rattle.std.specs.Prelude.{nat_lt}
 use Rattle.cj_spans.specs.Initials.{first_code_of}
 use Rattle.cj_geometry.specs.Meaning.Lod.{lod}
 use Rattle.cj_feature.specs.Meaning.Feature.{templates_of}
-use Rattle.cityseq_c.proofs.BitLemmas.{bits-among}
-use Rattle.cityseq_c.proofs.CountLemmas.{all-counted, capped-sum, class-small, counts-at, counts_of}
+use Rattle.cityseq_c.proofs.QueryLemmas.{bits-among}
+use Rattle.cityseq_c.proofs.RoomLemmas.{all-counted, capped-sum, class-small, counts-at, counts_of}
 use Rattle.cityseq_c.proofs.features.record_of.tally_geometries.Goals as goal
 
 pub returns-clause-count : goal.returns-clause-count

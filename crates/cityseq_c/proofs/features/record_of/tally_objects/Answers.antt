@@ -1,5 +1,5 @@
 use Rattle.cityseq_c.proofs.Common.{Tree, ap, arith, length, map, objects_left, refl, row_number, sym, type_row, ◌∙◌, ◌∷◌}
-use Rattle.cityseq_c.proofs.BitLemmas.{Marking-end, Marking-start, Marking-step}
+use Rattle.cityseq_c.proofs.QueryLemmas.{Marking-end, Marking-start, Marking-step}
 use Rattle.cityseq_c.proofs.features.record_of.tally_objects.Goals as goal
 
 pub loop-object-init : goal.loop-object-init

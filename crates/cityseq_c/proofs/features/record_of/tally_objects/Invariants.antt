@@ -1,5 +1,5 @@
 use Rattle.cityseq_c.proofs.Common.{capped, feature_tree, length, map, objects_left, objects_of, row_number, type_numbers, type_row, ◌+◌, ◌<◌, ◌^◌, ◌≡◌}
-use Rattle.cityseq_c.proofs.BitLemmas.{Marking}
+use Rattle.cityseq_c.proofs.QueryLemmas.{Marking}
 use Rattle.cityseq_c.proofs.features.record_of.tally_objects.Given as goal
 
 abbrev pub invariant-loop-object : goal.invariant-loop-object

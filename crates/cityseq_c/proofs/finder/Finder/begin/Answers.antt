@@ -1,5 +1,5 @@
 use Rattle.cityseq_c.proofs.Common.{[], ap, arith, begin_of, drop_all, finder_text, inl, inr, length, lines, place_of, refl, sym, ◌++◌, ◌+◌, ◌∙◌, ◌≡◌, ◌≤◌, ◌⊎◌}
-use Rattle.cityseq_c.proofs.FinderLemmas.{along-next, begin-found}
+use Rattle.cityseq_c.proofs.CursorLemmas.{along-next, begin-found}
 use Rattle.cityseq_c.proofs.finder.Finder.begin.Goals.{then-line, else-line, then-loop-self-test+else-not-is_at_end, else-loop-self-test}
 use Rattle.cityseq_c.proofs.finder.Finder.begin.Goals as goal
 

@@ -1,5 +1,5 @@
 use Rattle.cityseq_c.proofs.Common.{IsAlong, subst, sym}
-use Rattle.cityseq_c.proofs.FinderLemmas.{along-new, behind}
+use Rattle.cityseq_c.proofs.CursorLemmas.{along-new, behind}
 use Rattle.cityseq_c.proofs.finder.Finder.new.Goals as goal
 
 pub invariant_of-result-clause-behind : goal.invariant_of-result-clause-behind

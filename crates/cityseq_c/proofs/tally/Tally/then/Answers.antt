@@ -1,5 +1,5 @@
 use Rattle.std.proofs.Common.{◌≡◌, ap, arith, rules, ◌≢◌}
-use Rattle.cityseq_c.proofs.TallyLemmas.{IsOfSize, tallied-then, zeros-then}
+use Rattle.cityseq_c.proofs.AnswerLemmas.{IsOfSize, tallied-then, zeros-then}
 use Rattle.cityseq_c.proofs.tally.Tally.then.Goals.{then-self-eq0, else-self-eq0}
 use Rattle.cityseq_c.proofs.tally.Tally.then.Goals as goal
 

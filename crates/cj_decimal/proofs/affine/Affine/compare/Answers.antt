@@ -1,6 +1,6 @@
 use Rattle.cj_decimal.proofs.Common.{arith, sym, ◌∙◌, ◌≤◌, ◌^◌, unsigned_abs, ints}
 use Rattle.cj_decimal.specs.Meaning.Affine.{image}
-use Rattle.cj_decimal.proofs.Splits.{whole_small, scale_joined, part_small, product_of_casts, compare_law, units_order, rest_cast, sum_cast, left_cast}
+use Rattle.cj_decimal.proofs.Scales.{whole_small, scale_joined, part_small, product_of_casts, compare_law, units_order, rest_cast, sum_cast, left_cast}
 use Rattle.cj_decimal.proofs.affine.Affine.compare.Goals as goal
 
 pub overflow_sub-rest : goal.overflow_sub-rest
@@ -13,7 +13,8 @@ split-carry-requires c =
 pub product-requires-2-clause-right_fits : goal.product-requires-2-clause-right_fits
 product-requires-2-clause-right_fits c =
     let small =
-    whole_small c.self.inside.scale c.self.invariant.0.whole_is c.self.invariant.0.part_is c.self.invariant.1.scale_fits in
+    whole_small c.self.inside.scale c.self.invariant.0.whole_is c.self.invariant.0.part_is c.self.invariant.1.scale_fits
+        in
     omega (arith, ints)
 
 pub returns-clause-order : goal.returns-clause-order
@@ -25,7 +26,8 @@ returns-clause-order c =
     let first =
     product_of_casts c.args.v inside.part v_fits (part_small inside.scale split.part_is) c.product.ensures.value in
     let second =
-    product_of_casts c.args.v inside.whole v_fits (whole_small inside.scale split.whole_is split.part_is units.scale_fits) c.product-2.ensures.value in
+    product_of_casts c.args.v inside.whole v_fits (whole_small inside.scale split.whole_is split.part_is
+        units.scale_fits) c.product-2.ensures.value in
     rw (← c.self.view_is) (compare_law c.args.v inside.whole inside.part inside.shift c.args.q c.split-carry.result.0
     c.sign_of.ensures c.split-carry.ensures.joined (scale_joined inside.scale split.whole_is split.part_is) first second
     (rest_cast c.product.result inside.shift c.product.ensures.bound units.shift_fits

@@ -1,6 +1,5 @@
 use Rattle.cj_decimal.proofs.Common.{arith, ◌<◌, ◌+◌, ◌^◌, pos, neg_ℤ, ◌+ℤ◌, ◌-ℤ◌, ◌<ℤ◌, ◌≤ℤ◌, inl, inr, sym, ◌∙◌, ints}
-use Rattle.cj_decimal.proofs.Trims.{trimmed_le}
-use Rattle.cj_decimal.proofs.Normal.{too_long_out, stands_trimmed, power_in, power_low_out, power_high_out, power_out, in_form, same_form, sign_cast, power_cast}
+use Rattle.cj_decimal.proofs.Classes.{trimmed_le, too_long_out, stands_trimmed, power_in, power_low_out, power_high_out, power_out, in_form, same_form, sign_cast, power_cast}
 use Rattle.cj_decimal.proofs.decimal.Decimal.from_parts.Goals as goal
 
 pub returns-then-parts-clause-none : goal.returns-then-parts-clause-none

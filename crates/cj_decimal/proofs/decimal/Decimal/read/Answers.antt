@@ -1,6 +1,5 @@
 use Rattle.cj_decimal.proofs.Common.{refl, false≢true}
-use Rattle.cj_decimal.proofs.Law.{value_of_read, out_of_read, not_both}
-use Rattle.cj_decimal.proofs.Classes.{class}
+use Rattle.cj_decimal.proofs.Classes.{value_of_read, out_of_read, not_both, class}
 use Rattle.cj_decimal.proofs.decimal.Decimal.read.Goals as goal
 
 pub returns-in_default-from_parts-clause-ok : goal.returns-in_default-from_parts-clause-ok

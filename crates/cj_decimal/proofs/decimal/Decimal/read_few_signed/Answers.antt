@@ -1,6 +1,6 @@
 use Rattle.cj_decimal.proofs.Common.{◌≡◌, ℕ, ◌-◌, List, take, drop, length, Some, Ok, pos, neg_ℤ, ◌-ℤ◌, w64, to_z, of_z, refl, sym, ap, ◌∙◌, subst, arith, rules, false≢true, ints, body, IsShort, IsFewDigits}
 use Rattle.std.proofs.lemmas.Grind.{common_steps}
-use Rattle.cj_decimal.proofs.Wholes.{signed_answer, signed_from_body, body_of_signed}
+use Rattle.cj_decimal.proofs.Readings.{signed_answer, signed_from_body, body_of_signed}
 use Rattle.cj_decimal.proofs.decimal.Decimal.read_few_signed.Goals as goal
 
 -- what is left of a list from a place on

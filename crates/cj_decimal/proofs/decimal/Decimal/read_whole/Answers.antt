@@ -1,4 +1,4 @@
-use Rattle.cj_decimal.proofs.Wholes.{answer_below}
+use Rattle.cj_decimal.proofs.Readings.{answer_below}
 use Rattle.cj_decimal.proofs.decimal.Decimal.read_whole.Goals as goal
 
 pub returns-in-None-clause-small : goal.returns-in-None-clause-small

@@ -1,6 +1,6 @@
 use Rattle.cj_feature.proofs.Common.{IsTrue, ap, arith, document, nat_eq, nat_tests, sym, template_count, ℕ, ◌∙◌, ◌≡◌}
 use Rattle.cj_feature.specs.View.{feature_tree, feature_header}
-use Rattle.cj_feature.proofs.OwnLods.{valid-lods}
+use Rattle.cj_feature.proofs.Valid.{valid-lods}
 use Rattle.cj_feature.proofs.feature.Feature.has_own_lods.Goals as goal
 
 none : (n : ℕ) → IsTrue (nat_eq n 0) → n ≡ 0

@@ -1,8 +1,7 @@
 use Rattle.cj_feature.proofs.Common.{None, chars, codes, document, id_in, is_text, member_of, of_kind, refl, sym, templates_of, tree}
 use Rattle.cj_feature.specs.View.{feature_tree}
-use Rattle.cj_feature.proofs.Ids.{has-name}
-use Rattle.cj_feature.proofs.None.{is-there}
-use Rattle.cj_feature.proofs.Valid.{has-id}
+use Rattle.cj_feature.proofs.Valid.{has-name, has-id}
+use Rattle.cj_feature.proofs.Rules.{is-there}
 use Rattle.cj_feature.proofs.feature.Feature.id.Goals as goal
 
 pub unreachable-requires : goal.unreachable-requires

@@ -1,5 +1,5 @@
 use Rattle.cj_feature.proofs.Common.{Some, ap, chars, codes, document, is_vertex, list_all, refl, sym, templates_of, tree, vertex_list, ◌∙◌}
-use Rattle.cj_feature.proofs.None.{then-none}
+use Rattle.cj_feature.proofs.Rules.{then-none}
 use Rattle.cj_feature.proofs.Valid.{has-vertices}
 use Rattle.cj_feature.proofs.Typed.{all-vertices}
 use Rattle.cj_feature.proofs.feature.Feature.vertices.Goals as goal

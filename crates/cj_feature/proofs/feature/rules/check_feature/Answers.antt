@@ -1,6 +1,6 @@
 use Rattle.cj_feature.proofs.Common.{IsLeast, [], document, feature, header_tree, subst, sym, templates_of, ◌≡◌}
 use Rattle.cj_feature.proofs.Valid.{valid-without}
-use Rattle.cj_feature.proofs.Verdict.{only-findings}
+use Rattle.cj_feature.proofs.Rules.{only-findings}
 use Rattle.cj_feature.proofs.feature.rules.check_feature.Goals as goal
 
 pub returns-in-Some-clause-verdict : goal.returns-in-Some-clause-verdict

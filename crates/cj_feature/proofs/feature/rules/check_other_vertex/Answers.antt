@@ -1,5 +1,5 @@
 use Rattle.cj_feature.proofs.Common.{NotThree, sym, tree, whole_number, ◌∙◌}
-use Rattle.cj_feature.proofs.Lengths.{of_length-late}
+use Rattle.cj_feature.proofs.Rules.{of_length-late}
 use Rattle.cj_feature.proofs.feature.rules.check_other_vertex.Goals as goal
 
 pub returns-then-check_wholes-ne3 : goal.returns-then-check_wholes-ne3

@@ -1,5 +1,5 @@
 use Rattle.cj_feature.proofs.Common.{ap, arith, flat_map, items_left, items_of, least, length, length-drop, tree, whole_number, ◌∙◌}
-use Rattle.cj_geometry.proofs.Lone.{past-none}
+use Rattle.cj_geometry.proofs.Arrays.{past-none}
 use Rattle.cj_feature.proofs.feature.rules.check_wholes.Goals as goal
 
 pub loop-item-init : goal.loop-item-init

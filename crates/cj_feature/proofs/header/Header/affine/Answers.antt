@@ -1,5 +1,5 @@
 use Rattle.cj_feature.proofs.Common.{has_box, header_tree}
-use Rattle.cj_feature.proofs.AxisMaps.{if-there}
+use Rattle.cj_feature.proofs.Typed.{if-there}
 use Rattle.cj_feature.proofs.header.Header.affine.Goals as goal
 
 pub returns-in-Some-clause-maps : goal.returns-in-Some-clause-maps

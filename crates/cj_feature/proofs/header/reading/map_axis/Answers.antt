@@ -1,5 +1,5 @@
 use Rattle.cj_feature.proofs.Common.{refl, units_of}
-use Rattle.cj_feature.proofs.Fixed.{fixed-units, units-only}
+use Rattle.cj_feature.proofs.Rules.{fixed-units, units-only}
 use Rattle.cj_feature.proofs.header.reading.map_axis.Goals as goal
 
 pub returns : goal.returns

@@ -1,5 +1,5 @@
 use Rattle.cj_feature.proofs.Common.{line_of, sym, tree}
-use Rattle.cj_feature.proofs.Values.{read-in-range, read-value}
+use Rattle.cj_feature.proofs.Rules.{read-in-range, read-value}
 use Rattle.cj_feature.proofs.header.reading.read_number.Goals as goal
 
 pub unreachable-requires : goal.unreachable-requires

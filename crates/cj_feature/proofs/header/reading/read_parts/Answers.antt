@@ -1,5 +1,5 @@
 use Rattle.cj_feature.proofs.Common.{chars, codes, tree, true}
-use Rattle.cj_feature.proofs.FixedRule.{axes-fixed, needs-three}
+use Rattle.cj_feature.proofs.Rules.{axes-fixed, needs-three}
 use Rattle.cj_feature.proofs.Valid.{has-scale, has-translate, no-finding}
 use Rattle.cj_feature.proofs.header.reading.read_parts.Goals as goal
 

@@ -1,5 +1,5 @@
 use Rattle.cj_feature.proofs.Common.{Some, document, header, ◌∙◌}
-use Rattle.cj_feature.proofs.Verdict.{only-findings}
+use Rattle.cj_feature.proofs.Rules.{only-findings}
 use Rattle.cj_feature.proofs.header.rules.check_header.Goals as goal
 
 pub returns-in-Some-clause-verdict : goal.returns-in-Some-clause-verdict

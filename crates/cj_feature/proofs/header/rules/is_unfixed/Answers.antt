@@ -1,6 +1,5 @@
 use Rattle.cj_feature.proofs.Common.{ap, is_number, kind_of, line_of, sym, tree, true, ◌∙◌, ◌≡◌}
-use Rattle.cj_feature.proofs.Fixed.{test-decides}
-use Rattle.cj_feature.proofs.FixedRule.{fixed-read, fixed-unread, by-answer}
+use Rattle.cj_feature.proofs.Rules.{test-decides, fixed-read, fixed-unread, by-answer}
 use Rattle.cj_feature.proofs.header.rules.is_unfixed.Goals as goal
 
 pub returns-in-Ok : goal.returns-in-Ok

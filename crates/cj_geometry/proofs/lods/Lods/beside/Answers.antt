@@ -1,4 +1,4 @@
-use Rattle.cj_geometry.proofs.TemplateLods.{kept-none}
+use Rattle.cj_geometry.proofs.Values.{kept-none}
 use Rattle.cj_geometry.proofs.lods.Lods.beside.Goals as goal
 
 pub invariant_of-result-clause-placed : goal.invariant_of-result-clause-placed

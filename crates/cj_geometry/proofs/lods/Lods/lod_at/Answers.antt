@@ -1,6 +1,6 @@
 use Rattle.cj_geometry.proofs.Common.{ForSome, Node, Option, Some, ap, chars, codes, items_if, member_of, option_and_then, slice_get, source_of, subst, sym, ◌∙◌, ◌≡◌}
 use Rattle.cj_geometry.specs.Given.{list_of, given, given_source}
-use Rattle.cj_geometry.proofs.TemplateLods.{answer-right, if_some, kept-found}
+use Rattle.cj_geometry.proofs.Values.{answer-right, if_some, kept-found}
 use Rattle.cj_geometry.proofs.lods.Lods.lod_at.Goals as goal
 
 pub returns-in-Some-clause-lod : goal.returns-in-Some-clause-lod

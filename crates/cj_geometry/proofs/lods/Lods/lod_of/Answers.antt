@@ -1,5 +1,5 @@
 use Rattle.cj_geometry.proofs.Common.{sym, ◌∙◌}
-use Rattle.cj_geometry.proofs.Places.{line_if}
+use Rattle.cj_geometry.proofs.Values.{line_if}
 use Rattle.cj_geometry.proofs.lods.Lods.lod_of.Goals as goal
 
 pub returns-then-is_an_instance-clause-line : goal.returns-then-is_an_instance-clause-line

@@ -1,7 +1,7 @@
 use Rattle.cj_geometry.proofs.Common.{ForSome, List, Node, Option, Some, TemplateLod, ap, chars, codes, items_if, member_of, option_and_then, slice_get, source_of, subst, sym, ℕ, ◌%◌, ◌∙◌, ◌≡◌}
 use Rattle.cj_geometry.specs.Given.{list_of, given, given_source}
 use Rattle.cj_geometry.specs.inner.TemplateLods.{AreAnswersIn, kept_at}
-use Rattle.cj_geometry.proofs.TemplateLods.{answer-kept, for_some, kept-set}
+use Rattle.cj_geometry.proofs.Values.{answer-kept, for_some, kept-set}
 use Rattle.cj_geometry.proofs.lods.Lods.note.Goals as goal
 
 pub invariant_of-self-clause-answered : goal.invariant_of-self-clause-answered

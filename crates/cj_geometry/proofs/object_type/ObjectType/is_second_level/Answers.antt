@@ -1,5 +1,5 @@
 use Rattle.std.proofs.Common.{◌∙◌, sym}
-use Rattle.cj_geometry.proofs.ObjectTypes.{type-number, type-level}
+use Rattle.cj_geometry.proofs.Values.{type-number, type-level}
 use Rattle.cj_geometry.specs.declared.object_type.ObjectType.TheVariants.{BridgeConstructiveElement}
 use Rattle.cj_geometry.proofs.object_type.ObjectType.is_second_level.Goals as goal
 

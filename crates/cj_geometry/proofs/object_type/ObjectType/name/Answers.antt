@@ -1,5 +1,5 @@
 use Rattle.cj_geometry.specs.Meaning.ObjectTypes.{object_types}
-use Rattle.cj_geometry.proofs.ObjectTypes.{of-self}
+use Rattle.cj_geometry.proofs.Values.{of-self}
 use Rattle.cj_geometry.proofs.object_type.ObjectType.name.Goals as goal
 
 pub returns-in-Bridge-clause-only : goal.returns-in-Bridge-clause-only

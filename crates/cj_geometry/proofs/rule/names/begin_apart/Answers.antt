@@ -1,5 +1,5 @@
 use Rattle.cj_geometry.proofs.Common.{ap, are_apart, arith, false, length-set, members_left, members_of, refl, replicate, sym, tree, true, ◌%◌, ◌∙◌}
-use Rattle.cj_geometry.proofs.Initials.{apart-on, distinct_apart}
+use Rattle.cj_geometry.proofs.Names.{apart-on, distinct_apart}
 use Rattle.cj_geometry.proofs.rule.names.begin_apart.Goals as goal
 
 pub loop-name-init : goal.loop-name-init

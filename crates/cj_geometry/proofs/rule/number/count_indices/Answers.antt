@@ -1,5 +1,5 @@
 use Rattle.cj_geometry.proofs.Common.{index, items_of, sym, tree, ◌+◌, ◌∙◌}
-use Rattle.cj_geometry.proofs.Lone.{lone-more, none-more, whole-size, index-none}
+use Rattle.cj_geometry.proofs.Arrays.{lone-more, none-more, whole-size, index-none}
 use Rattle.cj_geometry.proofs.rule.number.count_indices.Goals as goal
 
 pub loop-item-preserved : goal.loop-item-preserved

@@ -1,12 +1,12 @@
 use Rattle.cj_geometry.proofs.Common.{items_of, sym, tree, whole_number, ◌+◌, ◌∙◌}
-use Rattle.cj_geometry.proofs.Lone.{lone-more, none-more, whole-size, whole-none, whole-there}
+use Rattle.cj_geometry.proofs.Arrays.{lone-more, none-more, whole-size, whole-none, whole-lone}
 use Rattle.cj_geometry.proofs.rule.number.count_wholes.Goals as goal
 
 pub loop-item-preserved : goal.loop-item-preserved
 loop-item-preserved c =
     let i = c.loop-item.invariant in
     let next = sym i.left ∙ c.in-Some.ensures.steps.0 in
-    let read = whole-there _ (tree c.in-Some.item) c.read_word_signed.ensures c.if-is_none.ensures in
+    let read = whole-lone _ (tree c.in-Some.item) c.read_word_signed.ensures c.if-is_none.ensures in
     let l = lone-more _ _ _ _ next (whole-size (tree c.in-Some.item) _ read.1) i.lone in
     record {
       left = c.items_behind-items.ensures.items (c.loop-item.front + 1) l.within l.sizes;

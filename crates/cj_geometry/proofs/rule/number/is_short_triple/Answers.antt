@@ -1,4 +1,4 @@
-use Rattle.cj_geometry.proofs.Triples.{triple-none}
+use Rattle.cj_geometry.proofs.Arrays.{triple-none}
 use Rattle.cj_geometry.proofs.rule.number.is_short_triple.Goals as goal
 
 pub returns : goal.returns

@@ -1,5 +1,5 @@
 use Rattle.cj_geometry.proofs.Common.{All-permutation, IsWorded, compare_worded, is_lt, ranks_by, rules, source_of}
-use Rattle.cj_geometry.proofs.WordedNames.{ascend_sorted, compares_as, worded_order}
+use Rattle.cj_geometry.proofs.Distinct.{ascend_sorted, compares_as, worded_order}
 use Rattle.cj_geometry.proofs.rule.order.sort.Goals as goal
 
 pub returns-clause-order : goal.returns-clause-order

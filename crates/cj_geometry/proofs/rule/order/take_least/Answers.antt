@@ -1,5 +1,5 @@
 use Rattle.cj_geometry.proofs.Common.{compare_worded, is_lt, ranks_by, rules, source_of}
-use Rattle.cj_geometry.proofs.WordedNames.{compares_as, worded_order, least_copied}
+use Rattle.cj_geometry.proofs.Distinct.{compares_as, worded_order, least_copied}
 use Rattle.cj_geometry.proofs.rule.order.take_least.Goals as goal
 
 pub returns-clause-least : goal.returns-clause-least

@@ -1,5 +1,5 @@
 use Rattle.cj_spans.proofs.Common.{◌≡◌, true, refl, sym, subst, ◌∙◌, is_marked_at, tree, line_of, source_of, tokens_in, rules}
-use Rattle.cj_spans.proofs.Marking.{mark_of, marked_within, one_number}
+use Rattle.cj_spans.proofs.Noted.{mark_of, marked_within, one_number}
 use Rattle.cj_spans.proofs.node.Node.marked.Goals as goal
 
 -- what is answered is whether the node's own token has a mark

@@ -1,5 +1,5 @@
 use Rattle.cj_spans.proofs.Common.{◌+◌, drop, ap, sym, ◌∙◌, arith, length-drop, Token, before}
-use Rattle.cj_spans.proofs.Links.{before_length}
+use Rattle.cj_spans.proofs.Views.{before_length}
 use Rattle.cj_spans.proofs.Spellings.{some_same}
 use Rattle.cj_spans.proofs.node.Source.after.Goals as goal
 

@@ -1,5 +1,5 @@
 use Rattle.cj_stream.proofs.Common.{List, ap, arith, drop, err_from_is_err_and, length, length-drop, refl, take, take-append-drop, take_all, ℕ, ◌++◌, ◌-◌, ◌∙◌, ◌≡◌}
-use Rattle.cj_stream.proofs.CarryingLemmas.{TakesAll-then, TakesSome-then, HeldUntil-then}
+use Rattle.cj_stream.proofs.PieceLemmas.{TakesAll-then, TakesSome-then, HeldUntil-then}
 use Rattle.cj_stream.proofs.NoteLemmas.{Notes-none, Notes-header}
 use Rattle.cj_stream.proofs.line_splitter.LineSplitter.take.Goals as goal
 

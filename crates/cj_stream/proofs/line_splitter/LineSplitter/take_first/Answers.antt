@@ -1,7 +1,6 @@
 use Rattle.cj_stream.proofs.Common.{answer_of, ap, begun_of, err_from_is_err_and, false, header_end, next_item, begun_verdict, true, ◌∙◌}
-use Rattle.cj_stream.proofs.PieceLemmas.{Handles-first}
-use Rattle.cj_stream.proofs.StaysLemmas.{handled-err}
-use Rattle.cj_stream.proofs.TakingLemmas.{TakesSome-unstored, TakesAll-line, TakesSome-line}
+use Rattle.cj_stream.proofs.PieceLemmas.{Handles-first, TakesSome-unstored, TakesAll-line, TakesSome-line}
+use Rattle.cj_stream.proofs.EngineLemmas.{handled-err}
 use Rattle.cj_stream.proofs.line_splitter.LineSplitter.take_first.Goals as goal
 
 pub returns-in_err-store_first-clause-err : goal.returns-in_err-store_first-clause-err

@@ -1,7 +1,7 @@
 use Rattle.cj_stream.proofs.Common.{TakesSome, arith, drop, err_from_is_err_and, header_end, length, refl, subst, sym, take, take_all, with_sink, ◌+◌, ◌∙◌}
-use Rattle.cj_stream.proofs.PieceSlices.{lf_found, lf_front, NoLf-before, NoLf-not_found}
-use Rattle.cj_stream.proofs.LeastLemmas.{held-now}
-use Rattle.cj_stream.proofs.TakingLemmas.{TakesAll-stored, TakesSome-last}
+use Rattle.cj_stream.proofs.LineLemmas.{lf_found, lf_front, NoLf-before, NoLf-not_found}
+use Rattle.cj_stream.proofs.FeedingLemmas.{held-now}
+use Rattle.cj_stream.proofs.PieceLemmas.{TakesAll-stored, TakesSome-last}
 use Rattle.cj_stream.proofs.line_splitter.LineSplitter.take_front.Goals as goal
 
 pub returns-in_err-store_first-clause-err : goal.returns-in_err-store_first-clause-err

@@ -1,11 +1,9 @@
 use Rattle.cj_stream.proofs.Common.{[], answer_of, ap, append-nil, append_assoc, arith, drop, err_from_is_err_and, line_end, refl, sym, take, ◌++◌, ◌+◌, ◌∙◌, ◌∷◌, ◌≡◌}
 use Rattle.cj_stream.proofs.NoteLemmas.{Notes-line, Notes-none}
-use Rattle.cj_stream.proofs.PieceSlices.{lf_found, NoLf-before, NoLf-not_found, left_length, piece_more}
-use Rattle.cj_stream.proofs.PieceLemmas.{Advances-none}
-use Rattle.cj_stream.proofs.StaysLemmas.{Stays-then, Stays-same, handled-err}
+use Rattle.cj_stream.proofs.LineLemmas.{lf_found, NoLf-before, NoLf-not_found, left_length, piece_more}
+use Rattle.cj_stream.proofs.PieceLemmas.{Advances-none, TakesAll-then, TakesSome-then, TakesAll-stored, TakesSome-unstored, TakesSome-last, TakesAll-line, TakesSome-line}
+use Rattle.cj_stream.proofs.EngineLemmas.{Stays-then, Stays-same, handled-err}
 use Rattle.cj_stream.proofs.ScanningLemmas.{Rises-then, Rises-same}
-use Rattle.cj_stream.proofs.CarryingLemmas.{TakesAll-then, TakesSome-then}
-use Rattle.cj_stream.proofs.TakingLemmas.{TakesAll-stored, TakesSome-unstored, TakesSome-last, TakesAll-line, TakesSome-line}
 use Rattle.cj_stream.proofs.TookLemmas.{More-then, over-reported}
 use Rattle.cj_stream.proofs.line_splitter.LineSplitter.take_piece.Goals as goal
 

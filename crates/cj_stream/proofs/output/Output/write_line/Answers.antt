@@ -1,4 +1,4 @@
-use Rattle.cj_stream.proofs.KnownLemmas.{AppendsPart-after, on_err_any}
+use Rattle.cj_stream.proofs.OutputLemmas.{AppendsPart-after, on_err_any}
 use Rattle.cj_stream.proofs.output.Output.write_line.Goals as goal
 
 pub returns-in_err-write_whole-2-clause-fault : goal.returns-in_err-write_whole-2-clause-fault

@@ -1,8 +1,8 @@
 use Rattle.std.proofs.Common.{◌++◌, sym, take}
-use Rattle.cj_stream.proofs.DeviceLemmas.{taken-is}
-use Rattle.cj_stream.proofs.KnownLemmas.{taken_more}
-use Rattle.cj_stream.proofs.output.Output.write_whole.Goals as goal
+use Rattle.cj_stream.proofs.FinishLemmas.{taken-is}
+use Rattle.cj_stream.proofs.OutputLemmas.{taken_more}
 use Rattle.std.proofs.KnownBytes.{Appends-trans}
+use Rattle.cj_stream.proofs.output.Output.write_whole.Goals as goal
 
 pub loop-rest-preserved : goal.loop-rest-preserved
 loop-rest-preserved g c =

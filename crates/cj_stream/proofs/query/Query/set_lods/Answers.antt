@@ -1,5 +1,5 @@
 use Rattle.cj_stream.proofs.Common.{YieldsList-end}
-use Rattle.cj_stream.proofs.SplitLemmas.{items-split}
+use Rattle.cj_stream.proofs.LineLemmas.{items-split}
 use Rattle.cj_stream.proofs.query.Query.set_lods.Goals as goal
 
 pub returns-clause-ok : goal.returns-clause-ok

@@ -5,7 +5,7 @@ use Rattle.cj_geometry.specs.Meaning.ObjectTypes.{ObjectRow}
 use Rattle.cj_geometry.specs.ObjectTypes.{row_named}
 use Rattle.cj_stream.specs.Adding.{has_extension, is_extension, is_type, no_types, with_name, with_type, with_types, DeclinesType, DeclinesTypes}
 use Rattle.cj_stream.specs.declared.query.fault.QueryFault.TheVariants.{Memory, UnknownTypeName, BadBox, BoxRange, EmptyBox}
-use Rattle.cj_stream.proofs.SplitLemmas.{items-split}
+use Rattle.cj_stream.proofs.LineLemmas.{items-split}
 use Rattle.cj_stream.proofs.query.Query.set_types.Goals as goal
 
 -- the types that are set

@@ -1,6 +1,6 @@
 use Rattle.std.specs.Io.KnownBytes.{IsAtEnd}
 use Rattle.cj_stream.proofs.AccountLemmas.{Account-stays}
-use Rattle.cj_stream.proofs.OutcomeLemmas.{Account-then}
+use Rattle.cj_stream.proofs.ManyPartsLemmas.{Account-then}
 use Rattle.cj_stream.proofs.running.Outcome.then.Goals as goal
 
 pub returns-in-Complete-clause-account : goal.returns-in-Complete-clause-account

@@ -1,5 +1,5 @@
 use Rattle.cj_stream.proofs.Common.{ap, class_of, geometries_left, own_classes, sym, ◌∙◌, ◌∷◌}
-use Rattle.cj_stream.proofs.Counted.{Counting-start, Counting-step, Counting-end}
+use Rattle.cj_stream.proofs.TallySinkLemmas.{Counting-start, Counting-step, Counting-end}
 use Rattle.cj_stream.proofs.tally.adding.count_alone.Goals as goal
 
 pub loop-geometry-init : goal.loop-geometry-init

@@ -1,5 +1,5 @@
 use Rattle.cj_stream.proofs.Common.{feature_tree, flat_map, geometries_left, object_geometries, objects_of, own_classes}
-use Rattle.cj_stream.proofs.Counted.{Counting}
+use Rattle.cj_stream.proofs.TallySinkLemmas.{Counting}
 use Rattle.cj_stream.proofs.tally.adding.count_alone.Given as goal
 
 abbrev pub invariant-loop-geometry : goal.invariant-loop-geometry

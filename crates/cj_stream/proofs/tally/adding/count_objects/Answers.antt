@@ -1,4 +1,4 @@
-use Rattle.cj_stream.proofs.Counted.{RisesBy-own}
+use Rattle.cj_stream.proofs.TallySinkLemmas.{RisesBy-own}
 use Rattle.cj_stream.proofs.tally.adding.count_objects.Goals as goal
 
 pub returns-then-has_own_lods-clause-lods : goal.returns-then-has_own_lods-clause-lods

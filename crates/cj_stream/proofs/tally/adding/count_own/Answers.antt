@@ -1,5 +1,5 @@
 use Rattle.cj_stream.proofs.Common.{ap, class_of, items_left, own_classes, sym, ◌∙◌, ◌∷◌}
-use Rattle.cj_stream.proofs.Counted.{Counting-step}
+use Rattle.cj_stream.proofs.TallySinkLemmas.{Counting-step}
 use Rattle.cj_stream.proofs.tally.adding.count_own.Goals as goal
 
 pub loop-geometry-preserved : goal.loop-geometry-preserved

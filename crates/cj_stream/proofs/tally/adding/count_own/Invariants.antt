@@ -1,5 +1,5 @@
 use Rattle.cj_stream.proofs.Common.{chars, codes, items_if, items_left, member_of, own_classes, tree}
-use Rattle.cj_stream.proofs.Counted.{Counting}
+use Rattle.cj_stream.proofs.TallySinkLemmas.{Counting}
 use Rattle.cj_stream.proofs.tally.adding.count_own.Given as goal
 
 abbrev pub invariant-loop-geometry : goal.invariant-loop-geometry

@@ -1,6 +1,6 @@
 use Rattle.cj_stream.proofs.Common.{Tree, ap, arith, map, objects_left, row_number, sym, type_row, ◌∙◌, ◌∷◌}
 use Rattle.cj_feature.specs.Walks.{object_trees}
-use Rattle.cj_stream.proofs.Counted.{Counting-start, Counting-step, Counting-some, own-first}
+use Rattle.cj_stream.proofs.TallySinkLemmas.{Counting-start, Counting-step, Counting-some, own-first}
 use Rattle.cj_stream.proofs.tally.adding.count_plain.Goals as goal
 
 pub loop-object-init : goal.loop-object-init

@@ -1,5 +1,5 @@
 use Rattle.cj_stream.proofs.Common.{Tree, ap, class_of, feature_header, geometries_left, lod, map, sym, templates_of, tree, ◌∙◌, ◌∷◌}
-use Rattle.cj_stream.proofs.Counted.{Counting-start, Counting-step, Counting-end}
+use Rattle.cj_stream.proofs.TallySinkLemmas.{Counting-start, Counting-step, Counting-end}
 use Rattle.cj_stream.proofs.tally.adding.count_together.Goals as goal
 
 pub loop-geometry-init : goal.loop-geometry-init

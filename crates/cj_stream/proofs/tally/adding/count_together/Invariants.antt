@@ -1,5 +1,5 @@
 use Rattle.cj_stream.proofs.Common.{class_of, feature_header, feature_tree, geometries_left, given_to, lod, lod_classes, map, templates_of, ◌≡◌}
-use Rattle.cj_stream.proofs.Counted.{Counting}
+use Rattle.cj_stream.proofs.TallySinkLemmas.{Counting}
 use Rattle.cj_stream.proofs.tally.adding.count_together.Given as goal
 
 abbrev pub invariant-loop-geometry : goal.invariant-loop-geometry

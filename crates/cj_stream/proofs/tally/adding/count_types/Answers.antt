@@ -1,5 +1,5 @@
 use Rattle.cj_stream.proofs.Common.{Tree, ap, arith, map, objects_left, row_number, sym, type_row, ◌∙◌, ◌∷◌}
-use Rattle.cj_stream.proofs.Counted.{Counting-start, Counting-step, Counting-end}
+use Rattle.cj_stream.proofs.TallySinkLemmas.{Counting-start, Counting-step, Counting-end}
 use Rattle.cj_stream.proofs.tally.adding.count_types.Goals as goal
 
 pub loop-object-init : goal.loop-object-init

@@ -1,5 +1,5 @@
 use Rattle.cj_stream.proofs.Common.{feature_tree, map, objects_left, row_number, type_numbers, type_row}
-use Rattle.cj_stream.proofs.Counted.{Counting}
+use Rattle.cj_stream.proofs.TallySinkLemmas.{Counting}
 use Rattle.cj_stream.proofs.tally.adding.count_types.Given as goal
 
 abbrev pub invariant-loop-object : goal.invariant-loop-object

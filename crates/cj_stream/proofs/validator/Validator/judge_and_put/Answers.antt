@@ -1,8 +1,7 @@
 use Rattle.cj_stream.proofs.Common.{IsLeast, Some, arith, document, false, findings, header_tree, is_blank_byte, list_all, nat_tests, refl, rules_for, sym, tree_of, true, ◌∙◌, ◌≡◌}
 use Rattle.std.proofs.Common.{eqb, ltb}
-use Rattle.cj_stream.proofs.BlankLemmas.{blank-tree}
+use Rattle.cj_stream.proofs.VerdictLemmas.{blank-tree, tree-refused, verdict-blank}
 use Rattle.cj_stream.proofs.ScanningLemmas.{scans-none}
-use Rattle.cj_stream.proofs.VerdictLemmas.{tree-refused, verdict-blank}
 use Rattle.cj_stream.proofs.validator.Validator.judge_and_put.Goals as goal
 
 pub returns-then-is_blank-clause-hands : goal.returns-then-is_blank-clause-hands

@@ -1,5 +1,5 @@
 use Rattle.cityseq_c.proofs.Common.{feature_item, refl, arith}
-use Rattle.cityseq_c.proofs.ListLemmas.{left-record, listed-there, stored-record}
+use Rattle.cityseq_c.proofs.CursorLemmas.{left-record, listed-there, stored-record}
 use Rattle.cityseq_c.proofs.features.listed.ListedLineSink.put.Goals as goal
 
 pub returns-else-self-clause-ok : goal.returns-else-self-clause-ok

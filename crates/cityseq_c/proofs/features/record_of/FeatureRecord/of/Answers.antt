@@ -1,5 +1,5 @@
 use Rattle.cityseq_c.proofs.Common.{None, [], ap, get_or, length, refl, spelling_of, tree, ◌∙◌}
-use Rattle.cityseq_c.proofs.RangeLemmas.{nothing-ranged, ranges-shown}
+use Rattle.cityseq_c.proofs.RoomLemmas.{nothing-ranged, ranges-shown}
 use Rattle.cityseq_c.proofs.features.record_of.FeatureRecord.of.Goals as goal
 
 pub returns : goal.returns

@@ -1,6 +1,6 @@
 use Rattle.cj_spans.specs.View.{items_left}
 use Rattle.cj_feature.specs.Walks.{coordinates_left}
-use Rattle.cj_feature.proofs.AxisMaps.{numbers-there}
+use Rattle.cj_feature.proofs.Typed.{numbers-there}
 use Rattle.cj_feature.proofs.feature.coordinates.Coordinates.over.Goals as goal
 
 pub returns-clause-there : goal.returns-clause-there

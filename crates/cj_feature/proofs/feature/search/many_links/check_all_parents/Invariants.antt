@@ -1,5 +1,5 @@
 use Rattle.cj_feature.proofs.Common.{AreAnswered, FindsAll, [], chars, codes, length, members_left, members_of, members_source, source_of, tree, ◌≡◌}
-use Rattle.cj_feature.proofs.Passes.{parents_and_part}
+use Rattle.cj_feature.proofs.Questions.{parents_and_part}
 use Rattle.cj_feature.proofs.feature.search.many_links.check_all_parents.Given as goal
 
 abbrev pub invariant-loop-name : goal.invariant-loop-name

@@ -1,5 +1,5 @@
 use Rattle.cj_feature.proofs.Common.{ap, flat_map, least, members_of, rules, tree, ◌∙◌}
-use Rattle.cj_feature.proofs.Passes.{parents_and_part, walks}
+use Rattle.cj_feature.proofs.Questions.{parents_and_part, walks}
 use Rattle.cj_feature.proofs.feature.search.many_links.check_by.Goals as goal
 
 pub check_all_children-requires : goal.check_all_children-requires

@@ -1,6 +1,6 @@
 use Rattle.cj_feature.proofs.Common.{members_of, refl, tree, unreached}
 use Rattle.cj_spans.proofs.Findings.{least_on}
-use Rattle.cj_feature.proofs.Fitting.{marked-reached, unmarked-unreached}
+use Rattle.cj_feature.proofs.Reaching.{marked-reached, unmarked-unreached}
 use Rattle.cj_feature.proofs.Walking.{beside, first-among, later-among, marked-back, marked-beside}
 use Rattle.cj_feature.proofs.feature.search.reached.check_marks.Goals as goal
 

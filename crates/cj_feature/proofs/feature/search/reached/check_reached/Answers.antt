@@ -1,5 +1,5 @@
 use Rattle.cj_feature.proofs.Common.{ap, option_map, tree}
-use Rattle.cj_feature.proofs.Fitting.{fit}
+use Rattle.cj_feature.proofs.Reaching.{fit}
 use Rattle.cj_feature.proofs.feature.search.reached.check_reached.Goals as goal
 
 pub check_from-requires : goal.check_from-requires

@@ -1,5 +1,5 @@
 use Rattle.cj_feature.proofs.Common.{contains_first, contains_later, tree}
-use Rattle.cj_feature.proofs.NameLemmas.{sought-same}
+use Rattle.cj_feature.proofs.Questions.{sought-same}
 use Rattle.cj_feature.proofs.Walking.{each-more}
 use Rattle.cj_feature.proofs.feature.search.reached.find_child.Goals as goal
 

@@ -1,5 +1,5 @@
 use Rattle.cj_feature.proofs.Common.{IfSome_then, ap, option_map, tree}
-use Rattle.cj_feature.proofs.Fitting.{all-are-marked, first-to-mark, next-to-mark}
+use Rattle.cj_feature.proofs.Reaching.{all-are-marked, first-to-mark, next-to-mark}
 use Rattle.cj_feature.proofs.Walking.{if-none}
 use Rattle.cj_feature.proofs.feature.search.reached.find_next.Goals as goal
 

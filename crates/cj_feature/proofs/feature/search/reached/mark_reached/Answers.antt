@@ -1,6 +1,6 @@
 use Rattle.cj_feature.proofs.Common.{BoundedList, IsToMark, Token, ap, document, false, false_from_ne_true, inl, inr, is_marked_at, refl, ◌∙◌, ◌≡◌}
-use Rattle.cj_spans.proofs.Marking.{spans_kept, length_kept, of_kept}
-use Rattle.cj_feature.proofs.MarkLemmas.{count-less, marked-more}
+use Rattle.cj_spans.proofs.Noted.{spans_kept, length_kept, of_kept}
+use Rattle.cj_feature.proofs.Walking.{count-less, marked-more}
 use Rattle.cj_feature.proofs.feature.search.reached.mark_reached.Goals as goal
 
 pub of-requires : goal.of-requires

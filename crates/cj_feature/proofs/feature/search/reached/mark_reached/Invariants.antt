@@ -1,5 +1,5 @@
 use Rattle.cj_feature.proofs.Common.{IsMarked, IsReachedObject, Json, Tree, bare, ◌≡◌}
-use Rattle.cj_feature.proofs.MarkLemmas.{unmarked_count}
+use Rattle.cj_feature.proofs.Walking.{unmarked_count}
 use Rattle.cj_feature.proofs.feature.search.reached.mark_reached.Given as goal
 
 abbrev pub invariant-loop-number : goal.invariant-loop-number

@@ -1,5 +1,5 @@
 use Rattle.cj_feature.proofs.Common.{drop, inl, inr, length, rules, take, take_at, ◌≡◌}
-use Rattle.cj_feature.proofs.NameLemmas.{noted-moved}
+use Rattle.cj_feature.proofs.Questions.{noted-moved}
 use Rattle.cj_feature.proofs.feature.search.unmarked.gather_next.Goals as goal
 
 pub returns-clause-passed : goal.returns-clause-passed

@@ -1,5 +1,5 @@
 use Rattle.cj_feature.proofs.Common.{always_returns_same, ap, compare_sides, rules, side_in, side_of, sym, text_of, text_side, tree, ◌∙◌, ◌≡◌}
-use Rattle.cj_feature.proofs.NameLemmas.{not-found}
+use Rattle.cj_feature.proofs.Questions.{not-found}
 use Rattle.cj_feature.proofs.feature.search.unmarked.has.Goals as goal
 
 pub returns : goal.returns

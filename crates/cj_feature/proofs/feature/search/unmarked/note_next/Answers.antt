@@ -1,5 +1,5 @@
 use Rattle.cj_feature.proofs.Common.{IsNoted, Tree, ap, arith, inl, inr, length, length-set, members_left, side_in, side_of, source_of, subst, short_hash_of, take, text_of, tree, tree_in, ◌+◌, ◌∙◌, ◌≡◌}
-use Rattle.cj_feature.proofs.NameLemmas.{kept-first, last-first}
+use Rattle.cj_feature.proofs.Questions.{kept-first, last-first}
 use Rattle.cj_feature.proofs.Walking.{next-or}
 use Rattle.cj_feature.proofs.feature.search.unmarked.note_next.Goals as goal
 

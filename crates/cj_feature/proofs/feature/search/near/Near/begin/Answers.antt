@@ -1,5 +1,5 @@
 use Rattle.cj_feature.proofs.Common.{Json, Some, Tree, ap, chars, codes, document, document_line, document_source, member_of, members_of, option_map, rules, spans_of, tokens_in, tree, ◌∙◌, ◌≡◌}
-use Rattle.cj_spans.proofs.Marking.{the-document, the-json}
+use Rattle.cj_spans.proofs.Noted.{the-document, the-json}
 use Rattle.cj_feature.proofs.NearLemmas.{id-reached, known-here, known-there, named-kept, waits-here, waits-there}
 use Rattle.cj_feature.proofs.feature.search.near.Near.begin.Goals as goal
 

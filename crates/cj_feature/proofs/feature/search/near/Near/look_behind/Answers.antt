@@ -1,5 +1,5 @@
 use Rattle.cj_feature.proofs.Common.{Some, ap, chars, codes, document, member_of, option_map, rules, tree, ◌∙◌, ◌≡◌}
-use Rattle.cj_spans.proofs.Marking.{the-document, the-json, line-of-document}
+use Rattle.cj_spans.proofs.Noted.{the-document, the-json, line-of-document}
 use Rattle.cj_feature.proofs.NearLemmas.{guide-on, known-here, waits-here, waits-there}
 use Rattle.cj_feature.proofs.feature.search.near.Near.look_behind.Goals as goal
 

@@ -1,5 +1,5 @@
 use Rattle.cj_feature.proofs.Common.{arith, line_of, same_text, source_of, spans_by, sym, tokens_in, tree, tree_at, ◌-◌, ◌∙◌}
-use Rattle.cj_spans.proofs.Marking.{found_at-number}
+use Rattle.cj_spans.proofs.Noted.{found_at-number}
 use Rattle.cj_spans.proofs.Scanned.{length-spans_of}
 use Rattle.cj_feature.proofs.feature.search.near.Near.note_one.Goals as goal
 
