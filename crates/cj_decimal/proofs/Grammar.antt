@@ -348,8 +348,16 @@ spells_test s n h =
     let sign = sign_of n.negative h.minus (n.int ++ tail) h.minus_is
     (digit_begins 45 n.int tail (int_is_digits n.int h.int_is) (omega arith)) in
     let rest = rest_append n.int tail (int_digits n.int h.int_is) frac.3 in
-    rw (h.joined, sign.0, sign.1, front_append n.int tail (int_digits n.int h.int_is) frac.3, rest, frac.1, frac.2,
-        exp.1)
+    rw (
+      h.joined,
+      sign.0,
+      sign.1,
+      front_append n.int tail (int_digits n.int h.int_is) frac.3,
+      rest,
+      frac.1,
+      frac.2,
+      exp.1,
+    )
     (and_from _ _ (int_test n.int h.int_is) (and_from _ _ frac.0 exp.0), refl)
 
 -- and what passes the test is a number of the grammar

@@ -26,7 +26,7 @@ ghost use Rattle.cj_spans.specs.Forest.{kind_by};
 use crate::lanes::are_whole_signs;
 use crate::mark::{LINKS, has_mark};
 use crate::text::{
-    CodePoints, compare_spelling_with, compare_spellings, is_spelled_so, hash, spell_one_text,
+    CodePoints, compare_spelling_with, compare_spellings, hash, is_spelled_so, spell_one_text,
     spells, tail, word,
 };
 use crate::token::{Kind, Token};

@@ -11,11 +11,11 @@
 //! All but `near.rt` order texts by short hashes: those that are noted (`noted.rt`), and those that
 //! are looked up (`hashed.rt`). docs/ARCHITECTURE.md compares the searches, and has the sizes of
 //! their tables.
+mod hashed;
 mod link;
 pub mod many_links;
 mod near;
 mod noted;
 mod questions;
 pub mod reached;
-mod hashed;
 mod unmarked;

@@ -26,9 +26,12 @@ loop-digits-preserved c =
     record {
       passes = passes_step _ _ _ c.loop-digits.invariant.passes there.1.within there.1.digit;
       stands = λ n s.
-          let so_far = c.loop-digits.invariant.stands n s in
-          (_, carries_step _ _ _ _ _ so_far.1 there.1.within there.1.digit, c.push-digits.ensures.stands so_far.0
-              so_far.2);
+          let so_far = c.loop-digits.invariant.stands n s in (
+            _,
+            carries_step _ _ _ _ _ so_far.1 there.1.within there.1.digit,
+            c.push-digits.ensures.stands so_far.0
+                so_far.2,
+          );
       bounded = omega arith;
     }
 

@@ -30,8 +30,11 @@ loop-lost-preserved c =
           let so_far = c.loop-lost.invariant.stands n s in (
             _,
             carries_step _ _ _ _ _ so_far.1 there.1.within there.1.digit,
-            push_lost _ _ c.requires.full (λ e. omega (arith, c.loop-lost.invariant.other e there.1.within,
-                there.1.low))
+            push_lost _ _ c.requires.full (λ e. omega (
+              arith,
+              c.loop-lost.invariant.other e there.1.within,
+              there.1.low,
+            ))
                 (omega (arith, there.1.high)) so_far.2,
           );
       other = λ e. absurd (cc e);

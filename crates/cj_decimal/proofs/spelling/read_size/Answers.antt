@@ -5,8 +5,12 @@ use Rattle.cj_decimal.proofs.spelling.read_size.Goals as goal
 pub returns-then-run-spelling-clause-reads : goal.returns-then-run-spelling-clause-reads
 returns-then-run-spelling-clause-reads c =
     let s = c.args.spelling.now in
-    digits_then_more _ (omega (arith, ap length c.read_long-run.ensures.stops.rest, length-drop
-        c.read_long-run.result.stop s))
+    digits_then_more _ (omega (
+      arith,
+      ap length c.read_long-run.ensures.stops.rest,
+      length-drop
+          c.read_long-run.result.stop s,
+    ))
 
 pub returns-clause-reads : goal.returns-clause-reads
 returns-clause-reads c =

@@ -14,10 +14,10 @@ ghost use Rattle.cj_feature.specs.inner.Questions.{noted_in, AreAnswered};
 
 use crate::feature::ids::is_known;
 use crate::feature::links::{SHORT, has_as_many, parents_of_part};
+use crate::feature::search::hashed::short_hash_of;
 use crate::feature::search::link::Link;
 use crate::feature::search::noted::Noted;
 use crate::feature::search::questions::{Ahead, LinkAnswer, Questions};
-use crate::feature::search::hashed::short_hash_of;
 use cj_geometry::rule::{add, is_found_before};
 use cj_spans::{Least, Members, Node, Reason};
 

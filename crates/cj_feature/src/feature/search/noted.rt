@@ -21,7 +21,10 @@ pub struct Noted {
 }
 
 /// What an array holds before a question is noted.
-pub const NOTHING: Noted = Noted { short_hash: 0, number: 0 };
+pub const NOTHING: Noted = Noted {
+    short_hash: 0,
+    number: 0,
+};
 
 impl Noted {
     /// Returns the text of a node.

@@ -21,8 +21,8 @@ mod order;
 mod runs;
 mod wanted;
 
-use crate::feature::search::noted::{NOTHING, Noted};
 use crate::feature::search::hashed::Text;
+use crate::feature::search::noted::{NOTHING, Noted};
 use cj_spans::{Kind, Members, Node};
 pub use gathering::Ahead;
 use gathering::{gather, hand_of, note_ahead};

@@ -5,8 +5,8 @@ ghost use Rattle.std.specs.List.Sorted.{IsPermutation};
 ghost use Rattle.cj_spans.specs.View.{tree, line_of, source_of, members_left, members_line, members_source};
 ghost use Rattle.cj_feature.specs.inner.Unmarked.{AreInNameOrder, IsNoted, ArePassed, AreSearchable, IsSought};
 
-use crate::feature::search::noted::Noted;
 use crate::feature::search::hashed::Text;
+use crate::feature::search::noted::Noted;
 use cj_spans::{Members, Node};
 
 /// The names that are looked for: those of all city objects, or these, which are sorted.

@@ -7,8 +7,12 @@ use Rattle.cityseq_c.proofs.AnswerLemmas.{complete-of, ended-of, judged-moved, j
 use Rattle.cityseq_c.proofs.answer.Answer.then.Goals as goal
 
 pub returns-then-self-ne0-clause-account : goal.returns-then-self-ne0-clause-account
-returns-then-self-ne0-clause-account c rules h a b cut few x y = search (rules, Account-stays, not-complete,
-    judged-unread)
+returns-then-self-ne0-clause-account c rules h a b cut few x y = search (
+  rules,
+  Account-stays,
+  not-complete,
+  judged-unread,
+)
 
 pub returns-in-Some-clause-account : goal.returns-in-Some-clause-account
 returns-in-Some-clause-account c rules h a b cut few x y =

@@ -14,7 +14,7 @@ pub product-requires-2-clause-right_fits : goal.product-requires-2-clause-right_
 product-requires-2-clause-right_fits c =
     let small =
     whole_small c.self.inside.scale c.self.invariant.0.whole_is c.self.invariant.0.part_is c.self.invariant.1.scale_fits
-        in
+    in
     omega (arith, ints)
 
 pub returns-clause-order : goal.returns-clause-order
@@ -27,7 +27,7 @@ returns-clause-order c =
     product_of_casts c.args.v inside.part v_fits (part_small inside.scale split.part_is) c.product.ensures.value in
     let second =
     product_of_casts c.args.v inside.whole v_fits (whole_small inside.scale split.whole_is split.part_is
-        units.scale_fits) c.product-2.ensures.value in
+    units.scale_fits) c.product-2.ensures.value in
     rw (← c.self.view_is) (compare_law c.args.v inside.whole inside.part inside.shift c.args.q c.split-carry.result.0
     c.sign_of.ensures c.split-carry.ensures.joined (scale_joined inside.scale split.whole_is split.part_is) first second
     (rest_cast c.product.result inside.shift c.product.ensures.bound units.shift_fits

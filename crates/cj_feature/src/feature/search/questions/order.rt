@@ -5,8 +5,8 @@ ghost use Rattle.cj_spans.specs.View.{tree};
 ghost use Rattle.cj_feature.specs.inner.Questions.{pair_key, key_in, compare_keys, AreQuestionsInOrder, IsPlaceOf};
 ghost use Rattle.cj_feature.specs.inner.Questions.{IsFirstOn};
 
-use crate::feature::search::noted::Noted;
 use crate::feature::search::hashed::Text;
+use crate::feature::search::noted::Noted;
 use cj_spans::Node;
 use std::cmp::Ordering;
 

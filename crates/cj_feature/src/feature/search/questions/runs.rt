@@ -3,9 +3,9 @@ ghost use Rattle.std.specs.Prelude.{◌≡◌, ◌+◌, ◌≤◌, ◌<◌, IfSo
 ghost use Rattle.cj_spans.specs.View.{tree};
 ghost use Rattle.cj_feature.specs.inner.Questions.{noted_in, IsQuestion};
 
+use crate::feature::search::hashed::Text;
 use crate::feature::search::noted::Noted;
 use crate::feature::search::questions::order::{Pair, Question, question_at};
-use crate::feature::search::hashed::Text;
 use cj_spans::Node;
 
 /// A range of places of questions. The first ones are on one first text. If they are not, less is

@@ -32,7 +32,7 @@ returns-in_default-clause-only c = λ i f.
     absurd (none_here c.args.objects c.args.questions.now t c.place_of-place.result i place
     (λ q e. let is : c.in-Some.question ≡ q = cc (c.in-Some.ensures, e) in
     subst (λ w. w.from.short_hash ≡ short_hash_of (text_of t) → same_text (from_in c.args.objects w) t ≡ false) is
-        other) f)
+    other) f)
 
 pub returns-in_default-2-clause-only : goal.returns-in_default-2-clause-only
 returns-in_default-2-clause-only c = λ i f.
