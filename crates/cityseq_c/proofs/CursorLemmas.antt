@@ -1,6 +1,6 @@
 -- Where lines begin and end, and what a search finds.
-use Rattle.cityseq_c.proofs.Common.{IsFirstByte, Line, List, None, Passes, Place, Some, [], ap, arith, drop, drop-drop, drop_all, ended_line, false, is_byte, length, length-append, length-take, lines, raw, refl, sym, take, ℕ, ◌+◌, ◌<◌, ◌∙◌, ◌∷◌, ◌≡◌, AreBehind, AreCut, IsAlong, append-nil, flat_map, flat_map-append, inl, inr, suc, take-nil, take_all, zero, ◌++◌, ◌-◌, ◌≤◌, ◌⊎◌, IsLastByte, NoLf, add-one, begun, closed, ltb, ltb-false, ltb-true, map, min, nat_tests, take-append-drop, true, whole, append_assoc, FeatureRecord, IsRecordOf, Item, Listed, Spot, slice_set}
-use Rattle.cj_stream.proofs.LineLemmas.{begun-none, closed-none, lines-cut, lf_found, NoLf-before, NoLf-nowhere, lines-are_lines, whole-begun, NoLf-from_places, begun-lf, closed-ended, closed-more, lf_front}
+use Rattle.cityseq_c.proofs.Common.{IsFirstByte, Line, List, None, Passes, Place, Some, [], ap, arith, drop, drop-drop, drop_all, ended_line, false, is_byte, length, length-append, length-take, lines, raw, refl, sym, take, ℕ, ◌+◌, ◌<◌, ◌∙◌, ◌∷◌, ◌≡◌, IsLastByte, NoLf, add-one, append-nil, begun, closed, flat_map, ltb, ltb-false, ltb-true, map, min, nat_tests, take-append-drop, take_all, true, whole, ◌++◌, ◌≤◌, AreCut, append_assoc, inl, inr, AreBehind, IsAlong, flat_map-append, suc, take-nil, zero, ◌-◌, ◌⊎◌, FeatureRecord, IsRecordOf, Item, Listed, Spot, slice_set}
+use Rattle.cj_stream.proofs.LineLemmas.{begun-none, closed-none, lines-cut, lf_found, NoLf-before, NoLf-nowhere, whole-begun, NoLf-from_places, begun-lf, closed-ended, closed-more, lf_front, lines-are_lines}
 use Rattle.cj_stream.proofs.PartsLemmas.{lines-headed}
 use Rattle.std.proofs.Common.{length-drop, get_or-drop, take-take, eqb-true, take-suc, nat_eq}
 use Rattle.cityseq_c.specs.Cutting.{first_end, part_end}
@@ -46,55 +46,6 @@ module _ (line at : ℕ) (part s : List ℕ) (same : s ≡ drop at part) where
       ∙ ap (λ z. record { content = s; lf = false } ∷ lines z) (sym none) in
       rw (← same) (passes line at (length s) s (record { content = s; lf = false }) (lines (drop (at + length s) part))
       left refl)
-
--- ---- where lines begin, by the lines that were passed
-
--- at the beginning of a part no line was passed
-pub along-new : (part : List ℕ) → IsAlong part (place 2 0 (lines part))
-along-new part = grind arith
-
--- one line more, which is the first of those that are left
-take-next : (k : ℕ) (ls : List Line) (l : Line) (rest : List Line) → l ∷ rest ≡ drop k ls
-    → (take (suc k) ls ≡ take k ls ++ l ∷ []) × (rest ≡ drop (suc k) ls)
-take-next zero [] l rest is = absurd (cc is)
-take-next (suc k) [] l rest is = absurd (cc is)
-take-next zero (x ∷ ls) l rest is =
-    (ap (λ z. z ∷ []) (let same : x ≡ l = cc is in same), let same : rest ≡ ls = cc is in same)
-take-next (suc k) (x ∷ ls) l rest is = let later = take-next k ls l rest is in (ap (λ z. x ∷ z) later.0, later.1)
-
-pub along-next : (part : List ℕ) (a : Place) (content : List ℕ) (b : Place) → IsAlong part a → Passes a content b
-    → IsAlong part b
-along-next part a content b x h =
-    grind (arith, place, take-next, flat_map-append, length-append, append-nil)
-
--- the lines that were passed are the first of the part, as many as are asked for; or all
-pub begin-found : (part : List ℕ) (p : Place) (line : ℕ) → IsAlong part p → p.line ≤ line → (p.line ≡ line)
-    ⊎ (p.left ≡ []) → length (flat_map raw (take (line - 2) (lines part))) ≡ p.begin
-begin-found part p line x few (inl is) = rw (← is) (sym x.begin)
-begin-found part p line x few (inr none) =
-    let k = p.line - 2 in
-    let all : length (lines part) ≤ k = drop-none k (lines part) (sym x.left ∙ none) in
-    let is_whole : take (line - 2) (lines part) ≡ lines part =
-    take_all (line - 2) (lines part) (omega (arith, all, few)) in
-    let passed : take k (lines part) ≡ lines part = take_all k (lines part) all in
-    ap (λ z. length (flat_map raw z)) (is_whole ∙ sym passed) ∙ sym x.begin
-  where
-    drop-none : (k : ℕ) (ls : List Line) → drop k ls ≡ [] → length ls ≤ k
-    drop-none k [] is = omega arith
-    drop-none zero (l ∷ ls) is = absurd (cc is)
-    drop-none (suc k) (l ∷ ls) is = omega (arith, drop-none k ls is)
-
--- a header and a part, cut behind the first line
-pub behind : (header part : List ℕ) → AreCut header part → AreBehind header part
-behind header part (inl cut) line later =
-    let one : line - 1 ≡ suc (line - 2) = omega (arith, later) in
-    let rest = flat_map raw (take (line - 2) (lines part)) in
-    let size : length (cut.0 ++ 10 ∷ []) ≡ length header = sym (ap length cut.2) in
-    ap (λ z. length (flat_map raw (take (line - 1) z))) (cut-lines header part cut)
-    ∙ (ap (λ k. length (flat_map raw (take k (ended_line cut.0 ∷ lines part)))) one
-    ∙ (length-append (cut.0 ++ 10 ∷ []) rest ∙ ap (λ n. n + length rest) size))
-behind header part (inr cut) line later =
-    grind (arith, cut-lines, length-append, lines-cut, closed-none, append-nil, take-nil, take_all, lines-are_lines)
 
 -- ---- where whole lines end
 
@@ -207,6 +158,55 @@ module _ (header part : List ℕ) where
 pub empty-length : (s : List ℕ) → nat_eq (length s) 0 ≡ true → s ≡ []
 empty-length [] is = refl
 empty-length (b ∷ s) is = grind (arith, eqb-true)
+
+-- ---- where lines begin, by the lines that were passed
+
+-- at the beginning of a part no line was passed
+pub along-new : (part : List ℕ) → IsAlong part (place 2 0 (lines part))
+along-new part = grind arith
+
+-- one line more, which is the first of those that are left
+take-next : (k : ℕ) (ls : List Line) (l : Line) (rest : List Line) → l ∷ rest ≡ drop k ls
+    → (take (suc k) ls ≡ take k ls ++ l ∷ []) × (rest ≡ drop (suc k) ls)
+take-next zero [] l rest is = absurd (cc is)
+take-next (suc k) [] l rest is = absurd (cc is)
+take-next zero (x ∷ ls) l rest is =
+    (ap (λ z. z ∷ []) (let same : x ≡ l = cc is in same), let same : rest ≡ ls = cc is in same)
+take-next (suc k) (x ∷ ls) l rest is = let later = take-next k ls l rest is in (ap (λ z. x ∷ z) later.0, later.1)
+
+pub along-next : (part : List ℕ) (a : Place) (content : List ℕ) (b : Place) → IsAlong part a → Passes a content b
+    → IsAlong part b
+along-next part a content b x h =
+    grind (arith, place, take-next, flat_map-append, length-append, append-nil)
+
+-- the lines that were passed are the first of the part, as many as are asked for; or all
+pub begin-found : (part : List ℕ) (p : Place) (line : ℕ) → IsAlong part p → p.line ≤ line → (p.line ≡ line)
+    ⊎ (p.left ≡ []) → length (flat_map raw (take (line - 2) (lines part))) ≡ p.begin
+begin-found part p line x few (inl is) = rw (← is) (sym x.begin)
+begin-found part p line x few (inr none) =
+    let k = p.line - 2 in
+    let all : length (lines part) ≤ k = drop-none k (lines part) (sym x.left ∙ none) in
+    let is_whole : take (line - 2) (lines part) ≡ lines part =
+    take_all (line - 2) (lines part) (omega (arith, all, few)) in
+    let passed : take k (lines part) ≡ lines part = take_all k (lines part) all in
+    ap (λ z. length (flat_map raw z)) (is_whole ∙ sym passed) ∙ sym x.begin
+  where
+    drop-none : (k : ℕ) (ls : List Line) → drop k ls ≡ [] → length ls ≤ k
+    drop-none k [] is = omega arith
+    drop-none zero (l ∷ ls) is = absurd (cc is)
+    drop-none (suc k) (l ∷ ls) is = omega (arith, drop-none k ls is)
+
+-- a header and a part, cut behind the first line
+pub behind : (header part : List ℕ) → AreCut header part → AreBehind header part
+behind header part (inl cut) line later =
+    let one : line - 1 ≡ suc (line - 2) = omega (arith, later) in
+    let rest = flat_map raw (take (line - 2) (lines part)) in
+    let size : length (cut.0 ++ 10 ∷ []) ≡ length header = sym (ap length cut.2) in
+    ap (λ z. length (flat_map raw (take (line - 1) z))) (cut-lines header part cut)
+    ∙ (ap (λ k. length (flat_map raw (take k (ended_line cut.0 ∷ lines part)))) one
+    ∙ (length-append (cut.0 ++ 10 ∷ []) rest ∙ ap (λ n. n + length rest) size))
+behind header part (inr cut) line later =
+    grind (arith, cut-lines, length-append, lines-cut, closed-none, append-nil, take-nil, take_all, lines-are_lines)
 
 -- ---- what a search makes of the sink of records
 
