@@ -38,7 +38,9 @@ pub use Rattle.cj_spans.specs.Meaning.Tree.{Tree, array, member, no_items, no_me
 pub use Rattle.cj_spans.specs.Places.{AreValuesInOrder, spelling_of}
 pub use Rattle.cj_spans.specs.Preorder.{Span, spans_of}
 pub use Rattle.cj_spans.specs.View.{trees}
-unfoldable pub use Rattle.cj_spans.specs.View.{document, document_line, document_source, items_left, items_line, line_of, members_left, members_line, members_source, source_of, tokens_in, tree, tree_at, tree_in}
+unfoldable pub use Rattle.cj_spans.specs.View.{document, document_line, document_source, items_left, items_line}
+unfoldable pub use Rattle.cj_spans.specs.View.{line_of, members_left, members_line, members_source}
+unfoldable pub use Rattle.cj_spans.specs.View.{source_of, tokens_in, tree, tree_at, tree_in}
 pub use Rattle.cj_spans.specs.declared.finding.Finding.{Finding}
 pub use Rattle.cj_spans.specs.declared.node.Node.{Node}
 pub use Rattle.cj_spans.specs.declared.reason.Reason.{Reason}
