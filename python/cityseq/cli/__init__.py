@@ -241,8 +241,8 @@ def _traced(fault: Exception) -> str:
 
 
 def _is_short_of_memory(fault: BaseException) -> bool:
-    """Whether a fault is that of the system's loader, which has no memory for a library, or one of
-    Python itself, whose calls sometimes do not say that memory is short."""
+    """Whether memory is short, which the fault does not name. The system's loader has none for a
+    library, or a call of Python returns no exception."""
     words = str(fault).lower()
     if isinstance(fault, SystemError):
         import resource  # few faults need it
