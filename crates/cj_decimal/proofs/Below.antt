@@ -1,5 +1,5 @@
 -- Words of eight digits, from the first one on, have the order of their numbers.
-use Rattle.cj_decimal.proofs.Common.{◌≡◌, ℕ, zero, suc, ◌+◌, ◌*◌, ◌/◌, ◌%◌, ◌^◌, ◌<◌, ◌≤◌, List, [], ◌∷◌, length, map, get_or, refl, sym, ap, subst, arith, ◌∙◌, inl, inr, w64, pow-suc, cases_lt, mul-le-mul_left, Class, whole_answer, IsShort, IsInt, digits_value}
+use Rattle.cj_decimal.proofs.Common.{◌≡◌, ℕ, zero, suc, ◌+◌, ◌*◌, ◌/◌, ◌%◌, ◌^◌, ◌<◌, ◌≤◌, List, [], ◌∷◌, length, map, get_or, refl, sym, ap, subst, arith, ◌∙◌, inl, inr, w64, pow-suc, cases_lt, mul-le-mul_left, Class, whole_answer, IsShort, IsInt, digits_value, le_bytes_8}
 use Rattle.std.proofs.Math.Nat.{pow-zero}
 use Rattle.std.specs.Int.{swap_bytes}
 use Rattle.std.specs.Prelude.{Option, None, Some, IfSome, IsSome, Ok, pos}
@@ -36,12 +36,12 @@ order : (k : ℕ) → k ≤ 1 → (s t : List ℕ) → length s ≡ length t →
 unfolding weighed
 order k one [] [] e hs ht l = l
 order k one (a ∷ s) (b ∷ t) e hs ht l =
-    let n : length t ≡ length s = omega arith in
+    let n : length t ≡ length s = omega (arith, e) in
     let wide : 10 ≤ 256 = omega arith in
     rw n (step k one (10 ^ length s) (256 ^ length s) a b (weighed 256 s) (weighed 256 t) (weighed 10 s) (weighed 10 t)
     (weighed_below 256 wide s hs.1) (rw n at (weighed_below 256 wide t ht.1)) (weighed_below 10 (omega arith) s hs.1)
     (order k one s t (sym n) hs.1 ht.1) (rw n at l))
-order k one _ _ e hs ht l = absurd (omega arith)
+order k one _ _ e hs ht l = absurd (omega (arith, e))
 
 -- ---- eight digits
 
@@ -52,13 +52,13 @@ bytes_of (b ∷ s) h (suc i) = bytes_of s h.1 i
 
 pub swapped : (s : List ℕ) → length s ≡ 8 → AllBelow 10 s → swap_bytes w64 (little_endian s) ≡ weighed 256 s
 unfolding weighed
-swapped (a ∷ b ∷ c ∷ d ∷ e ∷ f ∷ g ∷ h ∷ []) l z = search arith
-swapped _ l z = absurd (omega arith)
+swapped (a ∷ b ∷ c ∷ d ∷ e ∷ f ∷ g ∷ h ∷ []) l z = search (arith, le_bytes_8, bytes_of)
+swapped _ l z = absurd (omega (arith, l))
 
 unswapped : (s : List ℕ) → length s ≡ 8 → AllBelow 10 s → swap_bytes w64 (weighed 256 s) ≡ little_endian s
 unfolding weighed
-unswapped (a ∷ b ∷ c ∷ d ∷ e ∷ f ∷ g ∷ h ∷ []) l z = search arith
-unswapped _ l z = absurd (omega arith)
+unswapped (a ∷ b ∷ c ∷ d ∷ e ∷ f ∷ g ∷ h ∷ []) l z = search (arith, swapped)
+unswapped _ l z = absurd (omega (arith, l))
 
 -- ---- words and their numbers
 
@@ -84,7 +84,7 @@ eight_of_word w n h = search (arith, unswapped)
 room : (s : List ℕ) → length s ≡ 8 → AllBelow 10 s → (little_endian s < 2 ^ 60) × (weighed 256 s < 2 ^ 60)
 unfolding weighed
 room (a ∷ b ∷ c ∷ d ∷ e ∷ f ∷ g ∷ h ∷ []) l z = omega arith
-room _ l z = absurd (omega arith)
+room _ l z = absurd (omega (arith, l))
 
 pub eight_room : (s : List ℕ) {m : ℕ} → length s ≡ 8 → AllBelow 10 s → m ≡ little_endian s → m < 2 ^ 60
 eight_room s l z is = rw is (room s l z).0
@@ -109,7 +109,7 @@ word_small w n h =
 -- digits that have a word are a short number
 pub word_short : (s : List ℕ) (w : ℕ) {n : ℕ} → IsInt s → IsWordOf w (digits_value s) → n ≡ digits_value s → IsShort s n
 word_short s w int word is =
-    int_short s int is (omega (arith, word_small w (digits_value s) word))
+    int_short s int is (omega (arith, is, word_small w (digits_value s) word))
 
 -- the word of a number's digits has the number that reading it answers
 pub word_answer : (o : Option ℕ) (s : List ℕ) → (IsSome o → IsInt s) → IfSome o (λ w. IsWordOf w (digits_value s))
@@ -144,7 +144,7 @@ unfolding weighed
 spelled n a b c d e f g word small ia ib ic id ie if ig is =
     let t = g ∷ f % 10 ∷ e % 10 ∷ d % 10 ∷ c % 10 ∷ b % 10 ∷ a % 10 ∷ n % 10 ∷ [] in
     let digits : AllBelow 10 t = omega arith in
-    let as_word : word ≡ weighed 256 t = omega arith in
+    let as_word : word ≡ weighed 256 t = omega (arith, is) in
     let value : weighed 10 t ≡ n = omega arith in (
       t,
       refl,

@@ -1,10 +1,10 @@
 -- The normal form of a number that was read, and the classes of its spelling.
-use Rattle.cj_decimal.proofs.Common.{◌≡◌, ℕ, ◌+◌, ◌*◌, ◌/◌, ◌%◌, ◌^◌, ◌<◌, ◌≤◌, sym, ap, ◌∙◌, arith, IsTrimmed, zero, suc, Bool, true, false, ℤ, pos, neg_ℤ, ◌+ℤ◌, ◌-ℤ◌, ◌*ℤ◌, ◌≤ℤ◌, ◌<ℤ◌, refl, ⊎_elim, ◌⊎◌, unsigned_abs, pow-add, ints, Number, scaled, signed, SameValue, IsNormal, IsInRange, IsOutOfRange, IsTooLong, StandsFor, Saturates, ◌++◌, List, length, Written, digits_value, number_of, Spells, SpellsNumber, IsValue, HasOneValue, IsNumberInRange, IsNumberOutOfRange, IsReadOf, Option, Some, None, negsuc, is_in_range, whole_by, as_whole, IsWhole, is_number, written_of, Class, no_number, out_of_range, not_whole, whole, smaller_power, brought, digits_front, digits_rest, begins, is_empty, begins_digit, body, is_int, is_frac, frac_digits, after_frac, exp_digits, is_whole_digits, is_exp, exp_value}
-use Rattle.cj_decimal.proofs.Values.{ten_pow_suc, ten_pow_pos, ten_pow_below, neg_times, same_sym, same_trans, normal_same}
+use Rattle.cj_decimal.proofs.Common.{◌≡◌, ℕ, ◌+◌, ◌*◌, ◌/◌, ◌%◌, ◌^◌, ◌<◌, ◌≤◌, sym, ap, ◌∙◌, arith, IsTrimmed, zero, suc, Bool, true, false, ℤ, pos, neg_ℤ, ◌+ℤ◌, ◌-ℤ◌, ◌*ℤ◌, ◌≤ℤ◌, ◌<ℤ◌, refl, ⊎_elim, ◌⊎◌, unsigned_abs, pow-add, ints, Number, scaled, signed, SameValue, IsNormal, IsInRange, IsOutOfRange, IsTooLong, StandsFor, Saturates, ◌++◌, List, length, Written, digits_value, number_of, Spells, SpellsNumber, IsValue, HasOneValue, IsNumberInRange, IsNumberOutOfRange, IsReadOf, Option, Some, None, negsuc, is_in_range, whole_by, as_whole, IsWhole, is_number, written_of, Class, no_number, out_of_range, not_whole, whole, smaller_power, brought, digits_front, digits_rest, begins, is_empty, begins_digit, body, is_int, is_frac, frac_digits, after_frac, exp_digits, is_whole_digits, is_exp, exp_value, by_lt_z, to_z-of_z, fits_signed_from_abs, nat_tests}
+use Rattle.cj_decimal.proofs.Values.{ten_pow_suc, ten_pow_pos, ten_pow_below, neg_times, same_sym, same_trans, normal_same, same_scaled}
 use Rattle.std.specs.Int.{w32, w128, cast_signed, cast_unsigned}
 use Rattle.cj_decimal.proofs.Grammar.{spells_test, test_spells}
 use Rattle.cj_decimal.specs.Meaning.Number.{small_whole}
-use Rattle.cj_decimal.proofs.Scales.{units_below}
+use Rattle.cj_decimal.proofs.Scales.{units_below, units_same}
 use Rattle.std.specs.Prelude.{nat_eq}
 use Rattle.cj_decimal.specs.Rows.{ReadRows, NoNumberRows, UnitRows, WorkedRows}
 
@@ -50,7 +50,7 @@ zero_times k = omega (arith, ints)
 
 -- 0 at any power is the pair (0, 0)
 pub zero_same : (s : Bool) (n : ℕ) (q : ℤ) → n ≡ 0 → SameValue (scaled (signed s n) q) (scaled (pos 0) (pos 0))
-zero_same s n q e = search arith
+zero_same s n q e = search (arith, signed_zero, zero_times)
 
 pub zero_normal : IsNormal (scaled (pos 0) (pos 0))
 zero_normal = record { normal = λ e. refl }
@@ -58,10 +58,10 @@ zero_normal = record { normal = λ e. refl }
 -- the number c with k zeros at its end is the number c at a power k higher
 pub trimmed_same : (s : Bool) {n : ℕ} (c k : ℕ) (p q : ℤ) → n ≡ c * 10 ^ k → q ≡ p +ℤ pos k
     → SameValue (scaled (signed s n) p) (scaled (signed s c) q)
-trimmed_same s {n} c k p q e f = search arith
+trimmed_same s {n} c k p q e f = search (arith, same_scaled, signed_times)
 
 pub trimmed_normal : (s : Bool) (c : ℕ) (q : ℤ) → 0 < c % 10 → IsNormal (scaled (signed s c) q)
-trimmed_normal s c q h = search arith
+trimmed_normal s c q h = search (arith, signed_size)
 
 -- ---- every number has a normal form
 abbrev Trimmed : ℕ → Type 0
@@ -84,7 +84,7 @@ trim_by_last n zero e p more =
 
 trim_within : (fuel n : ℕ) → n ≤ fuel → 0 < n → Trimmed n
 trim_within zero n h p = absurd (omega arith)
-trim_within (suc fuel) n h p = trim_by_last n (n % 10) refl p (λ q e. trim_within fuel (n / 10) (omega arith) q)
+trim_within (suc fuel) n h p = trim_by_last n (n % 10) refl p (λ q e. trim_within fuel (n / 10) (omega (arith, e)) q)
 
 pub trim : (n : ℕ) → 0 < n → (c : ℕ) × (k : ℕ) × IsTrimmed n c k
 trim n p = trim_within n n (omega arith) p
@@ -137,11 +137,11 @@ power_in {e} {r} after_point up s a b low high = search (arith, ints)
 
 pub power_low_out : {e r : ℤ} (after_point up : ℕ) → Saturates e r → after_point < 2 ^ 64 → up < 2 ^ 65
     → (r -ℤ pos after_point +ℤ pos up) <ℤ neg_ℤ (pos 1000000) → (e -ℤ pos after_point +ℤ pos up) <ℤ neg_ℤ (pos 1000000)
-power_low_out {e} {r} after_point up s a b h = search arith
+power_low_out {e} {r} after_point up s a b h = search (arith, ints, by_lt_z)
 
 pub power_high_out : {e r : ℤ} (after_point up : ℕ) → Saturates e r → after_point < 2 ^ 64 → up < 2 ^ 65
     → pos 1000000 <ℤ (r -ℤ pos after_point +ℤ pos up) → pos 1000000 <ℤ (e -ℤ pos after_point +ℤ pos up)
-power_high_out {e} {r} after_point up s a b h = search arith
+power_high_out {e} {r} after_point up s a b h = search (arith, ints, by_lt_z)
 
 -- where the power is out of range, the normal form is
 pub power_out : (s : Bool) {n : ℕ} (c up : ℕ) (q : ℤ) → n ≡ c * 10 ^ up → 0 < c % 10
@@ -152,12 +152,12 @@ power_out s c up q is_whole last far = out_form s c up q is_whole last
 
 pub form_in_range : (s : Bool) (c : ℕ) (p : ℤ) → c < 10 ^ 36 → neg_ℤ (pos 1000000) ≤ℤ p → p ≤ℤ pos 1000000
     → IsInRange (scaled (signed s c) p)
-form_in_range s c p small low high = search arith
+form_in_range s c p small low high = search (arith, signed_size)
 
 -- the same at a coefficient and a power that equal these
 pub in_form : (s : Bool) {n c k : ℕ} {x p : ℤ} → IsTrimmed n c k → n < 10 ^ 36 → x ≡ signed s c
     → neg_ℤ (pos 1000000) ≤ℤ p → p ≤ℤ pos 1000000 → IsNormal (scaled x p) × IsInRange (scaled x p)
-in_form s {c} {p} t small e low high = search (arith, form_in_range, trimmed_le)
+in_form s {c} {p} t small e low high = search (arith, trimmed_normal, form_in_range, trimmed_le)
 
 pub same_form : (s : Bool) {n : ℕ} (c up : ℕ) (q : ℤ) {x p : ℤ} → n ≡ c * 10 ^ up → x ≡ signed s c → p ≡ q +ℤ pos up
     → SameValue (scaled (signed s n) q) (scaled x p)
@@ -166,7 +166,7 @@ same_form s c up q {p} is_whole e f = rw e (trimmed_same s c up q p is_whole f)
 -- a coefficient that went to bits and back
 pub sign_cast : (s : Bool) (c : ℕ) {x : ℤ} → x ≡ signed s c → c < 10 ^ 36
     → cast_signed w128 (cast_unsigned w128 x) ≡ signed s c
-sign_cast s c {x} e small = search arith
+sign_cast s c {x} e small = search (arith, to_z-of_z, fits_signed_from_abs, signed_size)
 
 -- the power as the code computes it
 pub power_cast : (r : ℤ) (after_point extra more : ℕ) → unsigned_abs r < 10 ^ 36 → after_point < 2 ^ 64 → extra < 2 ^ 64
@@ -230,18 +230,18 @@ value_is_number s v a = (a.written, a.spells)
 -- ---- the range
 
 pub in_range_test : {n : Number} → IsInRange n → is_in_range n ≡ true
-in_range_test {n} r = search arith
+in_range_test {n} r = search (arith, nat_tests, ints)
 
 pub test_in_range : (n : Number) → is_in_range n ≡ true → IsInRange n
-test_in_range n e = search arith
+test_in_range n e = search (arith, nat_tests, ints)
 
 -- ---- as a whole number
 
 small_is : (w : ℤ) → unsigned_abs w < 10 ^ 18 → small_whole w ≡ Some w
-small_is w h = grind arith
+small_is w h = grind (arith, nat_tests)
 
 is_small : (x w : ℤ) → small_whole x ≡ Some w → (w ≡ x) × (unsigned_abs w < 10 ^ 18)
-is_small x w h = (grind arith, grind arith)
+is_small x w h = (grind (arith, nat_tests), grind (arith, nat_tests))
 
 module _ (v : Number) (normal : IsNormal v) where
   whole_at : (p : ℤ) → v.power ≡ p → {w : ℤ} → IsWhole v w → whole_by v.coefficient p ≡ Some w
@@ -250,7 +250,7 @@ module _ (v : Number) (normal : IsNormal v) where
       absurd (units_below v w (pos 0) normal is.same (omega (arith, ints, e)) (omega arith))
 
   at_whole : (p : ℤ) → v.power ≡ p → (w : ℤ) → whole_by v.coefficient p ≡ Some w → IsWhole v w
-  at_whole (pos k) e w h = search arith
+  at_whole (pos k) e w h = search (arith, ints, is_small, units_same)
   at_whole (negsuc k) e w h = absurd (cc h)
 
   pub whole_is : {w : ℤ} → IsWhole v w → as_whole v ≡ Some w
@@ -295,7 +295,7 @@ row {s} v test same last = record {
 
 zero_row : {s : List ℕ} → is_number s ≡ true → SameValue (number_of (written_of s)) (scaled (pos 0) (pos 0))
     → IsValue s (scaled (pos 0) (pos 0))
-zero_row {s} test same = search (arith, test_spells)
+zero_row {s} test same = search (arith, test_spells, zero_normal)
 
 near : {s : List ℕ} (v : Number) → IsValue s v → is_in_range v ≡ true → IsNumberInRange s
 near v value range = (v, value, test_in_range v range)

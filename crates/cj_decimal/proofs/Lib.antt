@@ -6,4 +6,5 @@ pub mod Classes
 pub mod Readings
 pub mod Below
 pub mod Eights
+pub mod EightsInLine
 pub mod Scales

@@ -1,5 +1,5 @@
 -- What reading answers: decimals, whole numbers, and few digits.
-use Rattle.cj_decimal.proofs.Common.{◌≡◌, ℕ, zero, suc, ◌+◌, ◌*◌, ◌^◌, ◌%◌, ◌<◌, ◌≢◌, List, [], ◌∷◌, ◌++◌, length, Bool, cond, Option, Some, None, Ok, Err, ℤ, pos, ◌+ℤ◌, ◌-ℤ◌, refl, sym, ap, ◌∙◌, subst, arith, pow-suc, inl, inr, ints, NotANumber, NumberRange, cond-true, cond-false, false_from_ne_true, length-append, length-replicate, Number, scaled, signed, is_in_range, as_whole, SameValue, IsNormal, IsInRange, IsWhole, Written, value_after, digits_value, is_number, written_of, AllDigits, IsFrac, Spells, IsValue, SpellsNumber, IsNumberOutOfRange, Class, no_number, out_of_range, not_whole, whole, whole_answer, value_answer, whole_answer_by, SaySame, ◌≤◌, drop_more, get_or, true, false, false≢true, Result, negsuc, rules, IfOk, IfSome, IsSome, unsigned_abs, is_ascii_digit, le-mul_of_pos_right, IsInt, IsFewDigits, IsFewSigned, digits_front, digits_rest, is_int, begins, body, Passes, IsShort, mul-le-mul_right, pow-le-pow_right}
+use Rattle.cj_decimal.proofs.Common.{◌≡◌, ℕ, zero, suc, ◌+◌, ◌*◌, ◌^◌, ◌%◌, ◌<◌, ◌≢◌, List, [], ◌∷◌, ◌++◌, length, Bool, cond, Option, Some, None, Ok, Err, ℤ, pos, ◌+ℤ◌, ◌-ℤ◌, refl, sym, ap, ◌∙◌, subst, arith, pow-suc, inl, inr, ints, NotANumber, NumberRange, cond-true, cond-false, false_from_ne_true, length-append, length-replicate, Number, scaled, signed, is_in_range, as_whole, SameValue, IsNormal, IsInRange, IsWhole, Written, value_after, digits_value, is_number, written_of, AllDigits, IsFrac, Spells, IsValue, SpellsNumber, IsNumberOutOfRange, Class, no_number, out_of_range, not_whole, whole, whole_answer, value_answer, whole_answer_by, SaySame, ◌≤◌, drop_more, get_or, true, false, false≢true, Result, negsuc, rules, IfOk, IfSome, IsSome, unsigned_abs, is_ascii_digit, le-mul_of_pos_right, IsInt, IsFewDigits, IsFewSigned, digits_front, digits_rest, is_int, begins, body, Passes, IsShort, mul-le-mul_right, pow-le-pow_right, cases_Bool}
 use Rattle.std.proofs.lemmas.Bool.{cond_both, eqb-false, eqb-true}
 use Rattle.std.specs.Prelude.{nat_eq, ◌-◌, replicate}
 use Rattle.cj_decimal.specs.Meaning.Decimal.{put_before, without_zeros, number_after, normal_of, ranged, decimal_of}
@@ -92,7 +92,7 @@ frac_digits_all digits s (inl none) = subst AllDigits (sym none.0) tt
 frac_digits_all digits s (inr some) = all_of digits some.0
 
 written_digits : {s : List ℕ} {n : Written} → Spells s n → AllDigits (n.int ++ n.frac)
-written_digits {n} h = search (arith, digits_both, int_digits)
+written_digits {n} h = search (arith, digits_both, int_digits, frac_digits_all)
 
 -- a number of the grammar has the value that is read
 value_is : {s : List ℕ} {n : Written} → Spells s n → IsValue s (normal_of n)
@@ -207,7 +207,7 @@ int_alone_reads s int =
     let all = int_digits s int in (ap is_int (front_alone s all) ∙ int_test s int, rest_alone s all)
 
 pub int_short : (s : List ℕ) {n : ℕ} → IsInt s → n ≡ digits_value s → n < 10 ^ 18 → IsShort s n
-int_short s int value small = search (arith, int_alone_reads, front_alone)
+int_short s int value small = search (arith, int_alone_reads, front_alone, int_digits)
 
 pub int_alone_read : (s : List ℕ) → is_int (digits_front s) ≡ true → digits_rest s ≡ [] → IsInt s
 int_alone_read s int rest = rw (front_is_all s rest) at (int_from_test (digits_front s) (front_all s) int)
@@ -246,7 +246,7 @@ whole_in_range {v} {w} normal is = by_power v.power refl
 -- an int part that ends the spelling, after its sign, is that whole number
 size : (negative : Bool) (n : ℕ) → unsigned_abs (signed negative n) ≡ n
 size true n = omega (arith, ints)
-size false n = omega arith
+size false n = omega (arith, ints)
 
 pub signed_answer : {s : List ℕ} {negative : Bool} {n : ℕ} (c : Class s) → negative ≡ begins 45 s → IsShort (body s) n
     → whole_answer c ≡ Ok (Some (signed negative n))
@@ -276,7 +276,7 @@ answer_of_few s (Some n) short = λ c. answer_digits s n c short
 
 -- few digits after the sign, if there is one
 pub signed_from_body : (s : List ℕ) → IsFewDigits (body s) → IsFewSigned s
-signed_from_body s few = search (arith, begins_is, minus_there, no_minus)
+signed_from_body s few = search (arith, cases_Bool, begins_is, minus_there, no_minus)
 
 pub body_of_signed : (s : List ℕ) → IsFewSigned s → IsFewDigits (body s)
 body_of_signed s (inl few) =
@@ -292,7 +292,13 @@ value_below n [] h = omega arith
 value_below n (b ∷ s) h =
     let m = 10 * n + (b - 48) in
     let more = mul-le-mul_right (10 ^ length s) (room n b h.0.0 h.0.1) in
-    omega (arith, value_below m s h.1, more, ap (λ q. (n + 1) * q) (pow-suc 10 (length s)))
+    omega (
+      arith,
+      value_below m s h.1,
+      more,
+      turned (n + 1) (10 ^ length s),
+      ap (λ q. (n + 1) * q) (pow-suc 10 (length s)),
+    )
   where
     room : (n b : ℕ) → 48 ≤ b → b ≤ 57 → 10 * n + (b - 48) + 1 ≤ 10 * (n + 1)
     room n b low high = omega arith

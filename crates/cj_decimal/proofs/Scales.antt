@@ -2,7 +2,7 @@
 use Rattle.cj_decimal.proofs.Common.{◌≡◌, ℕ, zero, suc, ◌+◌, ◌-◌, ◌*◌, ◌%◌, ◌^◌, ◌<◌, ◌≤◌, ℤ, pos, neg_ℤ, ◌+ℤ◌, ◌*ℤ◌, ◌≤ℤ◌, ◌<ℤ◌, refl, ap, ◌∙◌, arith, rules, unsigned_abs, ints, to_z-of_z, fits_signed_from_abs, mul-le-mul_right, mul-lt-mul_of_pos_right, Number, scaled, SameValue, IsNormal, negsuc, ◌-ℤ◌, value_order}
 use Rattle.std.specs.Prelude.{FitsSigned, Option, Some, None, IfSome, IfNone}
 use Rattle.std.specs.Int.{int_gap, w128, cast_signed, cast_unsigned, int_div_euclid, int_rem_euclid, w64}
-use Rattle.cj_decimal.proofs.Values.{ten_pow_pos, ten_pow_add, ten_pow_le, scaled_same, same_scaled, same_sym, gap_is, abs_times, ends_in_zero, times_scaled}
+use Rattle.cj_decimal.proofs.Values.{ten_pow_pos, ten_pow_add, ten_pow_le, scaled_same, same_scaled, same_sym, gap_is, abs_times, ends_in_zero, times_scaled, times_one}
 use Rattle.std.specs.Ordering.{int_cmp}
 use Rattle.std.specs.declared.cmp.Ordering.{Ordering}
 use Rattle.cj_decimal.specs.Affine.{units}
@@ -28,7 +28,7 @@ units_below v u t normal same low unit =
 -- the number of units, where the power is k above theirs
 pub units_are : (v : Number) (u t : ℤ) (k : ℕ) → v.power ≡ t +ℤ pos k → SameValue v (scaled u t)
     → u ≡ v.coefficient *ℤ pos (10 ^ k)
-units_are v u t k f same = search arith
+units_are v u t k f same = search (arith, ints, gap_is, scaled_same, same_sym)
 
 pub units_same : (v : Number) (u t : ℤ) (k : ℕ) → v.power ≡ t +ℤ pos k → u ≡ v.coefficient *ℤ pos (10 ^ k)
     → SameValue v (scaled u t)
@@ -56,7 +56,7 @@ zeros_large c k digits some h = search (arith, ten_pow_le)
 
 pub size_of_units : (v : Number) (u t : ℤ) (k : ℕ) → v.power ≡ t +ℤ pos k → SameValue v (scaled u t)
     → unsigned_abs u ≡ unsigned_abs v.coefficient * 10 ^ k
-size_of_units v u t k f same = search (arith, units_are)
+size_of_units v u t k f same = search (arith, units_are, abs_times)
 
 -- where the zeros alone are as many as the bound has, the number is too large
 pub far_units : {v : Number} (u : ℤ) (after_point digits k : ℕ) → IsNormal v
@@ -76,12 +76,12 @@ far_units {v} u after_point digits k normal f apart h same = by_size (unsigned_a
 -- where the coefficient with its zeros reaches the bound, likewise
 pub large_units : (v : Number) (u t : ℤ) (digits k : ℕ) → v.power ≡ t +ℤ pos k
     → 10 ^ digits ≤ unsigned_abs v.coefficient * 10 ^ k → SameValue v (scaled u t) → 10 ^ digits ≤ unsigned_abs u
-large_units v u t digits k f large same = omega (arith, size_of_units v u t k f same)
+large_units v u t digits k f large same = omega (arith, size_of_units v u t k f same, large)
 
 -- a product of that size is small, and fits
 pub product_small : (c : ℤ) (k digits : ℕ) → k ≤ digits → unsigned_abs c < 10 ^ (digits - k)
     → unsigned_abs (c *ℤ pos (10 ^ k)) < 10 ^ digits
-product_small c k digits h small = search (arith, scaled_small)
+product_small c k digits h small = search (arith, abs_times, scaled_small)
 
 pub product_fits : (c : ℤ) (k digits : ℕ) → k ≤ digits → digits ≤ 36 → unsigned_abs c < 10 ^ (digits - k)
     → unsigned_abs (c *ℤ pos (10 ^ k)) < 10 ^ 36
@@ -94,7 +94,7 @@ power_fits k h = ten_pow_le k 36 h
 factors_cast : (c : ℤ) (k : ℕ) {power : ℕ} → k ≤ 36 → unsigned_abs c < 10 ^ 36 → power ≡ 10 ^ k
     → cast_signed w128 (cast_unsigned w128 c) *ℤ cast_signed w128 power ≡ c *ℤ pos (10 ^ k)
 factors_cast c k {power} most fits e =
-    search (arith, ints, power_fits, to_z-of_z)
+    search (arith, ints, power_fits, to_z-of_z, fits_signed_from_abs)
 
 pub product_cast : (c : ℤ) (k digits : ℕ) {power : ℕ} → k ≤ digits → digits ≤ 36 → unsigned_abs c < 10 ^ 36
     → unsigned_abs c < 10 ^ (digits - k) → power ≡ 10 ^ k
@@ -117,7 +117,7 @@ pub value_in_units : (r : Option ℤ) {v w : Number} (t : ℤ) {x : ℤ} (digits
     → v.power ≡ t +ℤ pos k
     → IfSome r (λ u. SameValue w (scaled u t) × (unsigned_abs u < 10 ^ digits))
 value_in_units None t digits k h same e f = search rules
-value_in_units (Some u) {v} t digits k h same e f = search arith
+value_in_units (Some u) {v} t digits k h same e f = search (arith, units_same)
 
 pub none_in_units : (r : Option ℤ) {v w : Number} (t : ℤ) {x : ℤ} (digits k : ℕ)
     → IfNone r (10 ^ digits ≤ unsigned_abs x * 10 ^ k) → v ≡ w → x ≡ v.coefficient → v.power ≡ t +ℤ pos k
@@ -179,16 +179,16 @@ difference_by_parts v whole part shift q carry left e =
 
 -- at one power the order of numbers is that of their coefficients
 pub units_order : (x q : ℤ) → value_order (units x) (units q) ≡ int_cmp x q
-units_order x q = search arith
+units_order x q = search (arith, times_one)
 
 pub scale_joined : (scale : ℤ) {whole part : ℤ} → int_div_euclid scale (pos (10 ^ 18)) ≡ whole
     → int_rem_euclid scale (pos (10 ^ 18)) ≡ part → scale ≡ whole *ℤ pos (10 ^ 18) +ℤ part
-scale_joined scale {whole} e f = search arith
+scale_joined scale {whole} e f = search (arith, euclid)
 
 -- a scale below 10^18 in size has a whole part of at most that size
 pub whole_small : (scale : ℤ) {whole part : ℤ} → int_div_euclid scale (pos (10 ^ 18)) ≡ whole
     → int_rem_euclid scale (pos (10 ^ 18)) ≡ part → unsigned_abs scale < 10 ^ 36 → unsigned_abs whole ≤ 10 ^ 18
-whole_small scale {part} e f small = search arith
+whole_small scale {part} e f small = search (arith, ints, scale_joined, euclid_part)
 
 -- what the steps of the comparison amount to
 pub compare_law : (v : ℤ) {scale : ℤ} (whole part shift q : ℤ) {first rest : ℤ} (carry : ℤ) {left second sum last : ℤ}
@@ -208,7 +208,7 @@ compare_law v {scale} whole part shift q carry {left} {sum} {last} e b joined a 
 -- ---- numbers that went to bits and back
 pub product_of_casts : (v p : ℤ) {r : ℤ} → unsigned_abs v ≤ 10 ^ 18 → unsigned_abs p ≤ 10 ^ 18
     → r ≡ cast_signed w64 (cast_unsigned w64 v) *ℤ cast_signed w64 (cast_unsigned w64 p) → r ≡ v *ℤ p
-product_of_casts v p a b e = search arith
+product_of_casts v p a b e = search (arith, to_z-of_z, fits_signed_from_abs)
 
 pub part_small : (scale : ℤ) {part : ℤ} → int_rem_euclid scale (pos (10 ^ 18)) ≡ part → unsigned_abs part ≤ 10 ^ 18
 part_small scale {part} f =
@@ -219,7 +219,7 @@ pub split_cast : (z : ℤ) {w : ℤ} → FitsSigned w128 z
     → w ≡ int_div_euclid (cast_signed w128 (cast_unsigned w128 z)) (pos (10 ^ 18))
     → (w *ℤ pos (10 ^ 18) +ℤ int_rem_euclid z (pos (10 ^ 18)) ≡ z) × (pos 0 ≤ℤ int_rem_euclid z (pos (10 ^ 18)))
     × (int_rem_euclid z (pos (10 ^ 18)) <ℤ pos (10 ^ 18))
-split_cast z {w} fits e = search arith
+split_cast z {w} fits e = search (arith, to_z-of_z, euclid_part, euclid)
 
 pub rest_cast : (p s : ℤ) {u q : ℤ} → unsigned_abs p ≤ 10 ^ 36 → unsigned_abs s < 10 ^ 36 → unsigned_abs u < 10 ^ 36
     → u ≡ q

@@ -1,5 +1,5 @@
 -- Powers of ten, equality of numbers, and its laws.
-use Rattle.cj_decimal.proofs.Common.{◌≡◌, ℕ, zero, suc, ◌+◌, ◌*◌, ◌^◌, ◌<◌, ◌≤◌, ℤ, pos, neg_ℤ, ◌*ℤ◌, refl, sym, ap, arith, one-le-pow, pow-le-pow_right, pow-add, ints, ◌%◌, negsuc, ◌+ℤ◌, ◌≤ℤ◌, true, ◌∙◌, inl, inr, ⊎_elim, unsigned_abs, ◌⊎◌, clamps, unsigned_abs-mul, by_lt_z, to_z-of_z, Number, scaled, smaller_power, brought, SameValue, IsNormal, IsInRange}
+use Rattle.cj_decimal.proofs.Common.{◌≡◌, ℕ, zero, suc, ◌+◌, ◌*◌, ◌^◌, ◌<◌, ◌≤◌, ℤ, pos, neg_ℤ, ◌*ℤ◌, refl, sym, ap, arith, one-le-pow, pow-le-pow_right, pow-add, ints, ◌%◌, negsuc, ◌+ℤ◌, ◌≤ℤ◌, true, ◌∙◌, inl, inr, ⊎_elim, unsigned_abs, ◌⊎◌, clamps, unsigned_abs-mul, by_lt_z, to_z-of_z, Number, scaled, smaller_power, brought, SameValue, IsNormal, IsInRange, le_of_mul-le-mul_right, mul-mod_right, fits_signed_from_abs}
 use borrow.Author.Differences.{up, down, same_in, same_out, product_is}
 use Rattle.std.proofs.lemmas.Bool.{eq-eqb, eqb-true}
 use Rattle.std.specs.Prelude.{nat_eq, FitsSigned, ◌↔◌}
@@ -25,11 +25,11 @@ pub ten_pow_below : (i j : ℕ) → 10 ^ i < 10 ^ j → i < j
 ten_pow_below i j h = grind (arith, ten_pow_le j i)
 
 pub mul_right_cancel : (a b k : ℕ) → 0 < k → a * k ≡ b * k → a ≡ b
-mul_right_cancel a b k p e = search arith
+mul_right_cancel a b k p e = search (arith, le_of_mul-le-mul_right)
 
 -- a whole number times a positive one can be divided by it again
 pub times_cancel : (x y : ℤ) (k : ℕ) → 0 < k → x *ℤ pos k ≡ y *ℤ pos k → x ≡ y
-times_cancel x y k p e = search (arith, same_in, mul_right_cancel, same_out)
+times_cancel x y k p e = search (arith, same_in, mul_right_cancel, same_out, product_is)
 
 pub times_scaled : (v a : ℤ) (u : ℕ) → v *ℤ (a *ℤ pos u) ≡ (v *ℤ a) *ℤ pos u
 times_scaled v a u =
@@ -67,7 +67,7 @@ gap_is (negsuc a) (pos b) h = omega (arith, ints)
 gap_is (negsuc a) (negsuc b) h = omega (arith, ints)
 
 pub gap_add : (t u p : ℤ) → t ≤ℤ u → u ≤ℤ p → int_gap t p ≡ int_gap u p + int_gap t u
-gap_add t u p h k = search arith
+gap_add t u p h k = search (arith, ints, gap_is)
 
 pub smaller_left : (m n : Number) → smaller_power m n ≤ℤ m.power
 smaller_left m n = omega (arith, ints, clamps)
@@ -116,11 +116,11 @@ same_trans {l} {m} {n} h k =
 -- a coefficient with k zeros at its end, and a power that is k greater without them
 pub same_scaled : (c d : ℤ) (p : ℤ) {q : ℤ} (k : ℕ) → c ≡ d *ℤ pos (10 ^ k) → q ≡ p +ℤ pos k
     → SameValue (scaled c p) (scaled d q)
-same_scaled c d p {q} k e f = search arith
+same_scaled c d p {q} k e f = search (arith, ints, gap_is, at_same, times_one)
 
 -- and the other way round
 pub scaled_same : (c d : ℤ) (p q : ℤ) → SameValue (scaled c p) (scaled d q) → p ≤ℤ q → c ≡ d *ℤ pos (10 ^ int_gap p q)
-scaled_same c d p q same low = search arith
+scaled_same c d p q same low = search (arith, ints, gap_is, times_one, same_at)
 
 pub number_eq : (m n : Number) → m.coefficient ≡ n.coefficient → m.power ≡ n.power → m ≡ n
 number_eq m n e f = search arith
@@ -133,7 +133,7 @@ swap_ten n p = omega arith
 
 -- a multiple of a power of ten above 1 is a multiple of 10
 pub ends_in_zero : (n k : ℕ) → n * 10 ^ (k + 1) % 10 ≡ 0
-ends_in_zero n k = search (arith, ten_pow_suc, swap_ten)
+ends_in_zero n k = search (arith, ten_pow_suc, swap_ten, mul-mod_right)
 
 pub le_total : (a b : ℤ) → (a ≤ℤ b) ⊎ (b ≤ℤ a)
 le_total a b = by_lt_z a b (λ h. inl (omega (arith, ints))) (λ h. inr h)
@@ -164,13 +164,13 @@ normal_same {v} {w} same a b =
 -- ---- equality as the code tests it
 bits_apart : (w : Width) (p q : ℤ) → FitsSigned w p → FitsSigned w q
     → nat_eq (cast_unsigned w p) (cast_unsigned w q) ≡ true → p ≡ q
-bits_apart w p q a b e = search arith
+bits_apart w p q a b e = search (arith, to_z-of_z, eqb-true)
 
 bits_same : (w : Width) (p q : ℤ) → p ≡ q → nat_eq (cast_unsigned w p) (cast_unsigned w q) ≡ true
 bits_same w p q e = eq-eqb _ _ (ap (cast_unsigned w) e)
 
 coefficient_fits : {v : Number} → IsInRange v → FitsSigned w128 v.coefficient
-coefficient_fits {v} r = search arith
+coefficient_fits {v} r = search (arith, fits_signed_from_abs)
 
 -- a coefficient in range that went to bits and back
 pub coefficient_same : {v : Number} → IsInRange v → cast_signed w128 (cast_unsigned w128 v.coefficient) ≡ v.coefficient
@@ -181,7 +181,7 @@ pub coefficient_cast : {v : Number} → IsInRange v
 coefficient_cast r = rw (coefficient_same r) r.digits
 
 power_fits : {v : Number} → IsInRange v → FitsSigned w32 v.power
-power_fits r = omega (arith, ints, r.power_low)
+power_fits r = omega (arith, ints, r.power_low, r.power_high)
 
 -- with one coefficient: equal exactly where the powers are
 pub same_by_power : {v w : Number} → IsNormal v × IsInRange v → IsNormal w × IsInRange w

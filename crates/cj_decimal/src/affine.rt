@@ -67,7 +67,6 @@ impl Affine {
     }
 
     /// Compares `v * scale + shift` with a number, exactly. `v` is below 10^18 in size.
-    #[tactic(auto, using(crate::proofs::Common::ints))]
     pub fn compare(&self, v: i64, q: Fixed18) -> Ordering
         requires { unsigned_abs v < 10 ^ 18 }
         ensures order { result ≡ int_cmp (image self.now v) q }
@@ -90,7 +89,6 @@ fn product(left: i64, right: i64) -> i128
 }
 
 /// Returns this number of units as whole ones, rounded down, and the units that remain.
-#[tactic(auto, using(crate::proofs::Common::ints, crate::proofs::Scales::split_cast))]
 fn split(units: i128) -> (i128, i128)
     requires { unsigned_abs units < 4 * 10 ^ 36 }
     ensures whole { result.0 ≡ int_div_euclid units (pos (10 ^ 18)) }

@@ -120,7 +120,6 @@ impl Eq for Decimal {
 
 impl Decimal {
     /// Returns the number of a spelling's parts. None if it is out of range.
-    #[tactic(auto, using(crate::proofs::Classes::trimmed_le))]
     fn from_parts(parts: Parts) -> Option<Decimal>
         ensures some { (n : ℕ) (e : ℤ) → StandsFor parts.digits.lead parts.digits.extra parts.digits.lost n
             → Saturates e parts.exponent
@@ -160,7 +159,6 @@ impl Decimal {
     ///
     /// `NotANumber` if the spelling is no number of JSON. `NumberRange` if its value has more than
     /// 36 digits in normal form, or a power of ten above 1,000,000 in size.
-    #[tactic(auto, using(crate::proofs::Classes::has_one_value))]
     pub fn read(spelling: &[u8]) -> Result<Decimal, DecimalFault>
         ensures value { IfOk result (IsValue spelling.now) }
         ensures in_range { IfOk result IsInRange }

@@ -4,7 +4,6 @@ ghost use Rattle.cj_decimal.specs.inner.Digits.{IsTrimmed};
 
 /// Returns the number without the zeros at its end, and their count, for numbers of one machine
 /// word.
-#[tactic(auto, using(crate::proofs::Classes::trim_more, crate::proofs::Classes::trim_left, crate::proofs::Classes::trim_few))]
 fn short_without_zeros(number: u64) -> (u64, u32)
     requires { 0 < number }
     ensures trimmed { IsTrimmed number result.0 result.1 }
@@ -20,7 +19,6 @@ fn short_without_zeros(number: u64) -> (u64, u32)
 }
 
 /// Returns the number without the zeros at its end, and their count.
-#[tactic(auto, using(crate::proofs::Classes::trim_more, crate::proofs::Classes::trim_left, crate::proofs::Classes::trim_few))]
 pub fn without_zeros(number: u128) -> (u128, u32)
     requires { 0 < number }
     ensures trimmed { IsTrimmed number result.0 result.1 }

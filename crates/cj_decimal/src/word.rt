@@ -75,7 +75,7 @@ fn value_of(word: u64) -> u64
 
 /// Returns whether each byte of a word is below 16.
 #[inline(always)]
-#[tactic(auto, using(crate::proofs::Eights::low_each, crate::proofs::Eights::passes_low))]
+#[tactic(auto, using(crate::proofs::EightsInLine::low_each, crate::proofs::EightsInLine::passes_low))]
 fn are_low(word: u64) -> bool
     ensures { (s : List ℕ) → length s ≡ 8 → AllBelow 256 s → word ≡ little_endian s
         → IsTrue result ↔ AllBelow 16 s }

@@ -2,7 +2,8 @@ use Rattle.cj_decimal.proofs.Common.{◌≡◌, ◌-◌, ◌∙◌, ℕ, List, a
 use Rattle.cj_decimal.specs.Word.{IsWordOf}
 use Rattle.cj_decimal.proofs.Grammar.{int_digits}
 use Rattle.cj_decimal.proofs.Below.{word_of_eight}
-use Rattle.cj_decimal.proofs.Eights.{all_from_eight, bytes_below, length_slice, end_of_eight, eight_at_end, digits_pass, number_int}
+use Rattle.cj_decimal.proofs.Eights.{eight_at_end, digits_pass}
+use Rattle.cj_decimal.proofs.EightsInLine.{all_from_eight, bytes_below, length_slice, end_of_eight, number_int}
 use Rattle.cj_decimal.proofs.word.read_digits_word.Goals.{After-swap_bytes}
 use Rattle.cj_decimal.proofs.word.read_digits_word.Goals as goal
 

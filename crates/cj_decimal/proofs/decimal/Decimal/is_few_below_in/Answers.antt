@@ -1,7 +1,7 @@
 use Rattle.cj_decimal.proofs.Common.{◌≡◌, Some, sym, ◌∙◌, arith, slice_range, digits_value}
 use Rattle.cj_decimal.proofs.Below.{all_below}
 use Rattle.cj_decimal.proofs.Classes.{class}
-use Rattle.cj_decimal.proofs.Eights.{length_slice}
+use Rattle.cj_decimal.proofs.EightsInLine.{length_slice}
 use Rattle.cj_decimal.proofs.Readings.{few_short, answer_digits, answer_of_few, int_alone_read}
 use Rattle.cj_decimal.proofs.decimal.Decimal.is_few_below_in.Goals as goal
 

@@ -1,5 +1,5 @@
 use Rattle.cj_decimal.proofs.Common.{refl, false≢true}
-use Rattle.cj_decimal.proofs.Classes.{value_of_read, out_of_read, not_both, class}
+use Rattle.cj_decimal.proofs.Classes.{has_one_value, value_of_read, out_of_read, not_both, class}
 use Rattle.cj_decimal.proofs.decimal.Decimal.read.Goals as goal
 
 pub returns-in_default-from_parts-clause-ok : goal.returns-in_default-from_parts-clause-ok
@@ -16,13 +16,21 @@ returns-in_default-from_parts-clause-number_range c =
       λ _. refl,
     )
 
+pub returns-in_default-from_parts-clause-one_value :
+    goal.returns-in_default-from_parts-clause-one_value
+returns-in_default-from_parts-clause-one_value c = has_one_value c.args.spelling.now
+
 pub returns-clause-number_range : goal.returns-clause-number_range
 returns-clause-number_range c =
     let read = c.in-Some.ensures.reads in
+    let decimal = c.in-Some-from_parts.decimal in
     let form = c.in-Some-from_parts.ensures.form in
     let value =
     value_of_read read (c.in-Some-from_parts.ensures.some _ _ read.digits read.exponent_is) form.0 in
-    (λ e. absurd (cc e), λ o. absurd (not_both c.args.spelling.now (c.in-Some-from_parts.decimal, value, form.1) o))
+    (λ e. absurd (cc e), λ o. absurd (not_both c.args.spelling.now (decimal, value, form.1) o))
+
+pub returns-clause-one_value : goal.returns-clause-one_value
+returns-clause-one_value c = has_one_value c.args.spelling.now
 
 pub returns-in_default-from_parts-clause-class :
     goal.returns-in_default-from_parts-clause-class

@@ -1,6 +1,6 @@
 use Rattle.cj_decimal.proofs.Common.{arith, rules, slice_range}
 use Rattle.cj_decimal.proofs.Readings.{answer_of_few}
-use Rattle.cj_decimal.proofs.Eights.{length_slice}
+use Rattle.cj_decimal.proofs.EightsInLine.{length_slice}
 use Rattle.cj_decimal.proofs.decimal.Decimal.read_few_in.Goals as goal
 
 pub returns : goal.returns

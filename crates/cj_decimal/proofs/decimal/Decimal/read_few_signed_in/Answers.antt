@@ -1,6 +1,6 @@
 use Rattle.cj_decimal.proofs.Common.{◌≡◌, ◌+◌, Some, Ok, pos, neg_ℤ, ◌-ℤ◌, w64, to_z, of_z, refl, ap, ◌∙◌, arith, rules, slice_range, ints}
 use Rattle.cj_decimal.proofs.Readings.{answer_digits, signed_answer, signed_from_body, body_of_signed}
-use Rattle.cj_decimal.proofs.Eights.{begun_behind, minus_first, short_behind, body_plain, body_behind, few_in, int_in, no_int}
+use Rattle.cj_decimal.proofs.EightsInLine.{begun_behind, minus_first, short_behind, body_plain, body_behind, few_in, int_in, no_int}
 use Rattle.cj_decimal.proofs.decimal.Decimal.read_few_signed_in.Goals as goal
 
 pub read_word-requires-2-clause-number : goal.read_word-requires-2-clause-number
