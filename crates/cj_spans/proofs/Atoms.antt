@@ -1,6 +1,7 @@
 -- Scalars and names in a line: how far they are read, and the machine over them.
 use Rattle.cj_spans.proofs.Common.{◌⊎◌, inl, inr, ◌≡◌, refl, arith, Mode, Ready, FirstItem, After, FirstName, NextName, AfterName, ℕ, zero, suc, ◌+◌, ◌-◌, ◌<◌, ◌≤◌, List, [], ◌∷◌, ◌++◌, length, true, Option, Some, None, sym, ap, ◌∙◌, cases_lt, option_and_then, Kind, Token, Lex, InString, Move, byte, token_at, State, state, between, in_atom, read, end_atom, step, settle, lex_step, lex_kind, Continues, still, further, Halts, Reaches, here, on, ComesTo, SticksFlat, phase_after, is_plain, common_steps, AfterN, AfterNu, AfterNul, NullDone, AfterT, AfterTr, AfterTru, AfterF, AfterFa, AfterFal, AfterFals, TruthDone, Whole, Zero, Minus, Point, Fraction, Escape, Hex4, Hex3, Hex2, Hex1, StringDone, is_escape, is_hex, is_digit, GoesTo, ReadsTo}
-use Rattle.cj_spans.proofs.Spellings.{none_some, plain_goes, escape_goes, hex_goes}
+use Rattle.cj_spans.proofs.Spellings.{none_some}
+use Rattle.cj_spans.proofs.ReadSpellings.{plain_goes, escape_goes, hex_goes}
 
 -- ---- one byte, in the code and in the machine
 

@@ -4,7 +4,8 @@ use Rattle.std.specs.Prelude.{codes}
 use Rattle.std.proofs.lemmas.List.{get_or-append-add}
 use Rattle.std.proofs.Math.ListN.{get_or-append}
 use Rattle.cj_spans.specs.Meaning.Begins.{BeginsText, IsFirstFault, IsFirstTooDeep}
-use Rattle.cj_spans.proofs.Spellings.{some_same, stepped, lex_run, can_end}
+use Rattle.cj_spans.proofs.Spellings.{some_same, stepped, lex_run}
+use Rattle.cj_spans.proofs.ReadSpellings.{can_end}
 use Rattle.cj_spans.proofs.Lists.{slice_get-append, slice_get-seam, get_before, rise-nest, run_json}
 use Rattle.cj_spans.proofs.Facts.{IsEnd, colon, bracket, brace, Arrives, arrive_on, arrived, settled, settled_step, idle, BeginsName, next_place, same_state, lawful_reaches, state_before}
 use Rattle.cj_spans.proofs.Atoms.{atom_goes}

@@ -1,6 +1,7 @@
 pub mod Common
 pub mod Atoms
 pub mod Spellings
+pub mod ReadSpellings
 pub mod Judgements
 pub mod Views
 pub mod Lists
@@ -18,8 +19,10 @@ pub mod Verdicts
 pub mod Endings
 pub mod Findings
 pub mod Texts
+pub mod Quoted
 pub mod Scanned
 pub mod Sizes
 pub mod Walks
+pub mod SourceWalks
 pub mod Noted
 pub mod Triples

@@ -6,7 +6,7 @@ use Rattle.cj_spans.specs.declared.node.Members.{Members}
 use Rattle.cj_spans.specs.inner.Noted.{AreNoted, IsPlace, members_from, noted_from, note, is_noted, is_free}
 use Rattle.cj_spans.proofs.Spellings.{some_same}
 use Rattle.cj_spans.proofs.Views.{below, start_shown}
-use Rattle.cj_spans.proofs.Walks.{LinksTo, at_name, member_on}
+use Rattle.cj_spans.proofs.SourceWalks.{LinksTo, at_name, member_on}
 use Rattle.cj_spans.specs.Marks.{has_mark, is_marked_at, bare, KeepsTokens}
 use Rattle.cj_spans.specs.declared.node.Doc.{Doc}
 use Rattle.cj_spans.specs.declared.node.Node.{Node}

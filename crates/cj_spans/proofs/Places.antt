@@ -1,7 +1,8 @@
 -- Scalars and names by their places.
 use Rattle.cj_spans.proofs.Common.{◌≡◌, ℕ, suc, ◌+◌, ◌-◌, ◌<◌, ◌≤◌, List, [], ◌∷◌, ◌++◌, length, drop, get_or, slice_range, Bool, true, false, cond, nat_eq, Option, Some, None, refl, sym, ap, subst, arith, ◌∙◌, option_and_then, common_steps, take-suc, get_or-drop, length-drop, append-nil, Kind, Text, Token, Lex, AfterN, InString, Mode, Ready, FirstItem, After, FirstName, NextName, AfterName, is_white_space, IsScalar, byte, IsAtom, Begun, token_at, State, state, in_atom, step, lex_start, lex_step, lex_kind, Continues, still, further, Reaches, on, BeginsValue}
 use Rattle.std.proofs.lemmas.Bool.{eqb-true}
-use Rattle.cj_spans.proofs.Spellings.{none_some, some_same, lex_run, reading, reading_sound, reading_whole, reading-more, reading-append, reading-prefix, stepped, kind_of_lex, kind_done, run_kind, can_end}
+use Rattle.cj_spans.proofs.Spellings.{none_some, some_same, lex_run, reading, reading_sound, stepped, kind_of_lex, kind_done, run_kind}
+use Rattle.cj_spans.proofs.ReadSpellings.{reading_whole, reading-more, reading-append, reading-prefix, can_end}
 use Rattle.cj_spans.proofs.Atoms.{continues_reaches}
 use Rattle.cj_spans.proofs.Facts.{IsEnd, space, white_end, Arrives, BeginsName, idle}
 

@@ -1,7 +1,8 @@
 -- Strings: their code points, their first ones as a number, and letters beyond ASCII.
 use Rattle.cj_spans.proofs.Common.{◌≡◌, ℕ, suc, ◌+◌, ◌*◌, ◌/◌, ◌<◌, ◌≤◌, ◌^◌, List, [], ◌∷◌, false, nat_eq, get_or, length, Option, Some, None, inl, inr, refl, arith, ◌∙◌, mul-le-mul_right, Less, cases_order, AreAlike, code_points_from, compare, compare_texts, digits, front_word, zero, ◌++◌, Bool, true, ◌&&◌, sym, ap, subst, length-append, take-length, first_so, second_so, append-nil, take-append-le, nat_tests, encode_utf8, is_plain, is_escape, is_hex, IsBody, nothing, plain as plain_byte, escape, unicode, IsString, char_of, four_digits, unit, is_unicode, is_pair, body_of, common_steps, ◌-◌, ◌%◌, map, take, drop, cond, ltb, replicate, take-add, drop_more, count_trailing_zeros, IsAscii, byte}
 use Rattle.std.specs.Int.{from_be_bytes, w64}
-use Rattle.cj_spans.proofs.Texts.{chars_past, plain_code, points_done}
+use Rattle.cj_spans.proofs.Texts.{chars_past, points_done}
+use Rattle.cj_spans.proofs.Quoted.{plain_code}
 use Rattle.std.proofs.lemmas.Bool.{cases_lt, eqb-true}
 use Rattle.std.proofs.lemmas.Str.{encode_ascii, inside_one, cons_from_encodes, chars-encodes, IsUtf8-past_char, IsUtf8-take, IsCharBoundary-before_ascii, IsUtf8-append, IsUtf8-from_ascii}
 use Rattle.std.specs.Str.{chars, IsUtf8, encode_utf8_all}

@@ -7,9 +7,11 @@ use Rattle.cj_spans.specs.Wholes.{IsWholeNumber, IsShortWhole}
 use Rattle.cj_spans.proofs.Places.{slice_has, slice-length}
 use Rattle.cj_spans.specs.declared.node.Source.{Source}
 use Rattle.cj_spans.proofs.Sizes.{full_sized, before_walked}
-use Rattle.cj_spans.proofs.Spellings.{some_same, reading, reading_sound, reading_whole}
+use Rattle.cj_spans.proofs.Spellings.{some_same, reading, reading_sound}
+use Rattle.cj_spans.proofs.ReadSpellings.{reading_whole}
 use Rattle.cj_spans.proofs.Views.{below, below_at, kind_shown, spelling_shown}
-use Rattle.cj_spans.proofs.Walks.{before_drop, starts_before, items_from_link, item_on, shown_none, whole_later, LinksTo}
+use Rattle.cj_spans.proofs.Walks.{before_drop, starts_before}
+use Rattle.cj_spans.proofs.SourceWalks.{LinksTo, items_from_link, item_on, shown_none, whole_later}
 
 -- ---- a number of which it is known that there is a proof
 

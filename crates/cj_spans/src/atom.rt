@@ -31,7 +31,6 @@ fn halts(line: &[u8], place: usize, read: Lex) -> bool
 }
 
 /// Reads up to the first byte that does not continue the scalar, whatever has been read of it.
-#[tactic(auto, using(crate::proofs::Atoms::goes_same, crate::proofs::Atoms::goes_one, crate::proofs::Atoms::goes_far))]
 #[inline(never)]
 fn read_on(line: &[u8], place: usize, first: Lex) -> Reach
     requires { place ≤ length line.now }
@@ -85,7 +84,6 @@ fn escape_stop(line: &[u8], place: usize) -> Option<usize>
 }
 
 /// Continues to read a string whose next byte is not plain.
-#[tactic(auto, using(crate::proofs::Atoms::goes_same, crate::proofs::Atoms::goes_far, crate::proofs::Atoms::reads_far, crate::proofs::Atoms::reads_quote))]
 #[inline(never)]
 fn read_escapes(line: &[u8], place: usize) -> Reach
     requires { place ≤ length line.now }
@@ -135,7 +133,6 @@ fn begins_fraction(line: &[u8], place: usize) -> bool
 }
 
 /// Continues to read a number after the digits before the point.
-#[tactic(auto, using(crate::proofs::Atoms::reads_far, crate::proofs::Atoms::goes_far, crate::proofs::Atoms::goes_same))]
 #[inline(never)]
 fn read_tail(line: &[u8], place: usize, digits: Lex) -> Reach
     requires point { lex_step_of digits 46 ≡ Some Point }
@@ -218,7 +215,6 @@ fn has_letters(line: &[u8], place: usize, first: u8, second: u8, third: u8) -> b
 }
 
 /// Continues to read a word after its first letter.
-#[tactic(auto, using(crate::proofs::Atoms::reads_as, crate::proofs::Atoms::reads_null, crate::proofs::Atoms::reads_true, crate::proofs::Atoms::reads_false))]
 #[inline(never)]
 fn read_word(line: &[u8], place: usize, first: Lex) -> Reach
     requires { place ≤ length line.now }

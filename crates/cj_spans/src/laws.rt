@@ -16,7 +16,7 @@ ghost use Rattle.cj_spans.specs.Meaning.Judgement.{Judgement, SaySame};
 /// A string has one text (RFC 8259, section 7). The grammar gives code points for the characters
 /// between the quotes of a string in UTF-8. The text of the string is these code points and no
 /// others.
-#[tactic(auto, using(crate::proofs::Strings::text_of_string, crate::proofs::Texts::stands_once), unfolding(crate::specs::Meaning::Text::text))]
+#[tactic(auto, using(crate::proofs::Strings::text_of_string, crate::proofs::Quoted::stands_once), unfolding(crate::specs::Meaning::Text::text))]
 pub fn one_text()
     ensures stands { (s : List ℕ) → IsString s → IsUtf8 s → StandFor (chars (body_of s)) (text s) }
     ensures only { (s ps : List ℕ) → StandFor (chars (body_of s)) ps → ps ≡ text s }

@@ -245,7 +245,6 @@ fn skip_plain_singly(line: &[u8], place: usize) -> usize
 }
 
 /// Skips plain bytes of a string, 16 at once as long as the line has 16 more.
-#[tactic(auto, using(crate::proofs::Atoms::plain_to, crate::proofs::Atoms::plain_run))]
 #[inline(always)]
 pub fn skip_plain(line: &[u8], place: usize) -> usize
     requires { place ≤ length line.now }
@@ -283,7 +282,6 @@ fn skip_digits_singly(line: &[u8], read: Lex, place: usize) -> usize
 
 /// Skips digits, which do not change these readings of a number. It reads up to 16 at once, so
 /// numbers of varying length take no longer.
-#[tactic(auto, using(crate::proofs::Atoms::read_to, crate::proofs::Atoms::read_run))]
 #[inline(always)]
 pub fn skip_digits(line: &[u8], read: Lex, place: usize) -> usize
     requires stays { (b : ℕ) → is_digit_of b ≡ true → lex_step_of read b ≡ Some read }

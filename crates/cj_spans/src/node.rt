@@ -262,7 +262,7 @@ impl<'a> Node<'a> {
     }
 
     /// Returns the items of an array, in order (RFC 8259, section 5). Any other value has none.
-    #[tactic(auto, using(crate::proofs::Walks::items_from_link, crate::proofs::Walks::few_trees, crate::proofs::Walks::small_items), unfolding(crate::specs::View::tree, crate::specs::View::items_left, crate::specs::View::line_of, crate::specs::View::items_line, crate::specs::View::source_of, crate::specs::View::items_source))]
+    #[tactic(auto, using(crate::proofs::SourceWalks::items_from_link, crate::proofs::SourceWalks::few_trees, crate::proofs::SourceWalks::small_items), unfolding(crate::specs::View::tree, crate::specs::View::items_left, crate::specs::View::line_of, crate::specs::View::items_line, crate::specs::View::source_of, crate::specs::View::items_source))]
     pub fn items(self) -> Items<'a>
         ensures items { items_left result ≡ items_of (tree self.entry) }
         ensures line { items_line result ≡ line_of self.entry }
@@ -313,7 +313,7 @@ impl<'a> Node<'a> {
     }
 
     /// Returns the walk over the members of an object. Any other value has none.
-    #[tactic(auto, using(crate::proofs::Walks::members_from_link), unfolding(crate::specs::View::tree, crate::specs::View::members_left, crate::specs::View::source_of, crate::specs::View::members_source))]
+    #[tactic(auto, using(crate::proofs::SourceWalks::members_from_link), unfolding(crate::specs::View::tree, crate::specs::View::members_left, crate::specs::View::source_of, crate::specs::View::members_source))]
     #[inline(always)]
     fn walk(self) -> Members<'a>
         ensures begun { 0 < result.next }
@@ -330,7 +330,6 @@ impl<'a> Node<'a> {
 
     /// Returns the members of an object, names with values, in order (RFC 8259, section 4). Any
     /// other value has none.
-    #[tactic(auto, using(crate::proofs::Sizes::pairs_rise, crate::proofs::Sizes::shown_rise, crate::proofs::Sizes::values_rise, crate::proofs::Walks::few_pairs), unfolding(crate::specs::View::members_left, crate::specs::View::line_of, crate::specs::View::members_line, crate::specs::View::members_source, crate::specs::View::source_of))]
     pub fn members(self) -> Members<'a>
         ensures members { members_left result ≡ members_of (tree self.entry) }
         ensures order { AreNamesInOrder (members_left result) }
@@ -394,7 +393,7 @@ impl<'a> Node<'a> {
     /// Returns its number in the line. [`Node::at`] finds the node again by this number, and
     /// [`crate::set_mark`] takes it as that of the token. A number takes 4 bytes, a node ten times
     /// as many.
-    #[tactic(auto, using(crate::proofs::Walks::number_linked), unfolding(crate::specs::View::tree, crate::specs::View::source_of, crate::specs::View::tree_in, crate::specs::View::line_of, crate::specs::View::tokens_in))]
+    #[tactic(auto, using(crate::proofs::SourceWalks::number_linked), unfolding(crate::specs::View::tree, crate::specs::View::source_of, crate::specs::View::tree_in, crate::specs::View::line_of, crate::specs::View::tokens_in))]
     pub fn number(self) -> u32
         ensures node { tree_in (source_of self.entry) result ≡ tree self.entry }
         ensures token { tree_at (line_of self.entry) (spans_of (tokens_in (source_of self.entry))) result
@@ -666,7 +665,7 @@ impl<'a> Members<'a> {
     ghost use Rattle.cj_spans.specs.View.{tree_in, members_left, members_source};
 
     /// Returns the slot of the first character of a text. None if it has none that is ASCII.
-    #[tactic(auto, using(crate::proofs::Texts::plain_character))]
+    #[tactic(auto, using(crate::proofs::Quoted::plain_character))]
     #[inline(always)]
     fn slot_of(text: &str) -> Option<usize>
         ensures within { IfSome result (λ s. s < 32) }

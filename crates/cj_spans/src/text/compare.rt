@@ -29,7 +29,7 @@ fn is_alike(first: u8, second: u8) -> bool
 }
 
 /// Returns how many bytes of two strings are alike from here on, one after another.
-#[tactic(auto, using(crate::proofs::Texts::alike_none, crate::proofs::Texts::alike_one_more))]
+#[tactic(auto, using(crate::proofs::Quoted::alike_none, crate::proofs::Quoted::alike_one_more))]
 #[inline(always)]
 fn count_alike_singly(bytes: &[u8], place: usize, others: &[u8], other_place: usize) -> usize
     ensures { StartAlike bytes.now place others.now other_place result }
@@ -69,7 +69,7 @@ fn count_few_alike(
 
 /// Does the same for at least 8 bytes, by 16 at a time. The last 16 may have some in common with
 /// those before.
-#[tactic(auto, using(crate::proofs::Texts::alike_none))]
+#[tactic(auto, using(crate::proofs::Quoted::alike_none))]
 #[inline(never)]
 fn count_many_alike(bytes: &[u8], place: usize, others: &[u8], other_place: usize) -> usize
     requires first { place + 8 ≤ length bytes.now }
@@ -107,7 +107,7 @@ fn count_alike(bytes: &[u8], place: usize, others: &[u8], other_place: usize) ->
 }
 
 /// Skips the plain code points that two strings share from here on.
-#[tactic(auto, using(crate::proofs::Texts::order_passed, crate::proofs::Texts::fewer_left))]
+#[tactic(auto, using(crate::proofs::Quoted::order_passed, crate::proofs::Quoted::fewer_left))]
 #[inline(always)]
 fn pass_alike(left: &mut CodePoints, right: &mut CodePoints)
     ensures order { compare (code_points_left left.new) (code_points_left right.new)
@@ -159,7 +159,6 @@ fn compare_points(points: CodePoints, others: CodePoints) -> Ordering
 
 /// Compares the texts of two strings, given with their quotes. Most are the same plain bytes, or
 /// differ in a plain byte.
-#[tactic(auto, using(crate::proofs::Texts::order_ends, crate::proofs::Texts::order_apart))]
 #[inline]
 pub(crate) fn compare_spellings(spelling: &[u8], other: &[u8]) -> Ordering
     requires first { 0 < length spelling.now }
@@ -195,7 +194,7 @@ pub fn compare_strings(first: &str, second: &str) -> Ordering
 
 /// Returns whether a string, without its last quote, has the plain bytes of a text. Both have as
 /// many bytes. If the text is known at compile time, a byte of it costs one comparison.
-#[tactic(auto, using(crate::proofs::Texts::plain_character, crate::proofs::Texts::plain_code, crate::proofs::Texts::text_ends))]
+#[tactic(auto, using(crate::proofs::Quoted::plain_character, crate::proofs::Quoted::plain_code, crate::proofs::Quoted::text_ends))]
 #[inline(always)]
 fn has_bytes_singly(body: &[u8], characters: &[u8]) -> bool
     requires { length body.now ≡ length characters.now + 1 }
@@ -227,7 +226,7 @@ fn has_bytes(body: &[u8], characters: &[u8]) -> bool
 
 /// Returns whether the spelling of a string, with its quotes, is exactly the plain bytes of this
 /// text, as for nearly every name.
-#[tactic(auto, using(crate::proofs::Texts::code_points_between))]
+#[tactic(auto, using(crate::proofs::Quoted::code_points_between))]
 #[inline(always)]
 pub(crate) fn is_spelled_so(spelling: &[u8], wanted: &str) -> bool
     requires { 0 < length spelling.now }
@@ -243,7 +242,7 @@ pub(crate) fn is_spelled_so(spelling: &[u8], wanted: &str) -> bool
 
 /// Returns whether a string has this text. `spelling` includes its quotes. Most names that a search
 /// passes over differ in the first byte, so it compares this byte before anything else.
-#[tactic(auto, using(crate::proofs::Texts::other_text))]
+#[tactic(auto, using(crate::proofs::Quoted::other_text))]
 #[inline(always)]
 pub(crate) fn spells(spelling: &[u8], wanted: &str) -> bool
     requires { 0 < length spelling.now }
@@ -258,7 +257,7 @@ pub(crate) fn spells(spelling: &[u8], wanted: &str) -> bool
 
 /// Returns whether two strings, with their quotes, have one text. It compares their first bytes
 /// before anything else, if the second string is not empty. Short strings are mostly spelled alike.
-#[tactic(auto, using(crate::proofs::Texts::other_texts))]
+#[tactic(auto, using(crate::proofs::Quoted::other_texts))]
 #[inline(always)]
 pub(crate) fn spell_one_text(spelling: &[u8], other: &[u8]) -> bool
     requires first { 0 < length spelling.now }

@@ -64,7 +64,6 @@ fn add_three(bytes: &[u8], read: CodePoint) -> Option<CodePoint>
 }
 
 /// Reads the character of two to four bytes at a place. None if its bytes end too early.
-#[tactic(auto, using(crate::proofs::Texts::lead_two, crate::proofs::Texts::lead_three, crate::proofs::Texts::lead_four))]
 fn read_long_char(bytes: &[u8], place: usize) -> Option<CodePoint>
     requires within { place < length bytes.now }
     requires long { 128 ≤ get_or bytes.now place 0 }
@@ -390,7 +389,7 @@ pub(crate) struct CodePoints<'a> {
 
 impl<'a> CodePoints<'a> {
     /// Returns the code points of a string. `spelling` includes its quotes.
-    #[tactic(auto, using(crate::proofs::Texts::code_points_between))]
+    #[tactic(auto, using(crate::proofs::Quoted::code_points_between))]
     pub(crate) fn of(spelling: &'a [u8]) -> CodePoints<'a>
         requires { 0 < length spelling.now }
         ensures { code_points_left result ≡ text spelling.now }
@@ -425,7 +424,6 @@ impl<'a> Iterator for CodePoints<'a> {
 
     ghost remaining = { item_count code_points_left };
 
-    #[tactic(auto, using(crate::proofs::Texts::points_step, crate::proofs::Texts::points_done))]
     #[inline(always)]
     fn next(&mut self) -> Option<u32> {
         match first_char(self.bytes, self.place) {
@@ -467,7 +465,6 @@ impl<'a> Iterator for Characters<'a> {
 
     ghost remaining = { item_count characters_left };
 
-    #[tactic(auto, using(crate::proofs::Texts::characters_step))]
     #[inline(always)]
     fn next(&mut self) -> Option<u32> {
         match first_char(self.bytes, self.place) {

@@ -172,7 +172,7 @@ fn hash_from(front: u64, points: CodePoints) -> u64
 
 /// Returns all code points of a string's text, mixed to one number, by its bytes up to the first
 /// one that is not plain.
-#[tactic(auto, using(crate::proofs::Texts::points_done, crate::proofs::Texts::chars_past, crate::proofs::Texts::plain_code))]
+#[tactic(auto, using(crate::proofs::Texts::points_done, crate::proofs::Texts::chars_past, crate::proofs::Quoted::plain_code))]
 pub(crate) fn hash(points: CodePoints) -> u64
     ensures { result ≡ hash_on 0 (code_points_left points.entry) }
 {

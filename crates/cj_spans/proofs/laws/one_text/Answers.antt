@@ -1,6 +1,6 @@
 use Rattle.cj_spans.proofs.Common.{sym, subst, chars, text, body_of}
 use Rattle.cj_spans.specs.Meaning.StandFor.{StandFor}
-use Rattle.cj_spans.proofs.Texts.{stands_once}
+use Rattle.cj_spans.proofs.Quoted.{stands_once}
 use Rattle.cj_spans.proofs.Strings.{text_of_string}
 use Rattle.cj_spans.proofs.laws.one_text.Goals as goal
 

@@ -1,5 +1,5 @@
 use Rattle.cj_spans.proofs.Common.{rules, tree, line_of, source_of, items_left, items_line, items_source}
-use Rattle.cj_spans.proofs.Walks.{item_on, shown_none}
+use Rattle.cj_spans.proofs.SourceWalks.{item_on, shown_none}
 use Rattle.cj_spans.proofs.node.ItemsIterator.next.Goals as goal
 
 pub returns-then-index-self-clause-steps : goal.returns-then-index-self-clause-steps

@@ -1,7 +1,7 @@
 use Rattle.cj_spans.proofs.Common.{◌∙◌, arith, chars, tree, members_left, members_source, source_of}
 use Rattle.std.specs.Prelude.{get_or}
 use Rattle.cj_spans.proofs.Noted.{found_from, found_none, found_here}
-use Rattle.cj_spans.proofs.Walks.{at_name}
+use Rattle.cj_spans.proofs.SourceWalks.{at_name}
 use Rattle.cj_spans.proofs.node.Members.find.Goals as goal
 
 pub returns-in_default : goal.returns-in_default

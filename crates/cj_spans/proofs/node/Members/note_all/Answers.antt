@@ -1,7 +1,7 @@
 use Rattle.cj_spans.proofs.Common.{◌+◌, ◌∙◌, map, ap, sym, subst, arith, false≢true, are_apart, spans_of, Tree, tree, tree_at, members_left, pairs_of, common_steps}
 use Rattle.cj_spans.specs.inner.Noted.{AreNoted, IsPlace, is_noted, members_from}
 use Rattle.cj_spans.proofs.Noted.{noted_on, apart_on, noted_none}
-use Rattle.cj_spans.proofs.Walks.{at_name, member_on, shown_none, whole_later, number_linked}
+use Rattle.cj_spans.proofs.SourceWalks.{at_name, member_on, shown_none, whole_later, number_linked}
 use Rattle.cj_spans.proofs.node.Members.note_all.Goals as goal
 use Rattle.cj_spans.proofs.node.Members.note_all.Goals.{then-not-note_place, else-not-note_place}
 

@@ -1,5 +1,5 @@
 use Rattle.cj_spans.proofs.Common.{refl, ap, arith, ◌∙◌, sym, ◌<◌, length, nat_tests, chars, head}
-use Rattle.cj_spans.proofs.Texts.{plain_character}
+use Rattle.cj_spans.proofs.Quoted.{plain_character}
 use Rattle.cj_spans.proofs.node.Members.slot_of.Goals as goal
 
 pub returns-clause-slot : goal.returns-clause-slot

@@ -1,5 +1,5 @@
 use Rattle.cj_spans.proofs.Common.{rules, arith, tree, line_of, source_of, members_left, members_line, members_source, pairs_of}
-use Rattle.cj_spans.proofs.Walks.{at_name, member_on, shown_none, whole_later}
+use Rattle.cj_spans.proofs.SourceWalks.{at_name, member_on, shown_none, whole_later}
 use Rattle.cj_spans.proofs.node.MembersIterator.next.Goals as goal
 
 pub returns-then-name-self-clause-steps : goal.returns-then-name-self-clause-steps

@@ -1,5 +1,5 @@
 use Rattle.cj_spans.proofs.Common.{refl, tree, line_of, source_of}
-use Rattle.cj_spans.proofs.Walks.{item_behind_link}
+use Rattle.cj_spans.proofs.SourceWalks.{item_behind_link}
 use Rattle.cj_spans.proofs.node.Node.item_behind.Goals as goal
 
 pub invariant_of-result : goal.invariant_of-result

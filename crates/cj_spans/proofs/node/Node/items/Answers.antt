@@ -1,5 +1,5 @@
 use Rattle.cj_spans.proofs.Common.{tree}
-use Rattle.cj_spans.proofs.Walks.{items_from_link}
+use Rattle.cj_spans.proofs.SourceWalks.{items_from_link}
 use Rattle.cj_spans.proofs.node.Node.items.Goals as goal
 
 pub invariant_of-result : goal.invariant_of-result

@@ -1,5 +1,5 @@
 use Rattle.cj_spans.proofs.Common.{◌+◌, arith, tree, line_of, source_of, items_line, items_source, items_left, rules}
-use Rattle.cj_spans.proofs.Walks.{items_from_link, whole_later, items_behind_link}
+use Rattle.cj_spans.proofs.SourceWalks.{items_from_link, whole_later, items_behind_link}
 use Rattle.cj_spans.proofs.node.Node.items_behind.Goals as goal
 
 pub invariant_of-result : goal.invariant_of-result

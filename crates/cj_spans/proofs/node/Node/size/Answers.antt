@@ -1,5 +1,5 @@
 use Rattle.cj_spans.proofs.Common.{arith, tree}
-use Rattle.cj_spans.proofs.Walks.{linked_size}
+use Rattle.cj_spans.proofs.SourceWalks.{linked_size}
 use Rattle.cj_spans.proofs.node.Node.size.Goals as goal
 
 pub overflow_cast-result : goal.overflow_cast-result

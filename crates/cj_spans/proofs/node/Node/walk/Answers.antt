@@ -1,5 +1,5 @@
 use Rattle.cj_spans.proofs.Common.{tree}
-use Rattle.cj_spans.proofs.Walks.{members_from_link}
+use Rattle.cj_spans.proofs.SourceWalks.{members_from_link}
 use Rattle.cj_spans.proofs.node.Node.walk.Goals as goal
 
 pub invariant_of-result : goal.invariant_of-result

@@ -1,5 +1,5 @@
 use Rattle.cj_spans.proofs.Common.{arith, ◌-◌, refl}
-use Rattle.cj_spans.proofs.Texts.{alike_first, alike_more}
+use Rattle.cj_spans.proofs.Quoted.{alike_first, alike_more}
 use Rattle.cj_spans.proofs.text.compare.count_few_alike.Goals as goal
 
 pub returns-in-Some-find_unlike_of_few : goal.returns-in-Some-find_unlike_of_few

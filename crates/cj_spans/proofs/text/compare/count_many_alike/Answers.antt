@@ -1,5 +1,5 @@
 use Rattle.cj_spans.proofs.Common.{arith, ◌-◌, refl}
-use Rattle.cj_spans.proofs.Texts.{alike_more}
+use Rattle.cj_spans.proofs.Quoted.{alike_more}
 use Rattle.cj_spans.proofs.text.compare.count_many_alike.Goals as goal
 
 pub returns-in-Some : goal.returns-in-Some

@@ -1,5 +1,5 @@
 use Rattle.cj_spans.proofs.Common.{◌≡◌, length, arith, nat_tests}
-use Rattle.cj_spans.proofs.Texts.{same_alike}
+use Rattle.cj_spans.proofs.Quoted.{same_alike}
 use Rattle.cj_spans.proofs.text.compare.has_bytes.Goals as goal
 
 pub returns-then-length-le-LANES : goal.returns-then-length-le-LANES
