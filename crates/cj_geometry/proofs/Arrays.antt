@@ -1,12 +1,12 @@
 -- Numbers of one digit, steps over a list, and arrays that have no finding.
-use Rattle.cj_geometry.proofs.Common.{Class, IsValue, List, Number, Ok, Option, Reason, Some, Tree, [], arith, codes, cond, index, inl, inr, is_outside, negsuc, number, one, pos, refl, scalar, sym, true, whole_answer, whole_of, ℕ, ℤ, ◌<◌, ◌^◌, ◌≡◌, AreSizesAt, ap, cases_lt, drop, get_or, length, length-set, set, size, slice_get, suc, take, total_size, zero, ◌%◌, ◌++◌, ◌+◌, ◌-◌, ◌∙◌, ◌∷◌, ◌≤◌, AreLone, Finding, IfSome, IsSome, None, flat_map, length-drop, nat_lt, not, whole_number, All, Array, items_of, kind_of, of_length, spelling_of}
+use Rattle.cj_geometry.proofs.Common.{Class, IsValue, List, Number, Ok, Option, Reason, Some, Tree, [], arith, codes, cond, index, inl, inr, is_outside, negsuc, number, one, pos, refl, scalar, sym, true, whole_answer, whole_of, ℕ, ℤ, ◌<◌, ◌^◌, ◌≡◌, AreSizesAt, ap, cases_lt, drop, get_or, length, length-set, set, size, slice_get, suc, take, total_size, zero, ◌%◌, ◌++◌, ◌+◌, ◌-◌, ◌∙◌, ◌∷◌, ◌≤◌, AreLone, Finding, IfSome, IsSome, None, flat_map, length-drop, nat_lt, not, whole_number, All, Array, items_of, kind_of, of_length, spelling_of, nat_tests}
 use Rattle.std.proofs.lemmas.Int.{ints}
 use Rattle.cj_decimal.specs.Meaning.Number.{scaled as number_of}
 use Rattle.cj_decimal.specs.Meaning.Reading.{digits_value, digits_front, digits_rest, begins, begins_digit, is_int, is_empty}
 use Rattle.cj_decimal.proofs.Readings.{answer_digits, answer_whole, few_whole}
-use Rattle.cj_geometry.proofs.Numbers.{index-read, number-read, whole-read, rule-of-whole, whole-there}
-use Rattle.std.proofs.Common.{◌*◌, ◌/◌, get_or-set_same, get_or-set_other, take-append-drop}
-use Rattle.std.proofs.lemmas.Nat.{div_below}
+use Rattle.cj_geometry.proofs.Numbers.{index-read, number-read, whole-read, rule-of-whole, whole-there, index-of-whole}
+use Rattle.std.proofs.Common.{◌*◌, ◌/◌, get_or-set_same, get_or-set_other, take-append-drop, mul-zero}
+use Rattle.std.proofs.lemmas.Nat.{div_below, mul-le}
 use Rattle.std.proofs.lemmas.List.{drop_more, take_more}
 use Rattle.std.proofs.lemmas.List.Concat.{flat_map-append}
 use Rattle.cj_spans.specs.Wholes.{IsWholeNumber, IsShortWhole}
@@ -137,7 +137,7 @@ begins_at_step step {ts} {left} sizes room below same small = search arith
 pub has_place : {places step : ℕ} {ts left : List Tree} (t : Tree) (rest : List Tree) {sizes : List ℕ}
     {place until passed : ℕ} → IsNoted places step ts left sizes place until passed → left ≡ t ∷ rest → until ≡ 0
     → place < places
-has_place {places} {step} t rest {place} w e z = search arith
+has_place {places} {step} t rest {place} w e z = search (arith, cases_lt, mul-le)
 
 -- it is noted
 pub noted_one : {places step : ℕ} {ts left : List Tree} (t : Tree) (rest : List Tree) {sizes : List ℕ}
@@ -177,7 +177,7 @@ passes {ts} {left} t rest {passed} w e more =
     grind (arith, rest_of)
 
 steps_some : (places step n : ℕ) → n < places * step → 0 < step
-steps_some places zero n h = absurd (omega arith)
+steps_some places zero n h = absurd (omega (arith, mul-zero places))
 steps_some places (suc step) n h = omega arith
 
 -- both ways of a turn
@@ -246,7 +246,7 @@ module _ (n : ℕ) (ts : List Tree) (t : Tree) (rest : List Tree) (next : drop n
 -- what is counted is less than what an array holds
 pub lone-below : {n : ℕ} {ts : List Tree} → AreLone n ts → n ≤ total_size ts
 lone-below {n} {ts} h =
-    omega (arith, total_size-append (take n ts) (drop n ts), ap total_size (take-append-drop n ts))
+    omega (arith, total_size-append (take n ts) (drop n ts), ap total_size (take-append-drop n ts), h.sizes)
 
 -- ---- a whole number
 
@@ -265,7 +265,7 @@ whole-none t w e = rule-of-whole (λ w. []) t w e
 
 pub index-none : (t : Tree) (n bound : ℕ) → whole_of t ≡ Some (pos n) → (reason : Reason) (count : Option ℕ)
     → is_outside count (pos n) ≡ not (nat_lt n bound) → n < bound → index reason count t ≡ []
-index-none t n bound is reason count outside below = search arith
+index-none t n bound is reason count outside below = search (arith, nat_tests, index-of-whole)
 
 -- ---- the rest
 
@@ -291,7 +291,7 @@ pub left-falls : (n : ℕ) (ts : List Tree) {us vs : List Tree} → us ≡ drop 
 left-falls n ts a b l = search (arith, length-drop)
 
 -- what attributes of functions name
-pub ruleset lone_facts = (index-none, left-falls, lone-below, lone-more, whole-size, whole-lone)
+pub ruleset index_facts = (index-none)
 
 -- ---- arrays of three whole numbers have no finding
 

@@ -1,5 +1,5 @@
 -- Distinct names, by the words of their texts and by walks.
-use Rattle.cj_geometry.proofs.Common.{All, AreLeast, Ascend, Equal, Greater, IsPermutation, IsSortedBy, IsWorded, List, Ordering, Source, Tree, WordedName, [], ap, arith, cases_order, compare_names, compare_worded, false, get_or, inl, inr, is_earlier, is_lt, length, name_in, names_in, nat_cmp, ranks_by, sorted_far, suc, text_of, word_in, ℕ, ◌++◌, ◌<◌, ◌∙◌, ◌∷◌, ◌≡◌, ◌≤◌, AreNamesInOrder, Bool, Contains, DuplicateName, Finding, IfSome, None, Option, Some, are_same_texts, cond, found_at, is_above, last_of, least, names_of, neighbours, one, refl, repeat_of, repeats, repeats_of, start_of, sym, true, ◌+◌}
+use Rattle.cj_geometry.proofs.Common.{All, AreLeast, Ascend, Equal, Greater, IsPermutation, IsSortedBy, IsWorded, List, Ordering, Source, Tree, WordedName, [], ap, arith, cases_order, compare_names, compare_worded, false, get_or, inl, inr, is_earlier, is_lt, length, name_in, names_in, nat_cmp, ranks_by, sorted_far, suc, text_of, word_in, ℕ, ◌++◌, ◌<◌, ◌∙◌, ◌∷◌, ◌≡◌, ◌≤◌, AreNamesInOrder, Bool, Contains, DuplicateName, Finding, IfSome, None, Option, Some, are_same_texts, cond, found_at, is_above, last_of, least, names_of, neighbours, one, refl, repeat_of, repeats, repeats_of, start_of, sym, true, ◌+◌, nat_tests}
 use denote.Param.Members.{Mut}
 use denote.Ref.{Bor}
 use Rattle.std.specs.Cmp.{IsTotalOrder, then_total, on_total, nat_cmp_total}
@@ -20,10 +20,10 @@ use Rattle.cj_spans.proofs.Findings.{least-append}
 -- ---- the words go along with the texts
 
 same_numbers : (m n : ℕ) → m ≡ n → nat_cmp m n ≡ Equal
-same_numbers m n h = grind arith
+same_numbers m n h = grind (arith, nat_tests)
 
 greater_numbers : (m n : ℕ) → n < m → nat_cmp m n ≡ Greater
-greater_numbers m n h = grind arith
+greater_numbers m n h = grind (arith, nat_tests)
 
 words_first : (t u : Tree) {v w : ℕ} → v ≡ front_word (text_of t) → w ≡ front_word (text_of u)
     → ordering_then (nat_cmp v w) (compare_names t u) ≡ compare_names t u
@@ -108,7 +108,7 @@ finding_if name t = cond (are_same_texts (text_of t) (text_of name)) (one Duplic
 
 only_one : (b : Bool) (t : Tree) (f : Finding) → Contains (cond b (one DuplicateName t) []) f → (b ≡ true)
     × (f ≡ found_at (start_of t) DuplicateName)
-only_one true t f c = search arith
+only_one true t f c = search (arith, contains_cases, contains_none)
 only_one false t f c = absurd (contains_none f c)
 
 later_of : (name : Tree) (ms : List (Tree × Tree)) (f : Finding) → Contains (repeats_of name ms) f → (u : Tree)

@@ -1,5 +1,5 @@
 -- The order of names, repeated ones, and neighbours.
-use Rattle.cj_geometry.proofs.Common.{Finding, List, Option, Reason, Some, Tree, ap, are_same_texts, arith, least, one, start_of, sym, true, ℕ, ◌<◌, ◌≡◌, Bool, [], are_apart, cases_eq, distinct, false, get_or, inl, inr, length, length-set, members_of, refl, repeats, repeats_of, text_of, ◌%◌, ◌∙◌, ◌∷◌, ◌≤◌, Equal, Greater, Less, None, Ordering, compare_names, is_earlier, is_eq, is_lt, nat_cmp, ◌⊎◌, All, Ascend, Contains, DuplicateName, IfSome, is_above, last_of, neighbours, repeat_of, suc, zero, ◌++◌}
+use Rattle.cj_geometry.proofs.Common.{Finding, List, Option, Reason, Some, Tree, ap, are_same_texts, arith, least, one, start_of, sym, true, ℕ, ◌<◌, ◌≡◌, Bool, [], are_apart, cases_eq, distinct, false, get_or, inl, inr, length, length-set, members_of, refl, repeats, repeats_of, text_of, ◌%◌, ◌∙◌, ◌∷◌, ◌≤◌, Equal, Greater, Less, None, Ordering, compare_names, is_earlier, is_eq, is_lt, nat_cmp, ◌⊎◌, All, Ascend, Contains, DuplicateName, IfSome, is_above, last_of, neighbours, repeat_of, suc, zero, ◌++◌, nat_tests}
 use Rattle.std.specs.Cmp.Lexicographic.{same_text, bytes_decides, nat_list_cmp_total, options_total, texts_ties}
 use Rattle.std.proofs.Common.{◌≢◌, get_or-set_same, get_or-set_other}
 use Rattle.std.specs.Prelude.{slice_set}
@@ -74,14 +74,14 @@ all_free taken (m ∷ ms) room h =
 -- texts of different first characters differ
 others : (t u : Tree) (c d : ℕ) → first_code_of t ≡ Some c → first_code_of u ≡ Some d → d % 32 ≢ c % 32
     → are_same_texts (text_of u) (text_of t) ≡ false
-others t u c d is other apart = search arith
+others t u c d is other apart = search (arith, false_from_ne_true, same_texts)
 
 -- none of the names repeats one whose slot was taken before
 none_repeats : (t : Tree) (c : ℕ) → first_code_of t ≡ Some c → (taken : List Bool) → c % 32 < length taken
     → (ms : List (Tree × Tree)) → AreFree (slice_set taken (c % 32) true) ms → repeats_of t ms ≡ []
 none_repeats t c is taken below [] free = refl
 none_repeats t c is taken below (m ∷ ms) free =
-    search (arith, none_repeats t c is taken below ms free.1, still_free)
+    search (arith, none_repeats t c is taken below ms free.1, still_free, others)
 
 -- names that are apart are distinct
 pub distinct_apart : (taken : List Bool) (ms : List (Tree × Tree)) → 32 ≤ length taken → are_apart taken ms ≡ true
@@ -156,7 +156,7 @@ then_equal Equal s h = (refl, h)
 then_equal _ s h = cc
 
 same_number : (m n : ℕ) → nat_cmp m n ≡ Equal → m ≡ n
-same_number m n h = grind arith
+same_number m n h = grind (arith, nat_tests)
 
 pub same_by_order : (s t : Option (List ℕ)) → compare_texts s t ≡ Equal → s ≡ t
 same_by_order None None h = refl
@@ -168,7 +168,7 @@ pub record AreTied (t u : Tree) : Type 0 where
   pub start : start_of t ≡ start_of u
 
 pub tied : (t u : Tree) → is_earlier t u ≡ false → is_earlier u t ≡ false → AreTied t u
-tied t u h k = search (arith, then_equal, tied_order, same_by_order)
+tied t u h k = search (arith, then_equal, tied_order, same_by_order, same_number)
 
 -- ---- names of one text
 
@@ -176,24 +176,24 @@ text_itself : {s t : Option (List ℕ)} → s ≡ t → compare_texts s t ≡ Eq
 text_itself {s} e = rw (← e) (tied_itself (options_total nat_list_cmp_total) s)
 
 pub less_number : (m n : ℕ) → m < n → nat_cmp m n ≡ Less
-less_number m n h = grind arith
+less_number m n h = grind (arith, nat_tests)
 
 number_less : (m n : ℕ) → nat_cmp m n ≡ Less → m < n
-number_less m n h = grind arith
+number_less m n h = grind (arith, nat_tests)
 
 -- where they start orders them
 pub earlier_by_start : (t u : Tree) → text_of t ≡ text_of u → start_of t < start_of u → is_earlier t u ≡ true
-earlier_by_start t u e h = search (arith, text_itself)
+earlier_by_start t u e h = search (arith, text_itself, less_number)
 
 pub start_by_earlier : (t u : Tree) → text_of t ≡ text_of u → is_earlier t u ≡ true → start_of t < start_of u
-start_by_earlier t u e h = search (arith, less_is, text_itself)
+start_by_earlier t u e h = search (arith, number_less, less_is, text_itself)
 
 -- what stands between two names of one text has it too
 between_by : (t u v : Tree) (r : Ordering) → compare_texts (text_of u) (text_of v) ≡ r → text_of t ≡ text_of v
     → is_earlier u t ≡ false → is_earlier u v ≡ true → text_of u ≡ text_of v
-between_by t u v Less e s h k = search arith
+between_by t u v Less e s h k = search (arith, both_sides)
 between_by t u v Equal e s h k = same_by_order (text_of u) (text_of v) e
-between_by t u v Greater e s h k = search arith
+between_by t u v Greater e s h k = search (arith, both_sides)
 
 pub text_between : (t u v : Tree) → text_of t ≡ text_of v → is_earlier u t ≡ false → is_earlier u v ≡ true
     → text_of u ≡ text_of v
@@ -284,7 +284,7 @@ past_above (Some f) u h = λ t k. earlier_on f u t h k
 front : (ns : List Tree) (floor : Option Tree) (t : Tree) (ts : List Tree) → HaveNoGap ns floor (t ∷ ts)
     → All (λ u. is_earlier u t ≡ false) ts → (u : Tree) → Contains ns u → is_above floor u ≡ true
     → is_earlier u t ≡ false
-front ns floor t ts g a u c h = search (arith, earlier_itself, All-contains, All-head)
+front ns floor t ts g a u c h = search (arith, contains_cases, earlier_itself, All-contains, All-head)
 
 repeat_shown : (p t : Tree) → are_same_texts (text_of t) (text_of p) ≡ true → start_of p < start_of t
     → repeat_of (Some p) t ≡ one DuplicateName t

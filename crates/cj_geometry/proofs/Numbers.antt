@@ -1,5 +1,5 @@
 -- The two grammars of numbers agree; what reading a number says of its findings.
-use Rattle.cj_geometry.proofs.Common.{Bool, Class, Contains, List, Number, SpellsNumber, Text, Tree, [], ap, arith, false, inl, inr, items_of, kind_of, list_items, list_members, members_of, no_number, pos, refl, scalar, slice_range, spelling_of, subst, true, ℕ, ℤ, ◌++◌, ◌↔◌, ◌∷◌, ◌≡◌, DecimalFault, Err, Finding, IfSome, IsInt, IsNumberInRange, IsNumberOutOfRange, IsSome, None, NotWhole, Ok, Option, Reason, Result, Some, cond, decimal_of, fault_reason, get_or, index, is_outside, kind_by, least, number, of_z, one, option_and_then, result_ok, spelling, sym, to_z, value_findings, w64, whole_answer, whole_findings, whole_of, ◌<◌, ◌^◌, ◌∙◌, ◌≤◌}
+use Rattle.cj_geometry.proofs.Common.{Bool, Class, Contains, List, Number, SpellsNumber, Text, Tree, [], ap, arith, false, inl, inr, items_of, kind_of, list_items, list_members, members_of, no_number, pos, refl, scalar, slice_range, spelling_of, subst, true, ℕ, ℤ, ◌++◌, ◌↔◌, ◌∷◌, ◌≡◌, DecimalFault, Err, Finding, IfSome, IsInt, IsNumberInRange, IsNumberOutOfRange, IsSome, None, NotWhole, Ok, Option, Reason, Result, Some, cond, decimal_of, fault_reason, get_or, index, is_outside, kind_by, least, number, of_z, one, option_and_then, result_ok, spelling, sym, to_z, value_findings, w64, whole_answer, whole_findings, whole_of, ◌<◌, ◌^◌, ◌∙◌, ◌≤◌, nat_tests}
 use Rattle.std.proofs.lemmas.List.Elements.{Contains-push_cases}
 use Rattle.cj_spans.specs.Meaning.Spelling.{IsScalar}
 use Rattle.cj_spans.specs.Meaning.Tree.{Atom, Items, no_items, item, Members, no_members, member, add_item, add_member}
@@ -11,7 +11,7 @@ use Rattle.std.proofs.Common.{unsigned_abs, unwrap_or}
 use Rattle.std.proofs.lemmas.Int.{to_z-of_z, fits_signed_from_abs}
 use Rattle.cj_geometry.specs.Meaning.Numbers.{of_whole}
 use Rattle.cj_decimal.specs.declared.decimal.DecimalFault.TheVariants.{NotANumber, NumberRange as OutOfRange}
-use Rattle.cj_decimal.proofs.Eights.{first_is}
+use Rattle.cj_decimal.proofs.EightsInLine.{first_is}
 use Rattle.cj_decimal.specs.FewDigits.{IsFewDigits, IsFewSigned, IsNumberIfBegun}
 use Rattle.cj_decimal.specs.Word.{IsWordOf}
 use Rattle.cj_decimal.proofs.Readings.{decimal_is, whole_class, answer_fault}
@@ -70,10 +70,10 @@ sign_back true s e = inr (inr e)
 
 exp_back : (e : ℤ) (s : List ℕ) → read.IsExp e s → scanned.IsExp s
 exp_back e s (inl (z, q)) = rw q tt
-exp_back e s (inr p) = search arith
+exp_back e s (inr p) = search (arith, sign_back)
 
 pub scanned_number : (s : List ℕ) → SpellsNumber s → scanned.IsNumber s
-scanned_number s (w, n) = search arith
+scanned_number s (w, n) = search (arith, minus_back, frac_back, exp_back)
 
 pub one_grammar : (s : List ℕ) → IsScalar Number s ↔ SpellsNumber s
 one_grammar s = (read_number s, scanned_number s)
@@ -294,7 +294,7 @@ module _ (line : List ℕ) (t : Tree) (kind : kind_of t ≡ Number) where
 
 -- ---- what stands in a line as few digits is a number
 digit-kind : (b : ℕ) → 45 ≤ b → b < 64 → kind_by b ≡ Number
-digit-kind b low high = grind arith
+digit-kind b low high = grind (arith, nat_tests)
 
 int-first : (s : List ℕ) → IsInt s → (45 ≤ get_or s 0 0) × (get_or s 0 0 < 64)
 int-first [] int = absurd int
@@ -307,7 +307,7 @@ signed-first s (inr minus) = search arith
 
 kind-at : (line : List ℕ) (start stop : ℕ) → start < stop → (45 ≤ get_or (slice_range line start stop) 0 0)
     × (get_or (slice_range line start stop) 0 0 < 64) → kind_by (byte line start) ≡ Number
-kind-at line start stop order first = search (arith, first_is)
+kind-at line start stop order first = search (arith, first_is, digit-kind)
 
 -- where a node stands, and what was read there
 module _ {line b : List ℕ} (t : Tree) (start stop : ℕ) (e : b ≡ line) (order : start < stop)
@@ -319,7 +319,7 @@ module _ {line b : List ℕ} (t : Tree) (start stop : ℕ) (e : b ≡ line) (ord
 
   pub few-there : (n : ℕ) → IsFewDigits (slice_range b start stop)
       → ((c : Class (slice_range b start stop)) → whole_answer c ≡ Ok (Some (pos n))) → whole_of t ≡ Some (pos n)
-  few-there n few answer = search (arith, read-there, kind-at)
+  few-there n few answer = search (arith, read-there, kind-at, int-first)
 
   pub signed-there : (w : ℤ) → IsFewSigned (slice_range b start stop)
       → ((c : Class (slice_range b start stop)) → whole_answer c ≡ Ok (Some w)) → whole_of t ≡ Some w

@@ -2,7 +2,7 @@
 use Rattle.cj_geometry.proofs.Common.{All, All-permutation, AreLeast, Ascend, Bool, Contains, HoldNames, IfSome, IsHeldName, IsPermutation, IsWorded, List, None, Option, Some, Source, TakeOne, Tree, WordedName, [], ap, arith, compare_worded, drop, false, get_or, inl, inr, is_above, is_below, is_earlier, is_lt, is_past, is_some, last_of, length, length-append, length-drop, length-take-le, limit_in, map, name_in, names_in, names_of, refl, set, sym, take, true, ℕ, ◌&&◌, ◌++◌, ◌+◌, ◌<◌, ◌∙◌, ◌∷◌, ◌≡◌, ◌≤◌, ◌⊎◌}
 use Rattle.std.proofs.lemmas.Grind.{common_steps}
 use Rattle.std.proofs.lemmas.List.{get_or-map, length-map, map-append, take_more_set}
-use Rattle.std.proofs.lemmas.List.Elements.{All-contains, All-head, All-tail, All-push, All-map, Contains-get_or, Contains-append_left, Contains-append_right, Contains-append_cases, Contains-push, All-contains_itself}
+use Rattle.std.proofs.lemmas.List.Elements.{All-contains, All-head, All-tail, All-push, All-map, Contains-get_or, Contains-append_left, Contains-append_right, Contains-append_cases, Contains-push, All-contains_itself, All-nil}
 use Rattle.std.proofs.lemmas.List.Sorted.{length_permutation, Contains-permutation, IsPermutation-sym}
 use Rattle.cj_geometry.proofs.Names.{earlier_itself, earlier_not_back, on_upto, upto_upto, both_sides, none_true, contains_cases, contains_first, contains_later, contains_none, IsPast, HaveNoGap, past_above, none_past, last_past}
 use Rattle.cj_geometry.proofs.Distinct.{less_as_earlier, AreNext, left_above, fewer_left}
@@ -10,7 +10,7 @@ use Rattle.cj_geometry.proofs.Distinct.{less_as_earlier, AreNext, left_above, fe
 -- ---- lists
 
 pub contains_map : {X Y : Type 0} (f : X → Y) (xs : List X) (x : X) → Contains xs x → Contains (map f xs) (f x)
-contains_map f xs x c = search (arith, get_or-map, length-map)
+contains_map f xs x c = search (arith, get_or-map, Contains-get_or, length-map)
 
 pub contains_unmap : {X Y : Type 0} (f : X → Y) (xs : List X) (y : Y) → Contains (map f xs) y → (x : X) × Contains xs x
     × (f x ≡ y)
@@ -33,7 +33,7 @@ full_least {s} room n e {least} new {c} l f a h =
 -- ---- a walk begins, and passes a name over
 
 pub holds_first : (s : Source) (names : List Tree) (floor : Option Tree) → HoldNames s names names floor None []
-holds_first s names floor = search arith
+holds_first s names floor = search (arith, All-nil)
 
 pub holds_passed : {s : Source} {names : List Tree} (left : List Tree) {floor ceiling : Option Tree}
     {es : List WordedName} (t : Tree)

@@ -40,9 +40,6 @@ of_kind-then is rule t o p q h e k = rw h (k ∙ ap (λ x. least x (rule t)) (rw
 -- one list of findings after another
 pub ruleset finding_steps = (least-append)
 
--- and the same in another order
-pub ruleset finding_swaps = (least-append, least-swap)
-
 -- ---- findings one after another
 
 -- a value with the first part, and the others with the other parts
@@ -85,9 +82,6 @@ values-one m {d} t b h k =
     values-array m d t b (omega arith) k
     ∙ ap (λ e. other_count t b ++ paired (values m e) (items_of t) (items_if b)) low
     ∙ ap (λ fs. other_count t b ++ fs) (beside-entries m (items_of t) (items_if b))
-
--- what attributes of functions name
-pub ruleset shape_facts = (shape-array, values-array, values-one)
 
 -- ---- the line of templates, from the line with its tokens
 

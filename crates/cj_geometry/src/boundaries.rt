@@ -49,7 +49,6 @@ fn check_rings(node: Node, vertices: Bound, found: &mut Least)
 
 /// Checks that the value has lists of this depth, and below them indices of vertices. Most lists
 /// are in surfaces, which it reads without a call for each.
-#[tactic(auto, using(crate::proofs::Values::finding_steps, crate::proofs::Values::shape_facts))]
 fn check_shape(node: Node, depth: u8, vertices: Bound, found: &mut Least)
     ensures { found.new ≡ least found.old (shape vertices.count depth (tree node.entry)) }
 {

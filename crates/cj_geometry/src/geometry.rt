@@ -27,7 +27,6 @@ struct Geometry<'a> {
 }
 
 /// Checks the lists of a geometry of this depth.
-#[tactic(auto, using(crate::proofs::Values::finding_steps))]
 fn check_parts(
     geometry: Geometry,
     depth: u8,
@@ -107,7 +106,6 @@ fn check_typed(
 
 /// Adds what is wrong with a geometry. `vertices` is the number of vertices, if it is known. It
 /// allocates nothing and cannot fail.
-#[tactic(auto, using(crate::proofs::Values::finding_steps))]
 pub fn check_geometry(node: Node, vertices: Option<u64>, templates: Templates, found: &mut Least)
     ensures { found.new ≡ least found.old (geometry vertices (given templates.entry) (tree node.entry)) }
 {

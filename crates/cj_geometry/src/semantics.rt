@@ -97,7 +97,6 @@ fn is_entry(node: Node, surfaces: Bound) -> bool
 /// Returns how many items at the front of an array are such values, in the way of
 /// [`count_indices`](crate::rule::count_indices). None of them has a finding.
 #[inline(always)]
-#[tactic(auto, using(crate::proofs::Arrays::lone_facts))]
 fn count_entries(node: Node, surfaces: Bound) -> u32
     ensures lone { AreLone result (items_of (tree node.entry)) }
     ensures none { flat_map (entry surfaces.count) (take result (items_of (tree node.entry))) ≡ [] }
@@ -139,7 +138,6 @@ fn check_entries(node: Node, part: Option<Node>, surfaces: Bound, found: &mut Le
 
 /// Checks that the values have this depth, for a part of the boundaries, and below it indices of
 /// surfaces.
-#[tactic(auto, using(crate::proofs::Values::finding_swaps, crate::proofs::Values::shape_facts))]
 fn check_values(node: Node, part: Option<Node>, depth: u8, surfaces: Bound, found: &mut Least)
     ensures { found.new ≡ least found.old (values surfaces.count depth (tree node.entry) (option_map tree part.entry)) }
 {

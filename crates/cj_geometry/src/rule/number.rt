@@ -266,7 +266,7 @@ pub(crate) fn is_few_below(node: Node, bound: Bound) -> bool
 
 /// Does what [`check_index`] does, with a bound. Nearly all indices are below it.
 #[inline(always)]
-#[tactic(auto, using(crate::proofs::Arrays::lone_facts, crate::proofs::Numbers::number_facts))]
+#[tactic(auto, using(crate::proofs::Arrays::index_facts, crate::proofs::Numbers::number_facts))]
 pub fn check_index_below(node: Node, outside: Reason, bound: Bound, found: &mut Least)
     ensures { found.new ≡ least found.old (index outside bound.count (tree node.entry)) }
 {
@@ -283,7 +283,6 @@ pub fn check_index_below(node: Node, outside: Reason, bound: Bound, found: &mut 
 /// It reads only numbers of at most eight digits, one item after another, and does not look where
 /// each ends. It stops at the first item that it does not accept.
 #[inline(always)]
-#[tactic(auto, using(crate::proofs::Arrays::lone_facts))]
 pub fn count_indices(node: Node, bound: Bound) -> u32
     ensures lone { AreLone result (items_of (tree node.entry)) }
     ensures none { (outside : ReasonOf)
@@ -304,7 +303,6 @@ pub fn count_indices(node: Node, bound: Bound) -> u32
 /// Returns a number of items at the front of an array that are all whole numbers, read in the same
 /// way. It too is at most the number of all such items there.
 #[inline(always)]
-#[tactic(auto, using(crate::proofs::Arrays::lone_facts))]
 pub fn count_wholes(node: Node) -> u32
     ensures lone { AreLone result (items_of (tree node.entry)) }
     ensures none { flat_map whole_number (take result (items_of (tree node.entry))) ≡ [] }
