@@ -112,9 +112,3 @@ later-left {P} {objects} {w} l p v s here = record {
 pub if-none : {P Q : Type 0} (o : Option ℕ) → (P → Q) → IfNone o P → IfNone o Q
 if-none None f h = f h
 if-none (Some n) f h = tt
-
--- steps of such a walk
-pub ruleset walk_steps = (first-among, later-among)
-
--- what a walk shows of its next one
-pub ruleset next_steps = (later-left, first-among, later-among, beside, marked-beside, marked-back)

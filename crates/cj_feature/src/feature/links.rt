@@ -213,7 +213,6 @@ pub fn has_many(objects: Node) -> bool {
 }
 
 /// The links of few city objects.
-#[tactic(auto, using(crate::proofs::Rules::finding_steps))]
 fn check_few_links(objects: Node, found: &mut Least)
     ensures { let all = members_of (tree objects.entry) in
         found.new ≡ least found.old (flat_map (object_links all) all) }

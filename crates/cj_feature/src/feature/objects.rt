@@ -174,7 +174,6 @@ fn check_city_object(node: Node, vertices: Option<u64>, beside: Beside, found: &
 }
 
 /// Checks that the value is an object of city objects. Returns whether they may have links.
-#[tactic(auto, using(crate::proofs::Rules::finding_steps))]
 fn check_city_objects(node: Node, vertices: Option<u64>, beside: Beside, found: &mut Least) -> bool
     ensures unlinked { result ≡ false → links (Some (tree node.entry)) ≡ [] }
     ensures found { found.new

@@ -51,7 +51,6 @@ struct Current<'a> {
 
 /// Checks an item of the list of the current city object. Returns whether it is known to be an id
 /// in the feature.
-#[tactic(auto, using(crate::proofs::Questions::lists_known, crate::proofs::Questions::hidden_linked, crate::proofs::Questions::listed_linked))]
 fn check_item<'a, const ROOM: usize, const KEPT: usize>(
     objects: Node<'a>,
     item: Node<'a>,

@@ -104,7 +104,6 @@ fn size_of_feature(doc: Doc) -> Size {
 }
 
 /// Returns the number of the first city object of this name that has no mark.
-#[tactic(auto, using(crate::proofs::Walking::next_steps))]
 fn find_unmarked(objects: Node, id: Node) -> Option<u32>
     ensures found { IfSome result (IsUnmarked objects.entry (tree id.entry)) }
     ensures none { IfNone result (HaveMarks objects.entry (members_of (tree objects.entry)) (tree id.entry)) }
@@ -153,7 +152,6 @@ fn find_child(objects: Node, object: Node, names: Names) -> Option<u32>
 
 /// Returns the number of the first city object without a mark that one with a mark lists as a
 /// child. The child has one of these names.
-#[tactic(auto, using(crate::proofs::Walking::next_steps))]
 fn find_among(objects: Node, names: Names) -> Option<u32>
     requires { AreSearchable objects names }
     ensures found { IfSome result (IsNext objects.entry) }

@@ -202,7 +202,6 @@ impl<const OBJECTS: usize, const LISTS: usize> Lists<OBJECTS, LISTS> {
     }
 
     /// Adds the city objects after the first `skip` to their lists, as many as were counted.
-    #[tactic(auto, using(crate::proofs::Walking::walk_steps))]
     fn fill_lists(&mut self, objects: Node, skip: usize)
         requires { Knows objects self.old }
         ensures { Knows objects.entry self.new }

@@ -1,4 +1,4 @@
-use Rattle.cj_feature.proofs.Common.{members_of, refl, tree, unreached}
+use Rattle.cj_feature.proofs.Common.{AreValuesInOrder, members_of, refl, subst, tree, unreached}
 use Rattle.cj_spans.proofs.Findings.{least_on}
 use Rattle.cj_feature.proofs.Reaching.{marked-reached, unmarked-unreached}
 use Rattle.cj_feature.proofs.Walking.{beside, first-among, later-among, marked-back, marked-beside}
@@ -26,7 +26,7 @@ loop-object-preserved c =
     let n = c.in-Some.object in
     let steps = c.in-Some.ensures.steps in
     let walk = c.loop-object.invariant.walk in
-    let order = rw c.members-object-items.ensures.members at c.members-object-items.ensures.values in
+    let order = subst AreValuesInOrder c.members-object-items.ensures.members c.members-object-items.ensures.values in
     let reached_here =
     marked-reached objects (tree c.args.id) (tree c.in-Some.field-0-0) (tree n) c.requires (first-among walk _ _ steps)
     order (marked-beside objects n (beside walk _ _ steps) (tree n) (c.marked.ensures.yes c.if-not-marked.false)) in
