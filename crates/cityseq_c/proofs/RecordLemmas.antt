@@ -72,13 +72,12 @@ module _ (rules : Rules) (h : Line) where
   found-kept bs (l ∷ ls) more n b number begin =
       grind (
         arith,
-        found-skip,
-        bytes_eq-Decides,
-        later-feature,
-        length-append,
-        raw-more,
-        found-kept (bs ++ l ∷ []) ls
-            more (n + 1) (b + length (raw l)),
+        found-kept (bs ++ l ∷ []) ls more (n + 1) (b + length (raw l)),
+        found-skip n b bs l (bs ++ l ∷ []) ls (ls ++ more) (kept_from rules (h ∷ bs ++ l ∷ []) ls),
+        bytes_eq-Decides l.content l.content,
+        later-feature bs l,
+        length-append bs (l ∷ []),
+        raw-more bs l,
       )
 
 -- the features that are kept of the good lines of a stream, whose first line is e

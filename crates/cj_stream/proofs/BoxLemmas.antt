@@ -1,8 +1,9 @@
 -- Of the numbers that a map brings to at most or at least an end, the least or the greatest is one.
-use Rattle.cj_stream.proofs.Common.{AreThere, Bool, Box, IsSmall, List, None, Ordering, Some, Tree, [], alone, ap, arith, chars, codes, cond, coordinate, coordinate_by, false, get_or, inl, inr, int_le, int_lt, ints, is_in, items_of, length, list_any, map, meets, nat_tests, number_on, numbers_on, pos, range_of, refl, some_at_least, some_at_most, suc, sym, there_is, true, units_at, vertex_of, vertices_of, w64, widened, zero, ℕ, ℤ, ◌&&◌, ◌<◌, ◌^◌, ◌∙◌, ◌∷◌, ◌≡◌, ◌≤ℤ◌, ◌⊎◌}
+use Rattle.cj_stream.proofs.Common.{AreThere, Bool, Box, IsSmall, List, None, Ordering, Some, Tree, [], alone, ap, arith, chars, codes, cond, coordinate, coordinate_by, false, get_or, inl, inr, int_le, int_lt, ints, is_in, items_of, length, list_any, map, meets, nat_tests, number_on, numbers_on, pos, range_of, refl, some_at_least, some_at_most, suc, sym, there_is, true, units_at, vertex_of, vertices_of, w64, widened, zero, ℕ, ℤ, ◌&&◌, ◌<◌, ◌^◌, ◌∙◌, ◌+◌, ◌∷◌, ◌≡◌, ◌≤◌, ◌≤ℤ◌, ◌⊎◌}
 use Rattle.std.proofs.Common.{◌||◌, negsuc, ◌*ℤ◌, unsigned_abs, fold, int_cmp, is_le, is_ge, mul-le-mul_right}
 use Rattle.std.specs.Int.{int_min, int_max, cast_signed, cast_unsigned}
 use Rattle.std.proofs.lemmas.Int.{to_z-of_z, fits_signed_from_abs, fold-int_min_bounds, fold-int_max_bounds}
+use borrow.Author.Differences.{up, down, product_is}
 use Rattle.cj_decimal.specs.Meaning.Affine.{AffineMap, image}
 use Rattle.cj_geometry.specs.Meaning.Numbers.{whole_of}
 use Rattle.cj_geometry.proofs.Numbers.{whole-small}
@@ -12,11 +13,25 @@ use Rattle.cj_stream.specs.declared.query.extent.Range.{Range}
 
 product_rises : (s : ℕ) (v w : ℤ) → v ≤ℤ w → (v *ℤ pos s) ≤ℤ (w *ℤ pos s)
 product_rises s v w h =
-    grind (arith, nat_tests, mul-le-mul_right)
+    let below : up v + down w ≤ up w + down v = omega (arith, ints) in
+    omega (
+      arith,
+      ints,
+      product_is v (pos s),
+      product_is w (pos s),
+      mul-le-mul_right {m = up v + down w} {n = up w + down v} s below,
+    )
 
 product_falls : (s : ℕ) (v w : ℤ) → v ≤ℤ w → (w *ℤ negsuc s) ≤ℤ (v *ℤ negsuc s)
 product_falls s v w h =
-    grind (arith, nat_tests, mul-le-mul_right)
+    let below : up v + down w ≤ up w + down v = omega (arith, ints) in
+    omega (
+      arith,
+      ints,
+      product_is v (negsuc s),
+      product_is w (negsuc s),
+      mul-le-mul_right {m = up v + down w} {n = up w + down v} (suc s) below,
+    )
 
 image_rises : (m : AffineMap) (s : ℕ) (v w : ℤ) → m.scale ≡ pos s → v ≤ℤ w → image m v ≤ℤ image m w
 image_rises m s v w e h =

@@ -267,7 +267,7 @@ module _ (f : Reading) (p : List ℕ) (h : Reads f p) where
   before = map ended_line (closed p)
 
   number : f.lines + 1 ≡ length (map ended_line (closed p)) + 1
-  number = omega (arith, length-map_lines)
+  number = omega (arith, h.lines, length-map_lines (closed p))
 
   -- what hangs on its number and, if it is not the first, on the header, by what is held and by the lines before it
   next-same : {X : Type 0} (say : ℕ → Tree → X) → ((x y : Tree) → say 1 x ≡ say 1 y)
@@ -390,9 +390,8 @@ Reads-ended f g p put refused h s fine k bad = record {
   peak = rw s.header h.peak;
   line_peak =
       rw (closed-lf, begun-lf, begun_after-empty, s.rules)
-      (s.line.peak ∙ ap (λ n. max n 0) h.line_peak
-      ∙ max-zero _ ∙ sym (greatest-later _ (held-nothing f.rules.limits) _
-      _));
+      (s.line.peak ∙ ap (λ n. max n 0) h.line_peak ∙ max-zero _
+      ∙ sym (greatest-later _ (held-nothing f.rules.limits) _ _));
   header_within = rw s.header h.header_within;
   line_within = s.line.within;
 }

@@ -1,4 +1,4 @@
-use Rattle.cj_stream.proofs.Common.{Invalid, Refused, Refuses, answer_of, ap, arith, false, inl, is_lenient, line_end, sym, begun_verdict, ◌+◌, ◌∙◌, ◌≡◌}
+use Rattle.cj_stream.proofs.Common.{Forgets, Invalid, Refused, Refuses, ScansLine, answer_of, ap, arith, begun_of, false, inl, is_lenient, line_end, scanning, sym, begun_verdict, true, ◌+◌, ◌∙◌, ◌≡◌}
 use Rattle.cj_stream.proofs.FinishLemmas.{ok-then}
 use Rattle.cj_stream.proofs.ReadingLemmas.{begun_of-later}
 use Rattle.cj_stream.proofs.ScanningLemmas.{ScansNext-held, ScansNext-dropped}
@@ -6,37 +6,48 @@ use Rattle.cj_stream.proofs.line_splitter.LineSplitter.handle_line.Goals as goal
 
 pub returns-then-self-clause-scanned : goal.returns-then-self-clause-scanned
 returns-then-self-clause-scanned g c =
-    ok-then _ _ _
-    (ScansNext-dropped c.args.self.now.reading _ _ c.requires.later (ap (λ x. x.reading.dropped) (sym c.self.view_is)
-    ∙ c.if-self.true))
+    let f = c.args.self.now.reading in
+    let dropped : c.args.self.now.reading.dropped ≡ true = ap (λ x. x.reading.dropped) (sym c.self.view_is)
+    ∙ c.if-self.true in
+    ok-then (Forgets c.args.self.now.scanning c.refuse.new.self.scanning) _ c.refuse.result
+    (ScansNext-dropped f c.args.self.now.scanning c.refuse.new.self.scanning c.requires.later dropped)
     c.refuse.ensures.forgets
 
 pub returns-in-Ok-Kept-clause-scanned : goal.returns-in-Ok-Kept-clause-scanned
 returns-in-Ok-Kept-clause-scanned g c =
     let f = c.args.self.now.reading in
-    ScansNext-held f _ _ _
-    c.requires.later (ap (λ x. x.reading.dropped) (sym c.self.view_is)
-    ∙ c.if-self.false)
-    (rw (begun_of-later f c.requires.later, ← c.self.view_is, ← c.as_slice-content.ensures.value)
-    c.judge_and_put.ensures.scans) c.end_line.ensures.forgets
+    let held : c.args.self.now.reading.dropped ≡ false = ap (λ x. x.reading.dropped) (sym c.self.view_is)
+    ∙ c.if-self.false in
+    let line : ScansLine f.rules.limits (begun_of f) c.args.self.now.scanning (scanning c.judge_and_put.new.self) =
+    rw (begun_of-later f c.requires.later, ← c.self.view_is, ← c.as_slice-content.ensures.value)
+    c.judge_and_put.ensures.scans in
+    ScansNext-held f c.args.self.now.scanning (scanning c.judge_and_put.new.self) c.end_line.new.self.scanning
+    c.requires.later held
+    line c.end_line.ensures.forgets
 
 pub returns-in-Ok-LeftOut-clause-scanned : goal.returns-in-Ok-LeftOut-clause-scanned
 returns-in-Ok-LeftOut-clause-scanned g c =
     let f = c.args.self.now.reading in
-    ScansNext-held f _ _
-    _
-    c.requires.later (ap (λ x. x.reading.dropped) (sym c.self.view_is)
-    ∙ c.if-self.false) (rw (begun_of-later f c.requires.later, ← c.self.view_is, ← c.as_slice-content.ensures.value)
-    c.judge_and_put.ensures.scans) c.end_line-in-Ok-LeftOut.ensures.forgets
+    let held : c.args.self.now.reading.dropped ≡ false = ap (λ x. x.reading.dropped) (sym c.self.view_is)
+    ∙ c.if-self.false in
+    let line : ScansLine f.rules.limits (begun_of f) c.args.self.now.scanning (scanning c.judge_and_put.new.self) =
+    rw (begun_of-later f c.requires.later, ← c.self.view_is, ← c.as_slice-content.ensures.value)
+    c.judge_and_put.ensures.scans in
+    ScansNext-held f c.args.self.now.scanning (scanning c.judge_and_put.new.self)
+    c.end_line-in-Ok-LeftOut.new.self.scanning
+    c.requires.later held line c.end_line-in-Ok-LeftOut.ensures.forgets
 
 pub returns-in-Ok-Refused-clause-scanned : goal.returns-in-Ok-Refused-clause-scanned
 returns-in-Ok-Refused-clause-scanned g c =
     let f = c.args.self.now.reading in
     let new = c.refuse-in-Ok-Refused.new.self.scanning in
-    ok-then _ _ _
-    (ScansNext-held f _ _ _ c.requires.later (ap (λ x. x.reading.dropped) (sym c.self.view_is)
-    ∙ c.if-self.false) (rw (begun_of-later f c.requires.later, ← c.self.view_is, ← c.as_slice-content.ensures.value)
-    c.judge_and_put.ensures.scans))
+    let held : c.args.self.now.reading.dropped ≡ false = ap (λ x. x.reading.dropped) (sym c.self.view_is)
+    ∙ c.if-self.false in
+    let line : ScansLine f.rules.limits (begun_of f) c.args.self.now.scanning (scanning c.judge_and_put.new.self) =
+    rw (begun_of-later f c.requires.later, ← c.self.view_is, ← c.as_slice-content.ensures.value)
+    c.judge_and_put.ensures.scans in
+    ok-then (Forgets (scanning c.judge_and_put.new.self) new) _ c.refuse-in-Ok-Refused.result
+    (ScansNext-held f c.args.self.now.scanning (scanning c.judge_and_put.new.self) new c.requires.later held line)
     c.refuse-in-Ok-Refused.ensures.forgets
 
 pub returns-in-Ok-Refused-clause-handles : goal.returns-in-Ok-Refused-clause-handles
