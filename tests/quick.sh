@@ -1,8 +1,7 @@
 #!/usr/bin/env bash
 # Takes a first look before the gate, within three minutes on four idle cores and without a proof.
 # It checks the layout of the sources, the names in documents and the version. It runs the tests of
-# the crates on an interpreter. Those of the engine's worked rows are left out, since they take
-# longer.
+# the crates on an interpreter. The test cases of the engine are left out, since they take longer.
 #
 #     tests/quick.sh
 #
@@ -18,7 +17,7 @@ trap 'rm -rf "$scratch"' EXIT
 passed=0 failed=0
 
 # Counts a command as passed if its status is 0, and shows what it printed else.
-row() {
+test_case() {
   local name=$1
   shift
   if "$@" > "$scratch/printed" 2>&1; then
@@ -50,9 +49,9 @@ have_passed() {
 }
 
 crates=$(sed -n 's/^\([a-z][a-z0-9_]*\).*:.*/\1/p' crates.txt)
-for crate in $crates; do row "layout of $crate" is_laid_out "$crate"; done
-row 'names in documents' tests/docs/promises.py
-row 'one version' packaging/version.py
+for crate in $crates; do test_case "layout of $crate" is_laid_out "$crate"; done
+test_case 'names in documents' tests/docs/promises.py
+test_case 'one version' packaging/version.py
 tested=
 for crate in $(tac <<< "$crates"); do  # the highest crates take longest
   [[ $crate = cj_stream_* ]] || ! grep -rqF '#[test]' "crates/$crate/src" || tested+=" $crate"
@@ -62,7 +61,7 @@ for crate in $tested; do
   run_tests "$crate" &
 done
 wait
-for crate in $tested; do row "tests of $crate" have_passed "$crate"; done
+for crate in $tested; do test_case "tests of $crate" have_passed "$crate"; done
 echo 'left out: the tests of cj_stream_tests_*, which take longer; the gate has them'
 echo "$passed passed, $failed failed"
 [ "$failed" = 0 ]

@@ -1,10 +1,12 @@
 #!/usr/bin/env python3
-"""Writes the vectors: python3 vectors/make.py. Each is a file NAME.jsonl, and a row of table.tsv says what has to come of it;
-README.md says how to read both. The same rows, but for those of folders of their own, go into the tests of the engine.
+"""Writes the vectors: python3 vectors/make.py. Each is a file NAME.jsonl, and a row of table.tsv
+says what has to come of it; README.md says how to read both. The same test cases, but for those of
+folders of their own, go into the tests of the engine.
 
-The rows, in rows.py, are written by hand, from the rules of docs/RULES.md. In a line that is to be refused the mark ^ stands where
-the finding is, and is taken out; `place` is given where no mark can stand. What a complete run holds at most is counted here
-from the lines, by Python's own reader of JSON."""
+The test cases, in cases.py, are written by hand, from the rules of docs/RULES.md. In a line that is
+to be refused the mark ^ stands where the finding is, and is taken out; `place` is given where no
+mark can stand. What a complete run holds at most is counted here from the lines, by Python's own
+reader of JSON."""
 import json
 import os
 import re
@@ -17,7 +19,7 @@ TESTS = os.path.join(
 LIMITS = (
     1_000,
     64,
-)  # where a row asks for no others: a line of so many bytes, so many open arrays and objects
+)  # where a case asks for no others: a line of so many bytes, so many open arrays and objects
 TEXTS = {
     1: "no header line",
     2: "line too long",
@@ -108,16 +110,16 @@ def instance(template="0", boundaries="[0]", matrix="[1,0,0,0,0,1,0,0,0,0,1,0,0,
     )
 
 
-ROWS = []
-SECTIONS = []  # each with its title and its rows
+CASES = []
+SECTIONS = []  # each with its title and its test cases
 
 
 def section(title):
-    """The rows that follow, up to the next section, belong together."""
+    """The test cases that follow, up to the next section, belong together."""
     SECTIONS.append((title, []))
 
 
-def row(name, lines, code=None, place=None, limits=LIMITS, words=(), kept=None, end="\n"):
+def case(name, lines, code=None, place=None, limits=LIMITS, words=(), kept=None, end="\n"):
     """A vector of these lines, the last of which ends with `end`: it is complete, or its line with a mark, or its last one,
     is refused for this code. `kept` are the numbers of the lines that are written, where they are not all those before.
     """
@@ -143,7 +145,7 @@ def row(name, lines, code=None, place=None, limits=LIMITS, words=(), kept=None, 
         lines[-1] + end.encode() if lines else b""
     )
     made = (name, text, limits, words, refused, len(good), kept, good)
-    ROWS.append(made)
+    CASES.append(made)
     if "/" not in name:
         SECTIONS[-1][1].append(made)
 
@@ -181,7 +183,7 @@ def peaks(lines):
     )
 
 
-exec(open(os.path.join(HERE, "rows.py"), encoding="utf-8").read())
+exec(open(os.path.join(HERE, "cases.py"), encoding="utf-8").read())
 
 
 def answer_of(refused):
@@ -199,7 +201,7 @@ def peaks_of(refused, good):
 
 
 def spelled(text):
-    """Bytes as a row of the tests spells them."""
+    """Bytes as a test case of the engine spells them."""
     parts = []
     for part in re.split(
         b"(" + re.escape(H.encode()) + b"|" + re.escape(F.encode()) + b"|\n|[^ -~]|[&|])",
@@ -214,7 +216,7 @@ def spelled(text):
 
 
 def asked(words):
-    """The options of a vector as a row of the tests spells them: a word for each text."""
+    """The options of a vector as a test case of the engine spells them: a word for each text."""
     told = []
     for word in re.sub("--(id|type|lod) ", r"--\1=", " ".join(words)).split():
         option, _, value = word[2:].partition("=")
@@ -223,8 +225,8 @@ def asked(words):
     return " ".join(told) or "-"
 
 
-def test_row(name, text, limits, words, refused, lines, kept, good):
-    """The row of a vector in the tests of the engine."""
+def test_case(name, text, limits, words, refused, lines, kept, good):
+    """The line of a vector in the tests of the engine."""
     stream = text.split(b"\n")
     written = b"".join(
         stream[number - 1] + (b"\n" if number < len(stream) else b"") for number in kept
@@ -245,14 +247,14 @@ def test_row(name, text, limits, words, refused, lines, kept, good):
 
 
 def write_tests():
-    """Writes the rows of each section as a constant of the engine's tests, with a test of them."""
+    """Writes the cases of each section as a constant of the engine's tests, with a test of them."""
     with open(TESTS, "w", encoding="utf-8") as tests:
         print(TESTS_HEAD, end="", file=tests)
         for title, made in SECTIONS:
             name = re.sub("[^a-z0-9]+", "_", title.split(": ")[-1].lower())
-            rows = "\n".join(test_row(*row) for row in made)
+            lines = "\n".join(test_case(*case) for case in made)
             print(
-                f'\n/// {title[0].upper()}{title[1:]}.\nconst {name.upper()}: &str = r#"\n{rows}\n"#;\n\n#[test]\n'
+                f'\n/// {title[0].upper()}{title[1:]}.\nconst {name.upper()}: &str = r#"\n{lines}\n"#;\n\n#[test]\n'
                 f"fn {name}(rt: HostRuntime) -> Result<(), Fail> {{\n    check_rows(&rt, rt.alloc(), {name.upper()})\n}}",
                 file=tests,
             )
@@ -260,7 +262,7 @@ def write_tests():
 
 TESTS_HEAD = """\
 //! The vectors of the folder `vectors/`, by section, without its three families. Written by
-//! vectors/make.py: change vectors/rows.py and run it again.
+//! vectors/make.py: change vectors/cases.py and run it again.
 //!
 //! A row has cells with bars between them:
 //!
@@ -301,7 +303,7 @@ def main():
             sep="\t",
             file=table,
         )
-        for name, text, limits, words, refused, lines, kept, good in ROWS:
+        for name, text, limits, words, refused, lines, kept, good in CASES:
             with open(os.path.join(HERE, name + ".jsonl"), "wb") as file:
                 file.write(text)
             print(
@@ -316,12 +318,12 @@ def main():
                 file=table,
             )
     write_tests()
-    names = [name for name, *_ in ROWS]
+    names = [name for name, *_ in CASES]
     assert len(set(names)) == len(names), "a name stands twice"
     for code in TEXTS:
-        told = sum(1 for _, _, _, _, refused, *_ in ROWS if refused and refused[2] == code)
+        told = sum(1 for _, _, _, _, refused, *_ in CASES if refused and refused[2] == code)
         assert told >= 3, f"code {code}: {told} vectors"
-    print(f"{len(ROWS)} vectors")
+    print(f"{len(CASES)} vectors")
 
 
 if __name__ == "__main__":

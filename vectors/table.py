@@ -6,16 +6,16 @@ HERE = os.path.dirname(os.path.abspath(__file__))
 COLUMNS = ("name", "line limit", "depth", "query", "answer", "lines", "written", "peaks")
 
 
-def rows():
-    """The rows of the table, each with the bytes of its stream."""
+def cases():
+    """The test cases of the table, each with the bytes of its stream."""
     with open(os.path.join(HERE, "table.tsv"), encoding="utf-8") as table:
         names, *lines = [line.rstrip("\n").split("\t") for line in table]
     assert tuple(names) == COLUMNS, names
     for line in lines:
-        row = dict(zip(COLUMNS, line))
-        with open(os.path.join(HERE, row["name"] + ".jsonl"), "rb") as stream:
-            row["text"] = stream.read()
-        yield row
+        case = dict(zip(COLUMNS, line))
+        with open(os.path.join(HERE, case["name"] + ".jsonl"), "rb") as stream:
+            case["text"] = stream.read()
+        yield case
 
 
 def run(command, text, environment=None):
@@ -24,14 +24,14 @@ def run(command, text, environment=None):
     return ran.stdout, ran.stderr, ran.returncode
 
 
-def wanted_of(row):
+def wanted_of(case):
     """What `filter` has to write, to say and to answer."""
-    *ended, last = row["text"].split(b"\n")
+    *ended, last = case["text"].split(b"\n")
     lines = [line + b"\n" for line in ended] + [last]
-    kept = [] if row["written"] == "-" else [int(number) for number in row["written"].split(",")]
-    complete = row["answer"] == "complete"
+    kept = [] if case["written"] == "-" else [int(number) for number in case["written"].split(",")]
+    complete = case["answer"] == "complete"
     return (
         b"".join(lines[number - 1] for number in kept),
-        b"" if complete else row["answer"].encode() + b"\n",
+        b"" if complete else case["answer"].encode() + b"\n",
         int(not complete),
     )

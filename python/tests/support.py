@@ -49,11 +49,11 @@ def feature(name, kind="Building", lod="2.2", last=3, x=0):
     ).encode()
 
 
-def options_of(row):
+def options_of(case):
     """The limits and the query of a vector, as the package takes them."""
-    options = {"line_limit": int(row["line limit"]), "depth": int(row["depth"])}
+    options = {"line_limit": int(case["line limit"]), "depth": int(case["depth"])}
     names = {"--id": "ids", "--type": "types", "--lod": "lods", "--bbox": "box"}
-    words = [] if row["query"] == "-" else row["query"].replace("=", " ").split(" ")
+    words = [] if case["query"] == "-" else case["query"].replace("=", " ").split(" ")
     while words:
         word = words.pop(0)
         if word in ("--tree", "--extensions", "--exclude"):
@@ -65,14 +65,14 @@ def options_of(row):
     return options
 
 
-def rows():
+def cases():
     """The vectors."""
-    return list(table.rows())
+    return list(table.cases())
 
 
-def wanted_of(row):
+def wanted_of(case):
     """What a filter has to write and to answer."""
-    output, said, status = table.wanted_of(row)
+    output, said, status = table.wanted_of(case)
     return output, said.decode().rstrip("\n"), status
 
 

@@ -215,17 +215,17 @@ class Commands(InFolder):
 
     @unittest.skipUnless(os.path.exists(support.PROGRAM), "the program is not built")
     def test_info_begins_as_that_of_the_program(self):
-        for row in support.rows():
-            if row["query"] == "-":
-                words = ["info", "--line-limit", row["line limit"], "--depth", row["depth"]]
-                wanted, _, status = support.program(*words, given=row["text"])
+        for case in support.cases():
+            if case["query"] == "-":
+                words = ["info", "--line-limit", case["line limit"], "--depth", case["depth"]]
+                wanted, _, status = support.program(*words, given=case["text"])
                 output = (
-                    command(*words, "--part-size", "1", "-", given=row["text"])
+                    command(*words, "--part-size", "1", "-", given=case["text"])
                     if status == 0
                     else (b"", "", 1)
                 )
                 self.assertEqual(
-                    (output[0][: len(wanted)], output[2]), (wanted, status), row["name"]
+                    (output[0][: len(wanted)], output[2]), (wanted, status), case["name"]
                 )
 
     def test_explain(self):

@@ -283,16 +283,19 @@ class Runs(InFolder):
         return output.getvalue(), replace(result, file="", end=end, reports=reports)
 
     def test_vectors(self):
-        for row in support.rows():
-            path = self.file(row["text"])
+        for case in support.cases():
+            path = self.file(case["text"])
             for size in (1, 60, 1 << 20):
-                with self.subTest(row["name"], size=size):
+                with self.subTest(case["name"], size=size):
                     output, result = self.filtered(
-                        path, part_size=size, jobs=3 if size == 60 else 1, **support.options_of(row)
+                        path,
+                        part_size=size,
+                        jobs=3 if size == 60 else 1,
+                        **support.options_of(case),
                     )
                     told = str(result.end) if result.end else ""
-                    self.assertEqual((output, told, result.status), support.wanted_of(row))
-                    self.assertEqual(result.lines, int(row["lines"]))
+                    self.assertEqual((output, told, result.status), support.wanted_of(case))
+                    self.assertEqual(result.lines, int(case["lines"]))
 
     def test_streams_by_chance(self):
         for seed in range(200):

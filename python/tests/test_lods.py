@@ -118,16 +118,16 @@ def by_queries(text, **options):
 class Vectors(unittest.TestCase):
     def test_each_that_is_valid(self):
         seen = 0
-        for row in support.rows():
-            options = {"line_limit": int(row["line limit"]), "depth": int(row["depth"])}
-            if cityseq.check(row["text"], **options).status != 0:
+        for case in support.cases():
+            options = {"line_limit": int(case["line limit"]), "depth": int(case["depth"])}
+            if cityseq.check(case["text"], **options).status != 0:
                 continue
             seen += 1
             for size in (1, 1 << 20):
-                with self.subTest(row["name"], size=size):
-                    found = counted(row["text"], part_size=size, **options)
-                    self.assertEqual(found, by_queries(row["text"], part_size=size, **options))
-                    self.assertEqual(found, (by_python(row["text"]), ()))
+                with self.subTest(case["name"], size=size):
+                    found = counted(case["text"], part_size=size, **options)
+                    self.assertEqual(found, by_queries(case["text"], part_size=size, **options))
+                    self.assertEqual(found, (by_python(case["text"]), ()))
         self.assertGreater(seen, 50)
 
 

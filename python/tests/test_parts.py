@@ -128,22 +128,22 @@ class Vectors(unittest.TestCase):
     """What has to come of each vector, by the table."""
 
     def test_each_by_every_cut(self):
-        for row in support.rows():
+        for case in support.cases():
             for size in (1, 60, 1 << 20):
-                with self.subTest(row["name"], size=size):
+                with self.subTest(case["name"], size=size):
                     output, result = filtered(
-                        row["text"],
+                        case["text"],
                         part_size=size,
                         jobs=1 if size > 60 else 3,
-                        **support.options_of(row),
+                        **support.options_of(case),
                     )
                     told = str(result.end) if result.end else ""
-                    self.assertEqual((output, told, result.status), support.wanted_of(row))
-                    self.assertEqual(result.lines, int(row["lines"]))
-                    if row["peaks"] != "-":
+                    self.assertEqual((output, told, result.status), support.wanted_of(case))
+                    self.assertEqual(result.lines, int(case["lines"]))
+                    if case["peaks"] != "-":
                         self.assertEqual(
                             f"{result.peak_bytes} {result.peak_tokens} {result.peak_depth}",
-                            row["peaks"],
+                            case["peaks"],
                         )
                     self.assertEqual(
                         numbered(result.reports),
@@ -151,17 +151,17 @@ class Vectors(unittest.TestCase):
                     )
 
     def test_check_and_info(self):
-        for row in support.rows():
-            if not {"-", "--tree", "--extensions"}.issuperset(row["query"].split()):
+        for case in support.cases():
+            if not {"-", "--tree", "--extensions"}.issuperset(case["query"].split()):
                 continue
-            wanted = support.wanted_of(row)[1:]
+            wanted = support.wanted_of(case)[1:]
             for result in (
-                cityseq.check(row["text"], part_size=1, jobs=2, **support.options_of(row)),
-                cityseq.info(row["text"], part_size=1, jobs=2, **support.options_of(row)),
+                cityseq.check(case["text"], part_size=1, jobs=2, **support.options_of(case)),
+                cityseq.info(case["text"], part_size=1, jobs=2, **support.options_of(case)),
             ):
-                with self.subTest(row["name"]):
+                with self.subTest(case["name"]):
                     self.assertEqual((str(result.end) if result.end else "", result.status), wanted)
-                    self.assertEqual(result.lines, int(row["lines"]))
+                    self.assertEqual(result.lines, int(case["lines"]))
 
 
 class Chance(unittest.TestCase):

@@ -217,10 +217,10 @@ class Full(InFolder):
     def test_the_last_write_is_short(self):
         index = self.folder / "it.gpkg"
         cityseq.index([example("town")], index)
-        rows = [(*words, example("town")) for words in COMMANDS]
-        rows += [("explain", "25"), ("--help",), ("filter", "--help"), ("-V",)]
-        rows += [("index", "--show", index), ("report", "--json", example("town"))]
-        for words in rows:
+        cases = [(*words, example("town")) for words in COMMANDS]
+        cases += [("explain", "25"), ("--help",), ("filter", "--help"), ("-V",)]
+        cases += [("index", "--show", index), ("report", "--json", example("town"))]
+        for words in cases:
             self.assertEqual(self.ran(words, 1 << 30, True)[0], 0, words)
             size = os.path.getsize(self.folder / "out")
             is_timed = words[0] == "report"  # it has a time, which has more or fewer digits
@@ -231,8 +231,8 @@ class Full(InFolder):
                 self.assertEqual(self.ran(words, enough, is_unbuffered), (0, ""), words)
 
     def test_a_full_device(self):
-        rows = (("filter", "-"), ("filter",), ("check", "-"), ("check",), ("info",), ("--help",))
-        for words, is_unbuffered in itertools.product(rows, (True, False)):
+        cases = (("filter", "-"), ("filter",), ("check", "-"), ("check",), ("info",), ("--help",))
+        for words, is_unbuffered in itertools.product(cases, (True, False)):
             with open("/dev/full", "wb") as full:
                 ran = subprocess.run(
                     [sys.executable, "-m", "cityseq", *words],

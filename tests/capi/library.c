@@ -1,7 +1,7 @@
 /* Tries the library for C on a stream on standard input.
  *
  *     library LINE_LIMIT DEPTH [OPTION..] < STREAM     options as the program has them
- *     library rows                                     rows of requests that are wrong, of little room, and of many threads
+ *     library cases                                    cases of wrong requests, room and threads
  *
  * It filters and tallies the stream in three ways:
  *
@@ -294,7 +294,7 @@ static int try_stream(int count, char **words)
     return try_cuts(header, rest, &request, &whole) | try_rooms(header, rest, &request, &whole);
 }
 
-/* ---- rows */
+/* ---- test cases */
 
 static const char header_line[] = "{\"type\":\"CityJSON\",\"version\":\"2.0\",\"transform\":{\"scale\":[1,1,1],"
                                   "\"translate\":[0,0,0]},\"CityObjects\":{},\"vertices\":[]}\n";
@@ -302,7 +302,7 @@ static const char good_line[] = "{\"type\":\"CityJSONFeature\",\"id\":\"b\",\"Ci
                                 "\"vertices\":[]}\n";
 static int failed, passed;
 
-static void row(const char *name, int holds)
+static void test_case(const char *name, int holds)
 {
     passed += holds != 0;
     failed += holds == 0;
@@ -320,7 +320,8 @@ static struct cityseq_answer ask(const struct cityseq_request *request, const ch
 static void refuses(const char *name, struct cityseq_request request, enum cityseq_fault fault)
 {
     struct cityseq_answer answer = ask(&request, header_line, good_line);
-    row(name, answer.status == CITYSEQ_BAD_REQUEST && answer.code == fault && answer.lines == 0 && !answer.list && !answer.item);
+    test_case(name, answer.status == CITYSEQ_BAD_REQUEST && answer.code == fault &&
+                        answer.lines == 0 && !answer.list && !answer.item);
 }
 
 /* Whether a request is refused for an item of a list. */
@@ -328,7 +329,8 @@ static void places(const char *name, struct cityseq_request request, enum cityse
                    uint64_t item)
 {
     struct cityseq_answer answer = ask(&request, header_line, good_line);
-    row(name, answer.status == CITYSEQ_BAD_REQUEST && answer.code == fault && answer.list == list && answer.item == item);
+    test_case(name, answer.status == CITYSEQ_BAD_REQUEST && answer.code == fault &&
+                        answer.list == list && answer.item == item);
 }
 
 /* The same for a number of a box. */
@@ -346,11 +348,14 @@ static void wrong_requests(void)
     r = usual, r.depth_limit = 0, refuses("no depth", r, CITYSEQ_DEPTH_LIMIT);
     r = usual, r.depth_limit = 1025, refuses("a depth above 1,024", r, CITYSEQ_DEPTH_LIMIT);
     struct cityseq_answer answer = ask(&usual, "{}", good_line);
-    row("a header without LF", answer.status == CITYSEQ_BAD_REQUEST && answer.code == CITYSEQ_NO_LINE);
+    test_case("a header without LF",
+              answer.status == CITYSEQ_BAD_REQUEST && answer.code == CITYSEQ_NO_LINE);
     answer = ask(&usual, "{}\n{}\n", "");
-    row("a header of two lines", answer.status == CITYSEQ_BAD_REQUEST && answer.code == CITYSEQ_NO_LINE);
+    test_case("a header of two lines",
+              answer.status == CITYSEQ_BAD_REQUEST && answer.code == CITYSEQ_NO_LINE);
     answer = ask(&usual, "", "");
-    row("nothing at all", answer.status == CITYSEQ_REFUSED && answer.code == 1 && answer.line == 1);
+    test_case("nothing at all",
+              answer.status == CITYSEQ_REFUSED && answer.code == 1 && answer.line == 1);
 }
 
 /* Which text or number has the fault: the first one that breaks a rule, counted from 0. */
@@ -392,7 +397,7 @@ static void keeps(const char *name, const char *ids, size_t length, uint64_t kep
     struct cityseq_request r = CITYSEQ_USUAL;
     r.asks_ids = 1, r.ids = ids, r.ids_length = length;
     struct cityseq_answer answer = ask(&r, header_line, good_line);
-    row(name, answer.status == CITYSEQ_COMPLETE && answer.kept == kept && answer.lines == 2);
+    test_case(name, answer.status == CITYSEQ_COMPLETE && answer.kept == kept && answer.lines == 2);
 }
 
 static void queries(void)
@@ -421,12 +426,14 @@ static void longer_room(void)
     size_t header = strlen(header_line), good = strlen(good_line), all = header + good, length;
     memset(out, 'x', sizeof out);
     struct cityseq_answer a = cityseq_filter(header_line, header, good_line, good, &r, out, all + 10, NULL, 0);
-    row("ten bytes too many", a.status == CITYSEQ_COMPLETE && a.written == all && are_xs(out + all, sizeof out - all));
+    test_case("ten bytes too many", a.status == CITYSEQ_COMPLETE && a.written == all &&
+                                        are_xs(out + all, sizeof out - all));
     length = (size_t)snprintf(part, sizeof part, "%s%s", good_line, good_line);
     memset(out, 'x', sizeof out);
     a = cityseq_filter(header_line, header, part, length, &r, out, all + 10, NULL, 0);
-    row("no room for the second line", a.status == CITYSEQ_NO_ROOM && a.written == all && a.lines == 2);
-    row("nothing of that line", are_xs(out + all, sizeof out - all));
+    test_case("no room for the second line",
+              a.status == CITYSEQ_NO_ROOM && a.written == all && a.lines == 2);
+    test_case("nothing of that line", are_xs(out + all, sizeof out - all));
 }
 
 static void little_room(void)
@@ -439,14 +446,19 @@ static void little_room(void)
     memset(out, 'x', sizeof out);
     r.keep_going = 1;
     struct cityseq_answer a = cityseq_filter(header_line, header, part, length, &r, out, header + good, reports, 1);
-    row("one report of two", a.status == CITYSEQ_COMPLETE && a.refused == 2 && reports[0].line == 2 &&
-                                 reports[0].place == 1 && reports[0].code == 4 && reports[1].line == 7);
-    row("room for the output alone", a.written == header + good && out[header + good] == 'x' &&
-                                         !memcmp(out, header_line, header) && !memcmp(out + header, good_line, good));
+    test_case("one report of two", a.status == CITYSEQ_COMPLETE && a.refused == 2 &&
+                                       reports[0].line == 2 && reports[0].place == 1 &&
+                                       reports[0].code == 4 && reports[1].line == 7);
+    test_case("room for the output alone", a.written == header + good &&
+                                               out[header + good] == 'x' &&
+                                               !memcmp(out, header_line, header) &&
+                                               !memcmp(out + header, good_line, good));
     a = cityseq_filter(header_line, header, part, length, &r, out, header + good - 1, reports, 1);
-    row("a byte too little", a.status == CITYSEQ_NO_ROOM && a.written == header && a.lines == 2 && a.refused == 1);
+    test_case("a byte too little",
+              a.status == CITYSEQ_NO_ROOM && a.written == header && a.lines == 2 && a.refused == 1);
     a = cityseq_filter(header_line, header, part, length, &r, out, 0, reports, 0);
-    row("no room", a.status == CITYSEQ_NO_ROOM && a.written == 0 && a.lines == 0 && a.refused == 0);
+    test_case("no room",
+              a.status == CITYSEQ_NO_ROOM && a.written == 0 && a.lines == 0 && a.refused == 0);
 }
 
 /* Whether a call that judged nothing left all as it was, and answers only a status and a code. */
@@ -476,11 +488,14 @@ static void nothing_judged(void)
     memset(&tally, 7, sizeof tally);
     r.line_limit = 0;
     struct cityseq_answer a = cityseq_check(header_line, header, good_line, good, &r, &report, 1);
-    row("a check of a bad request", a.status == CITYSEQ_BAD_REQUEST && is_untouched(a, out, sizeof out, &report, &tally));
+    test_case("a check of a bad request",
+              a.status == CITYSEQ_BAD_REQUEST && is_untouched(a, out, sizeof out, &report, &tally));
     a = cityseq_filter(header_line, header, good_line, good, &r, out, sizeof out, &report, 1);
-    row("a filter of a bad request", a.status == CITYSEQ_BAD_REQUEST && is_untouched(a, out, sizeof out, &report, &tally));
+    test_case("a filter of a bad request",
+              a.status == CITYSEQ_BAD_REQUEST && is_untouched(a, out, sizeof out, &report, &tally));
     a = cityseq_info(header_line, header, good_line, good, &r, &tally, &report, 1);
-    row("a tally of a bad request", a.status == CITYSEQ_BAD_REQUEST && is_untouched(a, out, sizeof out, &report, &tally));
+    test_case("a tally of a bad request",
+              a.status == CITYSEQ_BAD_REQUEST && is_untouched(a, out, sizeof out, &report, &tally));
 }
 
 static int are_same(struct cityseq_answer a, struct cityseq_answer b) { return !memcmp(&a, &b, sizeof a); }
@@ -497,23 +512,27 @@ static void joins(void)
     next = cityseq_filter(header_line, header, good_line, good, &r, out, header - 1, &none, 0);
     all = cityseq_answer_then(&first, &next, header);
     next = first, next.status = CITYSEQ_NO_ROOM;
-    row("a part whose header does not fit", are_same(all, next) && first.lines == 2 && first.written == header + good);
+    test_case("a part whose header does not fit",
+              are_same(all, next) && first.lines == 2 && first.written == header + good);
     r.depth_limit = 0, next = ask(&r, header_line, good_line), all = cityseq_answer_then(&first, &next, header);
     next = first, next.status = CITYSEQ_BAD_REQUEST, next.code = CITYSEQ_DEPTH_LIMIT;
-    row("a bad request", are_same(all, next));
+    test_case("a bad request", are_same(all, next));
     r.depth_limit = 64, r.asks_types = 1, r.types = "Road\nHut", r.types_length = 8;
     next = ask(&r, header_line, good_line), all = cityseq_answer_then(&first, &next, header);
     next = first, next.status = CITYSEQ_BAD_REQUEST, next.code = CITYSEQ_UNKNOWN_TYPE;
     next.list = CITYSEQ_LIST_TYPES, next.item = 1, r.asks_types = 0;
-    row("a bad request with its place", are_same(all, next));
+    test_case("a bad request with its place", are_same(all, next));
     memset(&next, 0, sizeof next), next.status = CITYSEQ_NO_MEMORY, all = cityseq_answer_then(&first, &next, header);
     next = first, next.status = CITYSEQ_NO_MEMORY;
-    row("a part without memory", are_same(all, next));
-    row("nothing after that", are_same(cityseq_answer_then(&all, &first, header), all));
+    test_case("a part without memory", are_same(all, next));
+    test_case("nothing after that", are_same(cityseq_answer_then(&all, &first, header), all));
     next = ask(&r, header_line, "{\n"), all = cityseq_answer_then(&first, &next, header);
-    row("a part with an invalid line", all.status == CITYSEQ_REFUSED && all.line == 3 && all.place == 1 && all.code == 4 &&
-                                           all.lines == 2 && all.kept == 1 && all.written == header + good);
-    row("nothing after that either", are_same(cityseq_answer_then(&all, &first, header), all));
+    test_case("a part with an invalid line", all.status == CITYSEQ_REFUSED && all.line == 3 &&
+                                                 all.place == 1 && all.code == 4 &&
+                                                 all.lines == 2 && all.kept == 1 &&
+                                                 all.written == header + good);
+    test_case("nothing after that either",
+              are_same(cityseq_answer_then(&all, &first, header), all));
 }
 
 /* Joins where the output of the next part has no room for its last line. */
@@ -526,11 +545,14 @@ static void joins_without_room(void)
     struct cityseq_answer first = cityseq_filter(header_line, header, good_line, good, &r, out, header + good, NULL, 0);
     length = (size_t)snprintf(part, sizeof part, "%s{\n%s", good_line, good_line);
     struct cityseq_answer next = cityseq_filter(header_line, header, part, length, &r, out, header + good + 9, NULL, 0);
-    row("a feature and a report", next.status == CITYSEQ_NO_ROOM && next.lines == 3 && next.kept == 1 && next.refused == 1);
+    test_case("a feature and a report", next.status == CITYSEQ_NO_ROOM && next.lines == 3 &&
+                                            next.kept == 1 && next.refused == 1);
     struct cityseq_answer all = cityseq_answer_then(&first, &next, header);
-    row("a part that does not fit", all.status == CITYSEQ_NO_ROOM && !all.code && !all.line && !all.place);
-    row("its lines count", all.lines == 4 && all.kept == 2 && all.refused == 1 && all.written == header + 2 * good);
-    row("nothing after it", are_same(cityseq_answer_then(&all, &first, header), all));
+    test_case("a part that does not fit",
+              all.status == CITYSEQ_NO_ROOM && !all.code && !all.line && !all.place);
+    test_case("its lines count", all.lines == 4 && all.kept == 2 && all.refused == 1 &&
+                                     all.written == header + 2 * good);
+    test_case("nothing after it", are_same(cityseq_answer_then(&all, &first, header), all));
 }
 
 static int has_peaks(struct cityseq_answer a, uint64_t bytes, uint64_t tokens, uint64_t depth)
@@ -547,20 +569,30 @@ static void peaks(void)
     char out[400];
     size_t header = strlen(header_line), good = strlen(good_line);
     struct cityseq_answer first = ask(&r, header_line, good_line), alone = ask(&r, header_line, ""), next, full;
-    row("peaks of a feature", first.status == CITYSEQ_COMPLETE && has_peaks(first, 205, 34, 3));
-    row("peaks of a header", alone.status == CITYSEQ_COMPLETE && has_peaks(alone, 116, 21, 3));
+    test_case("peaks of a feature",
+              first.status == CITYSEQ_COMPLETE && has_peaks(first, 205, 34, 3));
+    test_case("peaks of a header",
+              alone.status == CITYSEQ_COMPLETE && has_peaks(alone, 116, 21, 3));
     next = ask(&r, "{\"a\":[]}\n", good_line);
-    row("peaks of an invalid header", next.status == CITYSEQ_REFUSED && next.line == 1 && has_peaks(next, 8, 3, 2));
+    test_case("peaks of an invalid header",
+              next.status == CITYSEQ_REFUSED && next.line == 1 && has_peaks(next, 8, 3, 2));
     next = ask(&r, header_line, invalid);
-    row("peaks at an invalid line", next.status == CITYSEQ_REFUSED && next.line == 2 && has_peaks(next, 142, 24, 3));
-    row("the same after a header", has_peaks(cityseq_answer_then(&alone, &next, header), 142, 24, 3));
-    row("the same after a feature", has_peaks(cityseq_answer_then(&first, &next, header), 205, 34, 3));
+    test_case("peaks at an invalid line",
+              next.status == CITYSEQ_REFUSED && next.line == 2 && has_peaks(next, 142, 24, 3));
+    test_case("the same after a header",
+              has_peaks(cityseq_answer_then(&alone, &next, header), 142, 24, 3));
+    test_case("the same after a feature",
+              has_peaks(cityseq_answer_then(&first, &next, header), 205, 34, 3));
     full = cityseq_filter(header_line, header, good_line, good, &r, out, header, NULL, 0);
-    row("peaks without room", full.status == CITYSEQ_NO_ROOM && full.lines == 1 && has_peaks(full, 205, 34, 3));
-    row("the same after a header alone", has_peaks(cityseq_answer_then(&alone, &full, header), 205, 34, 3));
+    test_case("peaks without room",
+              full.status == CITYSEQ_NO_ROOM && full.lines == 1 && has_peaks(full, 205, 34, 3));
+    test_case("the same after a header alone",
+              has_peaks(cityseq_answer_then(&alone, &full, header), 205, 34, 3));
     next = ask(&r, header_line, "{\n");
-    row("peaks at a line that is no text", next.status == CITYSEQ_REFUSED && next.peak_bytes == 117);
-    row("what it may add", next.peak_tokens >= 21 && next.peak_tokens <= 22 && next.peak_depth == 3);
+    test_case("peaks at a line that is no text",
+              next.status == CITYSEQ_REFUSED && next.peak_bytes == 117);
+    test_case("what it may add",
+              next.peak_tokens >= 21 && next.peak_tokens <= 22 && next.peak_depth == 3);
 }
 
 static int is_number(struct cityseq_decimal n, unsigned negative, uint64_t high, uint64_t low, int power)
@@ -578,19 +610,24 @@ static void transforms(void)
     struct cityseq_tally tally, empty, other;
     size_t length = strlen(good_line);
     cityseq_info(header, sizeof header - 1, good_line, length, &r, &tally, NULL, 0);
-    row("a transform", tally.transformed == 1 && tally.features == 1);
-    row("scales", is_number(tally.scale[0], 0, 0, 1, -3) && is_number(tally.scale[1], 0, 0, 1, -18) &&
-                      is_number(tally.scale[2], 1, 0, 25, -1));
-    row("translations", is_number(tally.translate[0], 0, 0, 0, 0) && is_number(tally.translate[1], 0, 0, 85, 3) &&
-                            is_number(tally.translate[2], 0, 6692605942763486u, 16927977054893030080u, -6));
+    test_case("a transform", tally.transformed == 1 && tally.features == 1);
+    test_case("scales", is_number(tally.scale[0], 0, 0, 1, -3) &&
+                            is_number(tally.scale[1], 0, 0, 1, -18) &&
+                            is_number(tally.scale[2], 1, 0, 25, -1));
+    test_case("translations",
+              is_number(tally.translate[0], 0, 0, 0, 0) &&
+                  is_number(tally.translate[1], 0, 0, 85, 3) &&
+                  is_number(tally.translate[2], 0, 6692605942763486u, 16927977054893030080u, -6));
     cityseq_info("{}\n", 3, good_line, length, &r, &empty, NULL, 0);
-    row("no transform of an invalid header", !empty.transformed && is_number(empty.scale[0], 0, 0, 0, 0));
+    test_case("no transform of an invalid header",
+              !empty.transformed && is_number(empty.scale[0], 0, 0, 0, 0));
     memset(&empty, 0, sizeof empty), other = cityseq_tally_then(&empty, &tally);
-    row("no tally, and then one", !memcmp(&other, &tally, sizeof other));
+    test_case("no tally, and then one", !memcmp(&other, &tally, sizeof other));
     other = cityseq_tally_then(&tally, &tally);
-    row("one transform of two parts", other.features == 2 && other.transformed == 1 &&
-                                          !memcmp(other.scale, tally.scale, sizeof other.scale) &&
-                                          !memcmp(other.translate, tally.translate, sizeof other.translate));
+    test_case("one transform of two parts",
+              other.features == 2 && other.transformed == 1 &&
+                  !memcmp(other.scale, tally.scale, sizeof other.scale) &&
+                  !memcmp(other.translate, tally.translate, sizeof other.translate));
 }
 
 /* Returns where a part ends. It looks at one byte after another. */
@@ -617,7 +654,7 @@ static void part_ends(void)
             for (size_t wanted = 0; wanted <= length + 1; wanted++)
                 wrong += cityseq_part_end(part, length, wanted) != slow_part_end(part, length, wanted);
         }
-    row("ends of parts", !wrong && cityseq_part_end("\n", 1, SIZE_MAX) == 1);
+    test_case("ends of parts", !wrong && cityseq_part_end("\n", 1, SIZE_MAX) == 1);
 }
 
 /* Where lines begin: of a header and lines of 0 to 3 bytes, with and without the last LF. */
@@ -628,11 +665,13 @@ static void line_begins(void)
     int wrong = 0;
     for (uint64_t line = 0; line < 6; line++)
         wrong += cityseq_line_begin("{}\n", 3, part, sizeof part - 1, line) != begins[line];
-    row("lines begin", !wrong);
-    row("no such line", cityseq_line_begin("{}\n", 3, part, 10, 6) == 13 &&
-                            cityseq_line_begin("{}\n", 3, part, 9, UINT64_MAX) == 12);
-    row("a header alone", cityseq_line_begin("{}", 2, NULL, 0, 1) == 0 && cityseq_line_begin("{}", 2, NULL, 0, 2) == 2);
-    row("no header", cityseq_line_begin("{}", 2, part, 10, 3) == 0 && cityseq_line_begin(NULL, 0, NULL, 0, 2) == 0);
+    test_case("lines begin", !wrong);
+    test_case("no such line", cityseq_line_begin("{}\n", 3, part, 10, 6) == 13 &&
+                                  cityseq_line_begin("{}\n", 3, part, 9, UINT64_MAX) == 12);
+    test_case("a header alone", cityseq_line_begin("{}", 2, NULL, 0, 1) == 0 &&
+                                    cityseq_line_begin("{}", 2, NULL, 0, 2) == 2);
+    test_case("no header", cityseq_line_begin("{}", 2, part, 10, 3) == 0 &&
+                               cityseq_line_begin(NULL, 0, NULL, 0, 2) == 0);
 }
 
 /* NULL for pointers to no bytes, no reports and no texts. */
@@ -640,25 +679,29 @@ static void nulls(void)
 {
     struct cityseq_request r = CITYSEQ_USUAL;
     struct cityseq_answer a = cityseq_check(NULL, 0, NULL, 0, &r, NULL, 0);
-    row("no header, no part", a.status == CITYSEQ_REFUSED && a.code == CITYSEQ_REASON_NO_HEADER && a.line == 1);
+    test_case("no header, no part",
+              a.status == CITYSEQ_REFUSED && a.code == CITYSEQ_REASON_NO_HEADER && a.line == 1);
     a = cityseq_check(header_line, strlen(header_line), NULL, 0, &r, NULL, 0);
-    row("no part", a.status == CITYSEQ_COMPLETE && a.lines == 1);
+    test_case("no part", a.status == CITYSEQ_COMPLETE && a.lines == 1);
     a = cityseq_check(NULL, 0, good_line, strlen(good_line), &r, NULL, 0);
-    row("a part without a header", a.status == CITYSEQ_BAD_REQUEST && a.code == CITYSEQ_NO_LINE);
+    test_case("a part without a header",
+              a.status == CITYSEQ_BAD_REQUEST && a.code == CITYSEQ_NO_LINE);
     a = cityseq_filter(header_line, strlen(header_line), NULL, 0, &r, NULL, 0, NULL, 0);
-    row("no output", a.status == CITYSEQ_NO_ROOM && a.lines == 0 && a.written == 0);
+    test_case("no output", a.status == CITYSEQ_NO_ROOM && a.lines == 0 && a.written == 0);
     r.keep_going = 1, a = cityseq_check(header_line, strlen(header_line), "{\n", 2, &r, NULL, 0);
-    row("a report for no room", a.status == CITYSEQ_COMPLETE && a.refused == 1);
+    test_case("a report for no room", a.status == CITYSEQ_COMPLETE && a.refused == 1);
     r.ids = r.types = r.lods = r.box = NULL;
-    row("texts that are not asked", ask(&r, header_line, good_line).kept == 1);
+    test_case("texts that are not asked", ask(&r, header_line, good_line).kept == 1);
     r.asks_ids = 1;
-    row("no id at all", ask(&r, header_line, good_line).kept == 0);
+    test_case("no id at all", ask(&r, header_line, good_line).kept == 0);
     r.asks_ids = 0, r.asks_types = r.asks_lods = r.exclude = 1;
-    row("no type and no LoD, left out", ask(&r, header_line, good_line).kept == 1);
+    test_case("no type and no LoD, left out", ask(&r, header_line, good_line).kept == 1);
     r.asks_box = 1, a = ask(&r, header_line, good_line);
-    row("no box at all", a.status == CITYSEQ_BAD_REQUEST && a.code == CITYSEQ_BAD_BOX && a.list == CITYSEQ_LIST_BOX && !a.item);
-    row("no end", cityseq_part_end(NULL, 0, 0) == 0 && cityseq_part_end(NULL, 0, 9) == 0);
-    row("no text", cityseq_reason_text(4, NULL, 0) == 6 && cityseq_type_name(1, NULL, 0) == 8 && cityseq_version(NULL, 0) == 5);
+    test_case("no box at all", a.status == CITYSEQ_BAD_REQUEST && a.code == CITYSEQ_BAD_BOX &&
+                                   a.list == CITYSEQ_LIST_BOX && !a.item);
+    test_case("no end", cityseq_part_end(NULL, 0, 0) == 0 && cityseq_part_end(NULL, 0, 9) == 0);
+    test_case("no text", cityseq_reason_text(4, NULL, 0) == 6 &&
+                             cityseq_type_name(1, NULL, 0) == 8 && cityseq_version(NULL, 0) == 5);
 }
 
 /* The reasons, as docs/RULES.md has them. */
@@ -701,24 +744,29 @@ static void reason_texts(void)
     unsigned known = 0;
     for (size_t i = 0; i < sizeof reasons / sizeof *reasons; i++) {
         size_t length = cityseq_reason_text(reasons[i].code, text, sizeof text);
-        row(reasons[i].text, length == strlen(reasons[i].text) && !memcmp(text, reasons[i].text, length));
+        test_case(reasons[i].text,
+                  length == strlen(reasons[i].text) && !memcmp(text, reasons[i].text, length));
     }
     for (uint64_t code = 0; code < 1000; code++)
         known += cityseq_reason_text(code, text, sizeof text) != 0;
-    row("no other reason", known == sizeof reasons / sizeof *reasons);
+    test_case("no other reason", known == sizeof reasons / sizeof *reasons);
 }
 
 static void texts(void)
 {
     char text[64];
     memset(text, '.', sizeof text);
-    row("the first letters", cityseq_reason_text(CITYSEQ_REASON_SYNTAX, text, 3) == 6 && !memcmp(text, "syn...", 6));
-    row("a type", cityseq_type_name(1, text, sizeof text) == 8 && !memcmp(text, "Building", 8));
-    row("the last type", cityseq_type_name(32, text, sizeof text) == 10 && !memcmp(text, "TunnelPart", 10));
-    row("types of extensions", cityseq_type_name(33, text, sizeof text) == 9 && !memcmp(text, "extension", 9));
-    row("the interface", cityseq_interface() == CITYSEQ_INTERFACE);
-    row("the version", cityseq_version(text, sizeof text) == 5 && !memcmp(text, "0.2.0", 5));
-    row("no type", cityseq_type_name(CITYSEQ_TYPES, text, sizeof text) == 0);
+    test_case("the first letters", cityseq_reason_text(CITYSEQ_REASON_SYNTAX, text, 3) == 6 &&
+                                       !memcmp(text, "syn...", 6));
+    test_case("a type",
+              cityseq_type_name(1, text, sizeof text) == 8 && !memcmp(text, "Building", 8));
+    test_case("the last type",
+              cityseq_type_name(32, text, sizeof text) == 10 && !memcmp(text, "TunnelPart", 10));
+    test_case("types of extensions",
+              cityseq_type_name(33, text, sizeof text) == 9 && !memcmp(text, "extension", 9));
+    test_case("the interface", cityseq_interface() == CITYSEQ_INTERFACE);
+    test_case("the version", cityseq_version(text, sizeof text) == 5 && !memcmp(text, "0.2.0", 5));
+    test_case("no type", cityseq_type_name(CITYSEQ_TYPES, text, sizeof text) == 0);
 }
 
 static void *call_often(void *unused)
@@ -743,7 +791,7 @@ static void at_once(void)
         pthread_join(started[i], &one);
         good += (uintptr_t)one;
     }
-    row("threads at once", good == (uintptr_t)threads * rounds);
+    test_case("threads at once", good == (uintptr_t)threads * rounds);
 }
 
 int main(int count, char **words)

@@ -10,7 +10,7 @@ import sys
 
 HERE = os.path.dirname(os.path.abspath(__file__))
 sys.path.insert(0, os.path.join(HERE, "..", "..", "vectors"))
-from table import rows, run, wanted_of  # noqa: E402
+from table import cases, run, wanted_of  # noqa: E402
 
 HEADER = (
     b'{"type":"CityJSON","version":"2.0","transform":{"scale":[0.5,1,1e-3],"translate":[0,-7,0.25]},'
@@ -86,19 +86,19 @@ def parse(written):
     return answer, reports, rest
 
 
-def try_vector(test, row):
+def try_vector(test, case):
     """What of a vector comes out otherwise."""
-    query = [] if row["query"] == "-" else row["query"].split(" ")
-    written, said, status = run([test, row["line limit"], row["depth"], *query], row["text"])
+    query = [] if case["query"] == "-" else case["query"].split(" ")
+    written, said, status = run([test, case["line limit"], case["depth"], *query], case["text"])
     if status != 0:
         return [said]
     answer, _, output = parse(written)
-    wanted, fault, _ = wanted_of(row)
+    wanted, fault, _ = wanted_of(case)
     line = (b"1", told(fault)) if fault else (b"0", None)
     wrong = [] if output == wanted else [f"output {output!r}"]
     wrong += [] if ending(answer) == line else [f"ending {answer}"]
-    wrong += [] if answer[4].decode() == row["lines"] else [f"lines {answer[4]}"]
-    if row["peaks"] != "-" and b" ".join(answer[7:10]).decode() != row["peaks"]:
+    wrong += [] if answer[4].decode() == case["lines"] else [f"lines {answer[4]}"]
+    if case["peaks"] != "-" and b" ".join(answer[7:10]).decode() != case["peaks"]:
         wrong.append(f"peaks {answer[7:10]}")
     return wrong
 
@@ -122,7 +122,7 @@ def try_random(test, program, number):
 
 def main(test, program):
     passed = failed = 0
-    tried = [(row["name"], try_vector(test, row)) for row in rows()]
+    tried = [(case["name"], try_vector(test, case)) for case in cases()]
     tried += [
         (f"random stream {number}", try_random(test, program, number)) for number in range(STREAMS)
     ]

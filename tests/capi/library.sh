@@ -17,7 +17,7 @@ compiler=${CC:-cc}
 strict='-std=c11 -Wall -Wextra -Werror -O2 -D_GNU_SOURCE'
 
 # Counts a command as passed if its status is 0. Otherwise it shows what the command printed.
-row() {
+test_case() {
   local name=$1
   shift
   if "$@" > "$scratch/printed" 2>&1; then
@@ -55,31 +55,35 @@ example_agrees() {
 }
 
 if [ "${2:-}" = --built ]; then
-  row 'the library is built' test -e c/out/libcityseq.a -a -e c/out/libcityseq.so
+  test_case 'the library is built' test -e c/out/libcityseq.a -a -e c/out/libcityseq.so
 else
-  row 'the library is built' c/build.sh
+  test_case 'the library is built' c/build.sh
 fi
-row 'the example is compiled' "$compiler" $strict c/example.c c/out/libcityseq.a -o "$scratch/example"
-row 'the tests are compiled' "$compiler" $strict tests/capi/library.c c/out/libcityseq.a -pthread -o "$scratch/library"
-row 'the tests are compiled over the shared library' \
+test_case 'the example is compiled' \
+  "$compiler" $strict c/example.c c/out/libcityseq.a -o "$scratch/example"
+test_case 'the tests are compiled' \
+  "$compiler" $strict tests/capi/library.c c/out/libcityseq.a -pthread -o "$scratch/library"
+test_case 'the tests are compiled over the shared library' \
   "$compiler" $strict tests/capi/library.c -Lc/out -lcityseq -Wl,-rpath,"$PWD/c/out" -pthread -o "$scratch/shared"
 for language in gcc:c:c99 gcc:c:c11 g++:c++:c++11 clang:c:c99 clang:c:c11 clang++:c++:c++11; do
   IFS=: read -r by of standard <<< "$language"
   if command -v "$by" > "$scratch/unread"; then
-    row "the header by $by as $standard" "$by" "-std=$standard" -Wall -Wextra -Wpedantic -Werror -fsyntax-only -x "$of" c/cityseq.h
+    test_case "the header by $by as $standard" "$by" "-std=$standard" \
+      -Wall -Wextra -Wpedantic -Werror -fsyntax-only -x "$of" c/cityseq.h
   else
     echo "left out: the header by $by as $standard, for want of the compiler"
   fi
 done
 for stream in examples/*.city.jsonl vectors/byte-order-mark.jsonl; do
-  row "the example on $stream" example_agrees "$stream"
+  test_case "the example on $stream" example_agrees "$stream"
 done
-row 'the example on no file' eval '! "$scratch/example" "$scratch/none"'
-count "$scratch/library" rows
-count "$scratch/shared" rows
-row 'the tests of the stack are compiled' "$compiler" $strict tests/capi/library_stack.c c/out/libcityseq.a -pthread -o "$scratch/stack"
+test_case 'the example on no file' eval '! "$scratch/example" "$scratch/none"'
+count "$scratch/library" cases
+count "$scratch/shared" cases
+test_case 'the tests of the stack are compiled' \
+  "$compiler" $strict tests/capi/library_stack.c c/out/libcityseq.a -pthread -o "$scratch/stack"
 count "$scratch/stack"
-row 'the tests of the memory are compiled' \
+test_case 'the tests of the memory are compiled' \
   "$compiler" $strict -Wl,--wrap=malloc,--wrap=realloc,--wrap=free tests/capi/library_memory.c c/out/libcityseq.a -o "$scratch/memory"
 count "$scratch/memory"
 cpp_compiler=${CXX:-c++}
@@ -92,18 +96,20 @@ else
     sanitizers=
     echo 'left out: sanitizers, which the compiler does not have'
   }
-  row 'the tests of streams are compiled' \
+  test_case 'the tests of streams are compiled' \
     "$cpp_compiler" $strict_cpp $sanitizers tests/capi/library_stream.cpp c/out/libcityseq.a -o "$scratch/stream"
   count "$scratch/stream" vectors examples
-  row 'the tests of helpers are compiled' \
+  test_case 'the tests of helpers are compiled' \
     "$cpp_compiler" $strict_cpp $sanitizers tests/capi/library_helpers.cpp c/out/libcityseq.a -o "$scratch/helpers"
   count "$scratch/helpers"
 fi
 if command -v valgrind > "$scratch/unread"; then
-  row 'rows under valgrind' valgrind -q --error-exitcode=9 --leak-check=full "$scratch/library" rows
-  row 'the example under valgrind' valgrind -q --error-exitcode=9 --leak-check=full "$scratch/example" examples/town.city.jsonl
+  test_case 'test cases under valgrind' \
+    valgrind -q --error-exitcode=9 --leak-check=full "$scratch/library" cases
+  test_case 'the example under valgrind' \
+    valgrind -q --error-exitcode=9 --leak-check=full "$scratch/example" examples/town.city.jsonl
 else
-  echo 'left out: rows under valgrind, which is not here'
+  echo 'left out: test cases under valgrind, which is not here'
 fi
 count python3 tests/capi/library.py "$scratch/library" "$program"
 count python3 tests/capi/library_features.py c/out/libcityseq.so "$program"

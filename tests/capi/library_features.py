@@ -17,7 +17,7 @@ sys.path.insert(0, os.path.join(HERE, "..", "..", "vectors"))
 sys.path.insert(0, HERE)
 from library import OPTIONS, STREAMS, random_stream  # noqa: E402
 
-from table import rows, run  # noqa: E402
+from table import cases, run  # noqa: E402
 
 FLAGS = (
     "keep_going",
@@ -282,10 +282,10 @@ def main(path: str, program: str) -> int:
     library.cityseq_features.restype = Answer
     library.cityseq_type_name.restype = ctypes.c_size_t
     tried = []
-    for row in rows():
-        query = [] if row["query"] == "-" else row["query"].split(" ")
-        limits = (int(row["line limit"]), int(row["depth"]))
-        tried.append((row["name"], try_stream(library, program, row["text"], query, limits)))
+    for case in cases():
+        query = [] if case["query"] == "-" else case["query"].split(" ")
+        limits = (int(case["line limit"]), int(case["depth"]))
+        tried.append((case["name"], try_stream(library, program, case["text"], query, limits)))
     for number in range(STREAMS):
         chance = random.Random(number)
         text, options = with_attributes(chance, random_stream(chance)), chance.choice(OPTIONS)

@@ -10,7 +10,7 @@ using namespace std::string_literals;
 
 unsigned passed = 0, failed = 0;
 
-void row(const std::string &name, bool holds) {
+void test_case(const std::string &name, bool holds) {
     ++(holds ? passed : failed);
     if (!holds)
         std::printf("%s: failed\n", name.c_str());
@@ -44,54 +44,58 @@ const std::string plain = line_of(R"("b")", R"("b":{"type":"Building"})", "[1,-2
 // ---- texts
 
 void texts() {
-    row("a plain text", cityseq::unescaped(R"("a b")") == "a b");
-    row("no text", cityseq::unescaped(R"("")").empty());
-    row("UTF-8 stays", cityseq::unescaped("\"\xc3\xa9\"") == "\xc3\xa9");
-    row("short escapes", cityseq::unescaped(R"("\"\\\/\b\f\n\r\t")") == "\"\\/\b\f\n\r\t");
-    row("a NUL", cityseq::unescaped(R"("a\u0000b")") == "a\0b"s);
-    row("one byte to three",
-        cityseq::unescaped(R"("\u0041\u00e9\u20AC")") == "A\xc3\xa9\xe2\x82\xac");
-    row("the edges", cityseq::unescaped(R"("\u007f\u0080\u07ff\u0800\uffff")") ==
-                         "\x7f\xc2\x80\xdf\xbf\xe0\xa0\x80\xef\xbf\xbf");
-    row("a pair", cityseq::unescaped(R"("\ud83d\uDE00!")") == "\xf0\x9f\x98\x80!");
-    row("the first pair and the last one",
-        cityseq::unescaped(R"("\ud800\udc00\udbff\udfff")") == "\xf0\x90\x80\x80\xf4\x8f\xbf\xbf");
-    row("a lone surrogate", cityseq::unescaped(R"("\ud800")") == "\xed\xa0\x80");
-    row("and one before a letter", cityseq::unescaped(R"("\ud800\u0042")") == "\xed\xa0\x80\x42");
-    row("and a second half", cityseq::unescaped(R"("\udc00\ud800")") == "\xed\xb0\x80\xed\xa0\x80");
+    test_case("a plain text", cityseq::unescaped(R"("a b")") == "a b");
+    test_case("no text", cityseq::unescaped(R"("")").empty());
+    test_case("UTF-8 stays", cityseq::unescaped("\"\xc3\xa9\"") == "\xc3\xa9");
+    test_case("short escapes", cityseq::unescaped(R"("\"\\\/\b\f\n\r\t")") == "\"\\/\b\f\n\r\t");
+    test_case("a NUL", cityseq::unescaped(R"("a\u0000b")") == "a\0b"s);
+    test_case("one byte to three",
+              cityseq::unescaped(R"("\u0041\u00e9\u20AC")") == "A\xc3\xa9\xe2\x82\xac");
+    test_case("the edges", cityseq::unescaped(R"("\u007f\u0080\u07ff\u0800\uffff")") ==
+                               "\x7f\xc2\x80\xdf\xbf\xe0\xa0\x80\xef\xbf\xbf");
+    test_case("a pair", cityseq::unescaped(R"("\ud83d\uDE00!")") == "\xf0\x9f\x98\x80!");
+    test_case("the first pair and the last one",
+              cityseq::unescaped(R"("\ud800\udc00\udbff\udfff")") ==
+                  "\xf0\x90\x80\x80\xf4\x8f\xbf\xbf");
+    test_case("a lone surrogate", cityseq::unescaped(R"("\ud800")") == "\xed\xa0\x80");
+    test_case("and one before a letter",
+              cityseq::unescaped(R"("\ud800\u0042")") == "\xed\xa0\x80\x42");
+    test_case("and a second half",
+              cityseq::unescaped(R"("\udc00\ud800")") == "\xed\xb0\x80\xed\xa0\x80");
     for (const char *wrong :
          {"", "\"", "a", "\"a", R"("\")", R"("\x")", R"("\u12")", R"("\u12g4")"})
-        row("no JSON string: "s + wrong,
-            throws<std::invalid_argument>([&] { cityseq::unescaped(wrong); }));
+        test_case("no JSON string: "s + wrong,
+                  throws<std::invalid_argument>([&] { cityseq::unescaped(wrong); }));
 }
 
 // ---- world coordinates
 
 void coordinates() {
     const cityseq::transform world(header);
-    row("translate alone", world.x(0) == 84616.468 && world.y(0) == -447422.999 && world.z(0) == 0);
-    row("the nearest floats", world.x(1) == 84616.469 && world.x(-17) == 84616.451 &&
-                                  world.x(123456789) == 208073.257 && world.z(3) == 0.003);
-    row("below 0", world.y(1) == -447422.998 && world.y(447422999) == 0);
-    row("by the number of an axis", world(0, 1) == world.x(1) && world(2, 7) == 0.007);
-    row("no other axis", throws<std::out_of_range>([&] { world(3, 0); }));
-    row("without its LF",
-        cityseq::transform(header.substr(0, header.size() - 1)).x(1) == 84616.469);
+    test_case("translate alone",
+              world.x(0) == 84616.468 && world.y(0) == -447422.999 && world.z(0) == 0);
+    test_case("the nearest floats", world.x(1) == 84616.469 && world.x(-17) == 84616.451 &&
+                                        world.x(123456789) == 208073.257 && world.z(3) == 0.003);
+    test_case("below 0", world.y(1) == -447422.998 && world.y(447422999) == 0);
+    test_case("by the number of an axis", world(0, 1) == world.x(1) && world(2, 7) == 0.007);
+    test_case("no other axis", throws<std::out_of_range>([&] { world(3, 0); }));
+    test_case("without its LF",
+              cityseq::transform(header.substr(0, header.size() - 1)).x(1) == 84616.469);
     const cityseq::transform wide(header_of("1e3,-2.5e-22,1e-30", "1e22,1,1e-30"));
-    row("above 2^53 units", wide.x(0) == 1e22 && wide.x(1) == 1e22 + 1e3);
-    row("small numbers", wide.y(4000) == 1 && wide.z(1) == 2e-30 && wide.z(0) == 1e-30);
+    test_case("above 2^53 units", wide.x(0) == 1e22 && wide.x(1) == 1e22 + 1e3);
+    test_case("small numbers", wide.y(4000) == 1 && wide.z(1) == 2e-30 && wide.z(0) == 1e-30);
     const cityseq::transform far(header_of("1e400,1e-400,-1e400", "7,7,0"));
     const double endless = std::numeric_limits<double>::infinity();
-    row("no float is as great", far.x(1) == endless && far.z(1) == -endless && far.x(0) == 7);
-    row("or as small", far.y(1) == 7);
+    test_case("no float is as great", far.x(1) == endless && far.z(1) == -endless && far.x(0) == 7);
+    test_case("or as small", far.y(1) == 7);
     const cityseq::transform one(header_of("1,1,1", "0,0,0"));
     const std::int64_t most = std::numeric_limits<std::int64_t>::max();
-    row("the greatest vertex",
-        one.x(most) == 9223372036854775808.0 && one.x(-most) == -one.x(most));
-    row("no header", throws<std::invalid_argument>([] { cityseq::transform("{}"); }));
-    row("no transform",
-        throws<std::invalid_argument>([] { cityseq::transform(cityseq::tally{}); }));
-    row("by a tally", cityseq::transform(cityseq::info(header).second).x(1) == 84616.469);
+    test_case("the greatest vertex",
+              one.x(most) == 9223372036854775808.0 && one.x(-most) == -one.x(most));
+    test_case("no header", throws<std::invalid_argument>([] { cityseq::transform("{}"); }));
+    test_case("no transform",
+              throws<std::invalid_argument>([] { cityseq::transform(cityseq::tally{}); }));
+    test_case("by a tally", cityseq::transform(cityseq::info(header).second).x(1) == 84616.469);
 }
 
 // ---- features
@@ -102,34 +106,35 @@ void features() {
                          R"("c\"":{"type":"Building","children":["d"],"attributes": {"n":[2]} })");
     const std::string all = header + plain + "\n" + other;
     const cityseq::features found(all);
-    row("as many", found.size() == 2 && found.told().status == CITYSEQ_COMPLETE);
+    test_case("as many", found.size() == 2 && found.told().status == CITYSEQ_COMPLETE);
     std::vector<std::string> ids, texts;
     for (const cityseq::feature &each : found) {
         ids.push_back(each.id());
         texts.push_back(std::string(each.text) + "\n");
     }
-    row("their ids", ids == std::vector<std::string>{"b", "c\""});
-    row("their lines", texts == std::vector<std::string>{plain, other});
-    row("their numbers", found[0].line == 2 && found[1].line == 4 && found[1].objects == 2);
-    row("attributes", found[0].attributes().empty() && found[1].attributes() == R"({"n":[2]})");
-    row("ranges", found[0].ranges[1].some && found[0].ranges[1].least == -2 &&
-                      found[0].ranges[1].greatest == 5 && !found[1].ranges[0].some);
-    row("no third one", throws<std::out_of_range>([&] { found[2]; }));
+    test_case("their ids", ids == std::vector<std::string>{"b", "c\""});
+    test_case("their lines", texts == std::vector<std::string>{plain, other});
+    test_case("their numbers", found[0].line == 2 && found[1].line == 4 && found[1].objects == 2);
+    test_case("attributes",
+              found[0].attributes().empty() && found[1].attributes() == R"({"n":[2]})");
+    test_case("ranges", found[0].ranges[1].some && found[0].ranges[1].least == -2 &&
+                            found[0].ranges[1].greatest == 5 && !found[1].ranges[0].some);
+    test_case("no third one", throws<std::out_of_range>([&] { found[2]; }));
     const cityseq::features asked(all, cityseq::request().ids({"b"}));
-    row("those of a query", asked.size() == 1 && asked[0].id() == "b");
+    test_case("those of a query", asked.size() == 1 && asked[0].id() == "b");
     const cityseq::features part(header, other);
-    row("a header and a part", part.size() == 1 && part[0].begin == 0);
+    test_case("a header and a part", part.size() == 1 && part[0].begin == 0);
     const cityseq::features cut(header + plain + "{\n" + other);
-    row("those before an invalid line",
-        cut.size() == 1 && cut.told().status == CITYSEQ_REFUSED && cut.told().line == 3);
-    row("none", cityseq::features(header).size() == 0);
-    row("nothing at all", cityseq::features("").told().code == CITYSEQ_REASON_NO_HEADER);
+    test_case("those before an invalid line",
+              cut.size() == 1 && cut.told().status == CITYSEQ_REFUSED && cut.told().line == 3);
+    test_case("none", cityseq::features(header).size() == 0);
+    test_case("nothing at all", cityseq::features("").told().code == CITYSEQ_REASON_NO_HEADER);
     std::string many;
     for (int i = 0; i < 5000; i++)
         many += plain;
     const cityseq::features listed(header, many);
-    row("many", listed.size() == 5000 && listed[4999].line == 5001 &&
-                    listed[4999].begin == 4999 * plain.size());
+    test_case("many", listed.size() == 5000 && listed[4999].line == 5001 &&
+                          listed[4999].begin == 4999 * plain.size());
 }
 
 // ---- places
@@ -148,25 +153,26 @@ void places() {
     offset = offset.after(told, first.size());
     check(next, reports + 2, 1);
     reports[2] = cityseq::moved(reports[2], offset);
-    row("a report of the second part",
-        reports[2].line == 7 && reports[2].place == 0 &&
-            reports[2].begin == header.size() + first.size() + plain.size() + 1);
-    row("the first part stays", cityseq::moved(reports[0], {}).line == 2 &&
-                                    cityseq::moved(reports[0], {}).begin == header.size());
+    test_case("a report of the second part",
+              reports[2].line == 7 && reports[2].place == 0 &&
+                  reports[2].begin == header.size() + first.size() + plain.size() + 1);
+    test_case("the first part stays", cityseq::moved(reports[0], {}).line == 2 &&
+                                          cityseq::moved(reports[0], {}).begin == header.size());
     try {
         cityseq::check(header, cityseq::request().types({"Road", "Building", "Hut"}));
-        row("an unknown type", false);
+        test_case("an unknown type", false);
     } catch (const cityseq::bad_request &fault) {
-        row("an unknown type", fault.code() == CITYSEQ_UNKNOWN_TYPE &&
-                                   fault.list() == CITYSEQ_LIST_TYPES && fault.item() == 2);
-        row("and its words", fault.what() == "cityseq: bad request, fault 5, list 2, item 2"s);
+        test_case("an unknown type", fault.code() == CITYSEQ_UNKNOWN_TYPE &&
+                                         fault.list() == CITYSEQ_LIST_TYPES && fault.item() == 2);
+        test_case("and its words",
+                  fault.what() == "cityseq: bad request, fault 5, list 2, item 2"s);
     }
     try {
         cityseq::features(header, cityseq::request().depth_limit(0));
-        row("no list", false);
+        test_case("no list", false);
     } catch (const cityseq::bad_request &fault) {
-        row("no list", fault.list() == 0 && fault.item() == 0 &&
-                           fault.what() == "cityseq: bad request, fault 2"s);
+        test_case("no list", fault.list() == 0 && fault.item() == 0 &&
+                                 fault.what() == "cityseq: bad request, fault 2"s);
     }
 }
 

@@ -164,7 +164,7 @@ static void try_calls(const char *name, const char *head, struct text part, stru
     free(room);
 }
 
-/* ---- rows */
+/* ---- test cases */
 
 static void try_limits(const char *name, struct text part)
 {

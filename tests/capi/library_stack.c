@@ -208,11 +208,11 @@ static size_t taken(struct run *run)
     return bytes;
 }
 
-/* ---- rows */
+/* ---- test cases */
 
 static unsigned passed, failed;
 
-struct row {
+struct test_case {
     const char *name;
     void (*make)(struct text *, size_t, size_t);
     size_t limit, count; /* the line's bytes and the number of things, as far as the limit goes */
@@ -234,25 +234,25 @@ static void add_header(struct text *header, bool templates)
     add(header, "}\n");
 }
 
-static void prepare(struct run *run, const struct row *row)
+static void prepare(struct run *run, const struct test_case *tried)
 {
     memset(run, 0, sizeof *run);
-    add_header(&run->header, row->make == instances);
-    row->make(&run->line, row->limit, row->count);
+    add_header(&run->header, tried->make == instances);
+    tried->make(&run->line, tried->limit, tried->count);
     run->request = (struct cityseq_request)CITYSEQ_USUAL;
-    run->request.line_limit = row->limit;
+    run->request.line_limit = tried->limit;
     run->output = malloc(run->header.length + run->line.length + sizeof(struct cityseq_tally));
-    if (!run->output || run->line.length > row->limit + 1)
+    if (!run->output || run->line.length > tried->limit + 1)
         exit(3);
 }
 
 /* Tries one stream by each call, with `tree` and without it. */
-static void try_row(const struct row *row)
+static void try_case(const struct test_case *tried)
 {
     struct run run;
-    prepare(&run, row);
-    char *stack = new_stack(row->most);
-    printf("%-28s %9zu bytes:", row->name, run.line.length - 1);
+    prepare(&run, tried);
+    char *stack = new_stack(tried->most);
+    printf("%-28s %9zu bytes:", tried->name, run.line.length - 1);
     for (int tree = 0; tree < 2; tree++) {
         for (run.call = 0; run.call < calls; run.call++) {
             run.request.tree = tree;
@@ -262,15 +262,15 @@ static void try_row(const struct row *row)
             size_t bytes = taken(&run);
             printf(" %s%s %zu", call_names[run.call], tree ? "+tree" : "", bytes);
             fflush(stdout);
-            perform_on(&run, stack, row->most);
-            bool held = bytes <= row->most && bytes <= cityseq_stack(&run.request) &&
-                        run.answer.status == row->status[tree];
+            perform_on(&run, stack, tried->most);
+            bool held = bytes <= tried->most && bytes <= cityseq_stack(&run.request) &&
+                        run.answer.status == tried->status[tree];
             passed += held;
             failed += !held;
         }
     }
     puts("");
-    munmap(stack, row->most + page);
+    munmap(stack, tried->most + page);
     free(run.header.bytes);
     free(run.line.bytes);
     free(run.output);
@@ -279,7 +279,7 @@ static void try_row(const struct row *row)
 /* 0 is CITYSEQ_COMPLETE, and 1 CITYSEQ_REFUSED */
 enum { usual = 8388608, short_line = 65536, all = 1 << 30 };
 
-static const struct row rows[] = {
+static const struct test_case cases[] = {
     { "256 parts", parts, usual, 256, 65536, { 0, 0 } },
     { "a chain of 256", chain, usual, 256, 65536, { 0, 0 } },
     { "256 instances", instances, usual, 256, 65536, { 0, 1 } },
@@ -300,8 +300,8 @@ static const struct row rows[] = {
 
 int main(void)
 {
-    for (size_t i = 0; i < sizeof rows / sizeof *rows; i++)
-        try_row(&rows[i]);
+    for (size_t i = 0; i < sizeof cases / sizeof *cases; i++)
+        try_case(&cases[i]);
     printf("%u passed, %u failed\n", passed, failed);
     return failed != 0;
 }

@@ -2,8 +2,8 @@
 //
 // It gives each stream in the folders (*.jsonl) to cityseq::stream, with random requests, and with
 // pieces and parts of random lengths. The answer, the reports, the output and the tally must be
-// those of cityseq.h for the whole stream. Rows try requests, callbacks that throw, long lines and
-// files. The last line is 'N passed, M failed'.
+// those of cityseq.h for the whole stream. Test cases try requests, callbacks that throw, long
+// lines and files. The last line is 'N passed, M failed'.
 #include "../../c/cityseq.hpp"
 #include <cstdio>
 #include <cstring>
@@ -19,7 +19,7 @@ using Chance = std::mt19937;
 constexpr unsigned cuttings = 4;
 unsigned passed = 0, failed = 0;
 
-void row(const std::string &name, bool holds) {
+void test_case(const std::string &name, bool holds) {
     ++(holds ? passed : failed);
     if (!holds)
         std::printf("%s: failed\n", name.c_str());
@@ -101,9 +101,9 @@ Told of_pieces(const std::string &text, const cityseq::request &asked, Chance &c
     cityseq::answer checked = check.finish();
     if (told.answer.status == CITYSEQ_COMPLETE) {
         tallied.written = checked.written = told.answer.written;
-        row("check, filter and info answer the same",
-            std::memcmp(&tallied, &told.answer, sizeof tallied) == 0 &&
-                std::memcmp(&checked, &told.answer, sizeof checked) == 0);
+        test_case("check, filter and info answer the same",
+                  std::memcmp(&tallied, &told.answer, sizeof tallied) == 0 &&
+                      std::memcmp(&checked, &told.answer, sizeof checked) == 0);
     }
     return told;
 }
@@ -134,8 +134,8 @@ void try_folder(const std::string &folder, Chance &chance) {
         read << file.rdbuf();
         for (unsigned i = 0; i < cuttings; i++) {
             const cityseq::request asked = random_request(chance);
-            row(entry.path().string() + ", cut " + std::to_string(i),
-                same(of_whole(read.str(), asked), of_pieces(read.str(), asked, chance)));
+            test_case(entry.path().string() + ", cut " + std::to_string(i),
+                      same(of_whole(read.str(), asked), of_pieces(read.str(), asked, chance)));
         }
     }
 }
@@ -161,38 +161,41 @@ std::uint64_t kept_by(const cityseq::request &asked) {
 }
 
 void requests() {
-    row("the usual request", kept_by({}) == 1);
-    row("an id", kept_by(cityseq::request().ids({"a", "b"})) == 1);
-    row("another id", kept_by(cityseq::request().ids({"a"})) == 0);
-    row("no id", kept_by(cityseq::request().ids({})) == 0);
-    row("the empty id", kept_by(cityseq::request().ids({""})) == 0);
-    row("an id left out", kept_by(cityseq::request().ids({"b"}).exclude()) == 0);
-    row("a text with an LF",
-        throws<std::invalid_argument>([] { cityseq::request().ids({"a\nb"}); }));
+    test_case("the usual request", kept_by({}) == 1);
+    test_case("an id", kept_by(cityseq::request().ids({"a", "b"})) == 1);
+    test_case("another id", kept_by(cityseq::request().ids({"a"})) == 0);
+    test_case("no id", kept_by(cityseq::request().ids({})) == 0);
+    test_case("the empty id", kept_by(cityseq::request().ids({""})) == 0);
+    test_case("an id left out", kept_by(cityseq::request().ids({"b"}).exclude()) == 0);
+    test_case("a text with an LF",
+              throws<std::invalid_argument>([] { cityseq::request().ids({"a\nb"}); }));
     std::uint32_t code = 0;
     try {
         cityseq::stream::checking(cityseq::request().types({"House"}));
     } catch (const cityseq::bad_request &fault) {
         code = fault.code();
     }
-    row("an unknown type, before anything is fed", code == CITYSEQ_UNKNOWN_TYPE);
-    row("a line limit of 0",
-        throws<cityseq::bad_request>([] { cityseq::check("", cityseq::request().line_limit(0)); }));
+    test_case("an unknown type, before anything is fed", code == CITYSEQ_UNKNOWN_TYPE);
+    test_case("a line limit of 0", throws<cityseq::bad_request>([] {
+                  cityseq::check("", cityseq::request().line_limit(0));
+              }));
 }
 
 void texts() {
-    row("a reason",
-        cityseq::reason_text(CITYSEQ_REASON_VERTEX_INDEX) == "vertex index out of range");
-    row("no reason", cityseq::reason_text(6).empty());
-    row("a type", cityseq::type_name(1) == "Building" && cityseq::type_name(CITYSEQ_TYPES).empty());
-    row("the version", cityseq::version() == "0.2.0");
+    test_case("a reason",
+              cityseq::reason_text(CITYSEQ_REASON_VERTEX_INDEX) == "vertex index out of range");
+    test_case("no reason", cityseq::reason_text(6).empty());
+    test_case("a type",
+              cityseq::type_name(1) == "Building" && cityseq::type_name(CITYSEQ_TYPES).empty());
+    test_case("the version", cityseq::version() == "0.2.0");
 }
 
 void needs() {
     const auto short_lines = cityseq::request().line_limit(65536).ids({"a", "b"});
-    row("the stack", short_lines.stack() == 131072 && cityseq::request().stack() == 2097152);
-    row("the memory", short_lines.memory(100, 90) == 200 + 24 * 82 + 9 + 192 + 1024);
-    row("the memory under a wrong limit", cityseq::request().line_limit(0).memory(100, 90) == 0);
+    test_case("the stack", short_lines.stack() == 131072 && cityseq::request().stack() == 2097152);
+    test_case("the memory", short_lines.memory(100, 90) == 200 + 24 * 82 + 9 + 192 + 1024);
+    test_case("the memory under a wrong limit",
+              cityseq::request().line_limit(0).memory(100, 90) == 0);
 }
 
 void callbacks() {
@@ -204,38 +207,38 @@ void callbacks() {
             throw 7;
         },
         {}, 1);
-    row("what a callback throws comes through",
-        throws<int>([&] { stream.feed(header + feature + feature); }) && calls == 1);
-    row("and the stream is left", throws<std::logic_error>([&] { stream.feed(feature); }) &&
-                                      throws<std::logic_error>([&] { stream.finish(); }) &&
-                                      calls == 1);
+    test_case("what a callback throws comes through",
+              throws<int>([&] { stream.feed(header + feature + feature); }) && calls == 1);
+    test_case("and the stream is left", throws<std::logic_error>([&] { stream.feed(feature); }) &&
+                                            throws<std::logic_error>([&] { stream.finish(); }) &&
+                                            calls == 1);
     std::vector<std::uint64_t> lines;
     cityseq::check(header + feature + "{\n\n[\n", cityseq::request().keep_going(),
                    [&](const cityseq::report &one) { lines.push_back(one.line); });
-    row("reports by lines of the stream", lines == std::vector<std::uint64_t>{3, 5});
+    test_case("reports by lines of the stream", lines == std::vector<std::uint64_t>{3, 5});
     std::string many = header;
     for (int i = 0; i < 1000; i++)
         many += "{\n";
     lines.clear();
     cityseq::check(many, cityseq::request().keep_going(),
                    [&](const cityseq::report &one) { lines.push_back(one.line); });
-    row("more reports than there was room for",
-        lines.size() == 1000 && lines.front() == 2 && lines.back() == 1001);
+    test_case("more reports than there was room for",
+              lines.size() == 1000 && lines.front() == 2 && lines.back() == 1001);
 }
 
 void ends() {
-    row("nothing at all", cityseq::check("").code == CITYSEQ_REASON_NO_HEADER);
+    test_case("nothing at all", cityseq::check("").code == CITYSEQ_REASON_NO_HEADER);
     cityseq::stream stream = cityseq::stream::checking({}, {}, 1);
-    row("more is wanted after a header", stream.feed(header) && stream.feed(feature));
-    row("and not after an invalid line", !stream.feed("{\n") && !stream.feed(feature));
+    test_case("more is wanted after a header", stream.feed(header) && stream.feed(feature));
+    test_case("and not after an invalid line", !stream.feed("{\n") && !stream.feed(feature));
     const cityseq::answer first = stream.finish(), again = stream.finish();
-    row("the end stays", first.status == CITYSEQ_REFUSED && first.line == 3 &&
-                             std::memcmp(&first, &again, sizeof first) == 0);
+    test_case("the end stays", first.status == CITYSEQ_REFUSED && first.line == 3 &&
+                                   std::memcmp(&first, &again, sizeof first) == 0);
     std::string kept;
     const cityseq::answer told =
         cityseq::filter(header + feature, [&](std::string_view lines) { kept += lines; });
-    row("a filter", told.written == kept.size() && kept == header + feature);
-    row("a tally", cityseq::info(header + feature).second.types[1] == 1);
+    test_case("a filter", told.written == kept.size() && kept == header + feature);
+    test_case("a tally", cityseq::info(header + feature).second.types[1] == 1);
 }
 
 // A line of 64 MB, with a limit of 200 bytes, ends a stream before all of it was fed. If reading
@@ -251,22 +254,22 @@ void long_lines() {
             taken++;
         stream.feed("\n" + feature);
         const cityseq::answer told = stream.finish();
-        row(going ? "a long line is passed over" : "a long line is the end",
-            going ? taken == 64 && told.refused == 1 && told.kept == 1
-                  : taken == 0 && told.code == CITYSEQ_REASON_LINE_TOO_LONG);
+        test_case(going ? "a long line is passed over" : "a long line is the end",
+                  going ? taken == 64 && told.refused == 1 && told.kept == 1
+                        : taken == 0 && told.code == CITYSEQ_REASON_LINE_TOO_LONG);
     }
 }
 
 void files() {
     std::istringstream good(header + feature);
     cityseq::stream stream = cityseq::stream::checking({});
-    row("a file", cityseq::read(stream, good).kept == 1);
+    test_case("a file", cityseq::read(stream, good).kept == 1);
     struct broken : std::streambuf {
         int_type underflow() override { throw 1; }
     } buffer;
     std::istream bad(&buffer);
     cityseq::stream other = cityseq::stream::checking({});
-    row("a failed read", throws<std::ios_base::failure>([&] { cityseq::read(other, bad); }));
+    test_case("a failed read", throws<std::ios_base::failure>([&] { cityseq::read(other, bad); }));
 }
 
 } // namespace

@@ -16,7 +16,7 @@ trap 'rm -rf "$scratch"' EXIT
 passed=0 failed=0
 
 # Counts a check as passed if its status is 0, and shows what it printed otherwise.
-row() {
+test_case() {
   local name=$1
   shift
   if "$@" > "$scratch/printed" 2>&1; then
@@ -48,7 +48,7 @@ was_run_without_a_proof() { grep -qx 'try -- filter' "$scratch/words"; }
 
 tree=$PWD
 make_rt "echo '{}'"
-row 'a copy that differs is found' finds_another_copy
+test_case 'a copy that differs is found' finds_another_copy
 if [ -n "$program" ]; then
   make_rt 'shift 2' "exec '$program' \"\$@\""
 else
@@ -56,7 +56,7 @@ else
   mkdir "$tree" && tar -c --exclude=out crates crates.txt examples HANDLES | tar -x -C "$tree" || exit
   make_rt "exec '$(command -v rt)' \"\$@\""
 fi
-row 'the copy is equal' finds_an_equal_copy
-row 'it was run from its sources, without a proof' was_run_without_a_proof
+test_case 'the copy is equal' finds_an_equal_copy
+test_case 'it was run from its sources, without a proof' was_run_without_a_proof
 echo "$passed passed, $failed failed"
 [ "$failed" = 0 ]

@@ -62,7 +62,7 @@ def cut_while_it_changes(counts, folder, chance, output):
     is_whole = run.returncode == 0 and is_of_one_state(output.read_bytes())
     is_refused = run.returncode == 3 and not output.exists() and "changed while it was" in said
     is_late = run.returncode == 3 and "the stream is newer" in said and not output.exists()
-    counts.row(
+    counts.case(
         f"a cut, changed {'while it ran' if is_running else 'after it'}",
         (is_whole or is_refused or is_late) and not parts(folder),
         f"status {run.returncode} {said.strip()}",
@@ -102,7 +102,7 @@ def serve_while_it_changes(counts, folder, rounds):
             text, told = answered(f"{url}collections/s/items?f=city-json-seq")
             timer.join()
             is_right = told == "a whole answer" and is_of_one_state(text) or told in FAULTS
-            counts.row(f"a request, changed after {50 * number} ms", is_right, told)
+            counts.case(f"a request, changed after {50 * number} ms", is_right, told)
     finally:
         server.terminate()
         server.wait()
@@ -120,7 +120,7 @@ def cut_while_the_index_changes(counts, folder, chance):
     said = run.communicate()[1].decode()
     is_whole = run.returncode == 0 and output.read_bytes() == path.read_bytes()
     is_refused = run.returncode == 3 and not output.exists()
-    counts.row(
+    counts.case(
         "a cut of an index that changes",
         is_whole or is_refused,
         f"status {run.returncode} {said.strip()}",
@@ -130,7 +130,7 @@ def cut_while_the_index_changes(counts, folder, chance):
 
 
 def main():
-    """Runs all rows, and returns the status."""
+    """Runs all test cases, and returns the status."""
     asked = argparse.ArgumentParser(description=__doc__.split("\n")[0])
     asked.add_argument("--megabytes", type=int, default=100)
     asked.add_argument("--rounds", type=int, default=8)

@@ -209,8 +209,8 @@ def rounds(counts, folder, number):
         for seed in range(number):
             differ = one_round(cluster, room, seed)
             if differ:
-                counts.row(f"round {seed}", False, repr(differ)[:2_000])
-        counts.row(f"{number} random rounds", True)
+                counts.case(f"round {seed}", False, repr(differ)[:2_000])
+        counts.case(f"{number} random rounds", True)
 
 
 def kills(counts, folder, path):
@@ -230,7 +230,7 @@ def kills(counts, folder, path):
 
             (there,) = cityseq.dask.check(cluster.client, path, part_size=1 << 20, progress=some)
             same = (there.status, there.features) == (0, here.features + 1)
-            counts.row(f"check with {len(killed)} killed workers", same, there.fault or "")
+            counts.case(f"check with {len(killed)} killed workers", same, there.fault or "")
             killed.clear()
             done.clear()
             if turn % 2:
@@ -261,7 +261,7 @@ def kills(counts, folder, path):
                 text = output.read_bytes()
                 output.unlink()
             same = found == here and text == wanted.getvalue()
-            counts.row(f"filter with {len(killed)} killed workers", same)
+            counts.case(f"filter with {len(killed)} killed workers", same)
 
 
 def deadly(counts, folder, _):
@@ -285,7 +285,7 @@ def deadly(counts, folder, _):
         thread.join()
         told = [(int(each.status), each.features) for each in found]
         right = told == [(0, 9), (0, 9), (5, 0), (0, 9), (0, 9)]
-        counts.row("a file that ends each worker", right, f"{told} {found[2].fault}")
+        counts.case("a file that ends each worker", right, f"{told} {found[2].fault}")
     for each in paths:
         each.unlink()
 
@@ -313,7 +313,7 @@ def joins(counts, folder, path):
             each.start()
         with seen_workers() as did:
             found = list(cityseq.dask.check(cluster.client, [path] * 12, part_size=256 << 10))
-        counts.row(f"{len(did)} workers that joined later", len(did) == 3 and all(found))
+        counts.case(f"{len(did)} workers that joined later", len(did) == 3 and all(found))
 
 
 def adapts(counts, folder, path):
@@ -338,7 +338,7 @@ def adapts(counts, folder, path):
     shutil.rmtree(folder / "space", ignore_errors=True)
     told = f"{taken[1]:.1f} s, three fixed workers {taken[0]:.1f} s"
     right = len(found) == 8 and all(found) and len(did) == 3
-    counts.row(f"{len(did)} workers of adapt()", right, told)
+    counts.case(f"{len(did)} workers of adapt()", right, told)
     print(f"adapt(): {told}")
 
 
@@ -371,7 +371,7 @@ def two_clients(counts, folder, path):
             cityseq.filter(output if "output" in where else target, copy)
             few = len(faults) == ("output_dir" in where)  # the second finds the folder of the first
             whole = few and copy.getvalue() in wanted and not parts(folder)
-            counts.row(f"two clients with one {list(where)[0]}", whole, " ".join(map(str, faults)))
+            counts.case(f"two clients with one {list(where)[0]}", whole, " ".join(map(str, faults)))
     output.unlink()
     shutil.rmtree(target)
 
@@ -387,9 +387,9 @@ def wrong_library(counts, folder, path):
         for turn in range(3):
             try:
                 found = list(cityseq.dask.check(cluster.client, path, part_size=256 << 10))
-                counts.row("a worker with another library", False, str(found))
+                counts.case("a worker with another library", False, str(found))
             except cityseq.CityseqError as fault:
-                counts.row(
+                counts.case(
                     "a worker with another library", "the worker tcp://" in str(fault), str(fault)
                 )
     other.unlink()
@@ -410,7 +410,7 @@ def full_disks(counts, folder, path):
             except cityseq.CityseqError as fault:
                 status = int(fault.status)
             right = status == 4 and not parts(folder) and not (folder / "parts").exists()
-            counts.row(f"a full disk: {list(where)[0]}", right, f"status {status}")
+            counts.case(f"a full disk: {list(where)[0]}", right, f"status {status}")
 
 
 def interrupts(counts, folder, path):
@@ -435,13 +435,13 @@ def interrupts(counts, folder, path):
             said = process.communicate(timeout=60)[1].decode()
             right = (process.returncode, said) in ((130, "interrupted\n"), (0, ""))
             right = right and output.exists() == (process.returncode == 0) and not parts(folder)
-            counts.row(
+            counts.case(
                 f"an interrupt after {delay} s", right, f"{process.returncode} {said.strip()}"
             )
             with contextlib.suppress(FileNotFoundError):
                 output.unlink()
         (found,) = cityseq.dask.check(cluster.client, path)
-        counts.row("a run after interrupts", bool(found))
+        counts.case("a run after interrupts", bool(found))
 
 
 def lost_scheduler(counts, folder, path):
@@ -469,7 +469,7 @@ def lost_scheduler(counts, folder, path):
                 said = str(fault)
             right = "is gone, or its tasks were cancelled" in said
             right = right and time.monotonic() - begin < 60 and not (folder / where).exists()
-            counts.row(f"a lost scheduler: {where}", right, said)
+            counts.case(f"a lost scheduler: {where}", right, said)
         for left in parts(folder):  # no worker is there to remove it
             shutil.rmtree(folder / left, ignore_errors=True)
 
@@ -494,7 +494,7 @@ def memory(counts, folder, _):
         )
         said = ran.stdout.split()
         right = said[:2] == ["192", "{1}"] and int(said[-1]) < 250
-        counts.row("192 long lines", right, f"{ran.stdout.strip()} MB {ran.stderr[-500:]}")
+        counts.case("192 long lines", right, f"{ran.stdout.strip()} MB {ran.stderr[-500:]}")
     line.unlink()
 
 

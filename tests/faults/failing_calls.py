@@ -17,7 +17,7 @@ import tempfile
 HERE = os.path.dirname(os.path.abspath(__file__))
 TOP = os.path.dirname(os.path.dirname(HERE))
 sys.path.insert(0, os.path.join(TOP, "vectors"))
-from table import rows, run, wanted_of  # noqa: E402
+from table import cases, run, wanted_of  # noqa: E402
 
 READ_FAULT, WRITE_FAULT = 3, 4
 
@@ -49,27 +49,27 @@ class Calls:
             return [int(count) for count in counts.read().split()]
 
 
-def words_of(row):
+def words_of(case):
     """The command line of a vector."""
-    query = [] if row["query"] == "-" else row["query"].split(" ")
-    return ["filter", "--line-limit", row["line limit"], "--depth", row["depth"], *query]
+    query = [] if case["query"] == "-" else case["query"].split(" ")
+    return ["filter", "--line-limit", case["line limit"], "--depth", case["depth"], *query]
 
 
-def cut_trials(calls, row):
+def cut_trials(calls, case):
     """A vector by single bytes, and cut in two at every place."""
-    wanted, words = wanted_of(row), words_of(row)
-    for asked in [{"READ_SIZE": 1}, *({"CUT": place} for place in range(1, len(row["text"])))]:
-        yield f"{row['name']} {asked}", lambda asked=asked: calls.run(
-            words, row["text"], **asked
+    wanted, words = wanted_of(case), words_of(case)
+    for asked in [{"READ_SIZE": 1}, *({"CUT": place} for place in range(1, len(case["text"])))]:
+        yield f"{case['name']} {asked}", lambda asked=asked: calls.run(
+            words, case["text"], **asked
         ) == wanted
 
 
-def report_trials(calls, row):
+def report_trials(calls, case):
     """What is told of a complete stream, by single bytes."""
-    if row["answer"] == "complete" and row["query"] == "-":
-        words = ["info", *words_of(row)[1:]]
-        whole = run([calls.program, *words], row["text"])
-        yield f"{row['name']} info", lambda: calls.run(words, row["text"], READ_SIZE=1) == whole
+    if case["answer"] == "complete" and case["query"] == "-":
+        words = ["info", *words_of(case)[1:]]
+        whole = run([calls.program, *words], case["text"])
+        yield f"{case['name']} info", lambda: calls.run(words, case["text"], READ_SIZE=1) == whole
 
 
 def read_trials(calls, words, text, wanted):
@@ -120,9 +120,9 @@ def error_trials(calls, words, text, **asked):
     )
 
 
-def failing_trials(calls, rows_by_name):
+def failing_trials(calls, cases_by_name):
     """The calls of each command that fail, over a small stream."""
-    text = rows_by_name["blank-and-no-last-lf"]["text"]
+    text = cases_by_name["blank-and-no-last-lf"]["text"]
     for words in (["check"], ["filter"], ["filter", "--bbox", "1,2,3,4"], ["info"]):
         wanted = run([calls.program, *words], text)[0]
         yield from read_trials(calls, words, text, wanted)
@@ -147,10 +147,10 @@ def passes(number):
 
 def main(program):
     with tempfile.TemporaryDirectory() as scratch:
-        calls, table = Calls(program, scratch), {row["name"]: row for row in rows()}
+        calls, table = Calls(program, scratch), {case["name"]: case for case in cases()}
         TRIALS.extend(failing_trials(calls, table))
-        for row in table.values():
-            TRIALS.extend([*cut_trials(calls, row), *report_trials(calls, row)])
+        for case in table.values():
+            TRIALS.extend([*cut_trials(calls, case), *report_trials(calls, case)])
         with multiprocessing.get_context("fork").Pool() as pool:
             passed = sum(pool.imap_unordered(passes, range(len(TRIALS)), chunksize=64))
     print(f"{passed} passed, {len(TRIALS) - passed} failed")

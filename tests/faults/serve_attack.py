@@ -4,10 +4,10 @@
     tests/faults/serve_attack.py [--connections N] [--time] [PYTHON]
 
 PYTHON runs the server, /usr/bin/python3 if left out. N connections send nothing (500). --time
-prints how long each row took. Each answer has to be a JSON problem (RFC 9457) with the status that
-the row names, or a text if aiohttp could not read the request. The server may say nothing with a
-traceback, and has to end well at the end. Slow heads and more connections are left to the web
-server in front. The last line is 'N passed, M failed', and the status is 0 if none failed.
+prints how long each test case took. Each answer has to be a JSON problem (RFC 9457) with the status
+that the case names, or a text if aiohttp could not read the request. The server may say nothing
+with a traceback, and has to end well at the end. Slow heads and more connections are left to the
+web server in front. The last line is 'N passed, M failed', and the status is 0 if none failed.
 """
 import argparse
 import contextlib
@@ -183,11 +183,11 @@ def sized(path, body, *headers):
 
 
 def raw(request, *wanted):
-    """A row that sends bytes and looks at the answer."""
+    """A test case that sends bytes and looks at the answer."""
     return lambda server: mistake(exchange(server, request), *wanted)
 
 
-# ---- rows: each is given the server, and returns what is wrong
+# ---- test cases: each is given the server, and returns what is wrong
 
 LONG = "x" * (1 << 20)
 ITEMS = "/collections/sample/items"
@@ -459,9 +459,9 @@ def memory(server):
 
 
 def silent_connections(count):
-    """A row with so many connections that send nothing, as many as this process may open."""
+    """A case with so many connections that send nothing, as many as this process may open."""
 
-    def row(server):
+    def case(server):
         soft, hard = resource.getrlimit(resource.RLIMIT_NOFILE)
         wanted = count + 100
         if soft < wanted:
@@ -479,10 +479,10 @@ def silent_connections(count):
                         return f"beside {number + 1} connections: status {status}"
         return ""
 
-    return row
+    return case
 
 
-# rows that wait, which are tried all at once
+# cases that wait, which are tried all at once
 SLOW = {
     "a body that stops": body_that_stops,
     "a body byte by byte": body_byte_by_byte,
@@ -492,8 +492,8 @@ SLOW = {
 }
 
 
-def rows(connections):
-    """All rows: a name, and what looks."""
+def cases(connections):
+    """All test cases: a name, and what looks."""
     for name, (request, *wanted) in {**NOT_HTTP, **BODIES}.items():
         yield name, raw(request, *wanted)
     for name, texts in QUERIES.items():
@@ -513,7 +513,7 @@ def rows(connections):
 
 
 def is_answered(server):
-    """Whether the next good request is answered. After a row with many, some may still end."""
+    """Whether the next good request is answered. After a case with many, some may still end."""
     end = time.monotonic() + IDLE + 5
     while time.monotonic() < end:
         with contextlib.suppress(OSError):
@@ -538,11 +538,11 @@ def end_of(server):
         yield "the log has a traceback, or nothing"
 
 
-def tried(server, name, row):
-    """The name of a row, what is wrong, and how long it took."""
+def tried(server, name, case):
+    """The name of a test case, what is wrong, and how long it took."""
     begin = time.monotonic()
     try:
-        wrong = row(server)
+        wrong = case(server)
     except OSError as fault:
         wrong = str(fault)
     wrong = wrong or ("" if is_answered(server) else "the next request is not answered")
@@ -550,11 +550,11 @@ def tried(server, name, row):
 
 
 def tried_all(server, connections):
-    """What came of each row."""
+    """What came of each test case."""
     with ThreadPoolExecutor(len(SLOW)) as pool:
         yield from pool.map(lambda item: tried(server, *item), SLOW.items())
-    for name, row in rows(connections):
-        yield tried(server, name, row)
+    for name, case in cases(connections):
+        yield tried(server, name, case)
 
 
 def main():

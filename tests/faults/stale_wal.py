@@ -54,7 +54,7 @@ def edited(index, mode, change, how):
     return editor
 
 
-def row(counts, folder, mode, change, how):
+def test_case(counts, folder, mode, change, how):
     """Builds an index again beside an editor."""
     index, output = folder / "r.gpkg", folder / "out"
     for name in ("r.gpkg", "r.gpkg-wal", "r.gpkg-shm", "r.gpkg-journal", "out"):
@@ -70,21 +70,21 @@ def row(counts, folder, mode, change, how):
         base = sqlite3.connect(index)
         is_right = is_right and base.execute("PRAGMA integrity_check").fetchall() == [("ok",)]
         base.close()
-        counts.row(name, is_right, "built again")
+        counts.case(name, is_right, "built again")
     else:
-        counts.row(name, is_refused, said.strip())
+        counts.case(name, is_refused, said.strip())
     if how == "waits":
         editor.communicate()
         status, said = ran("index", "--quiet", "--output", index, folder / "new.city.jsonl")
         found, _ = ran("filter", "--index", index, "--output", output)
         is_right = (status, found) == (0, 0)
         is_right = is_right and output.read_bytes() == (folder / "new.city.jsonl").read_bytes()
-        counts.row(f"{mode}, {change}, the editor has ended", is_right, said.strip())
-    counts.row(f"{name}: nothing is left", not parts(folder) and os.path.exists(index))
+        counts.case(f"{mode}, {change}, the editor has ended", is_right, said.strip())
+    counts.case(f"{name}: nothing is left", not parts(folder) and os.path.exists(index))
 
 
 def main():
-    """Runs all rows, and returns the status."""
+    """Runs all test cases, and returns the status."""
     counts = Counts()
     with tempfile.TemporaryDirectory() as name:
         folder = pathlib.Path(name)
@@ -93,7 +93,7 @@ def main():
         for mode in MODES:
             for change in ("read", "open", "committed"):
                 for how in ("ends", "waits"):
-                    row(counts, folder, mode, change, how)
+                    test_case(counts, folder, mode, change, how)
     return counts.end()
 
 

@@ -52,12 +52,12 @@ def parts(folder):
 
 
 class Counts:
-    """Counts what passed and what failed, and prints each row."""
+    """Counts what passed and what failed, and prints each test case."""
 
     passed = failed = 0
 
-    def row(self, name, is_right, told=""):
-        """Takes a row."""
+    def case(self, name, is_right, told=""):
+        """Takes a test case."""
         print(f"{'passed' if is_right else 'FAILED'}  {name}{f': {told}' if told else ''}")
         self.passed += bool(is_right)
         self.failed += not is_right

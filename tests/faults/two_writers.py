@@ -39,7 +39,7 @@ def filters(counts, folder, first, second, output):
         said = [each.communicate()[1].decode() for each in (other, one)]
         statuses = one.returncode, other.returncode
         is_right = statuses == (0, 0) and text_of(output) in wanted and not parts(folder)
-        counts.row(
+        counts.case(
             f"two runs to {output.name}, {delay} s apart",
             is_right,
             f"{statuses} {' '.join(said).strip()}",
@@ -60,7 +60,7 @@ def builders(counts, folder, paths):
             status, told = ran("filter", "--index", index, "--output", output)
             is_right = (statuses, status) == ((0, 0), 0) and not parts(folder)
             is_right = is_right and output.read_bytes() == path.read_bytes()
-            counts.row(
+            counts.case(
                 f"two indexes of {path.name}, {delay} s apart",
                 is_right,
                 f"{statuses} {' '.join(said).strip()} {told}".strip(),
@@ -83,15 +83,15 @@ def kills(counts, folder, path):
         run.communicate()
         left = parts(folder)
         is_named = all(name.startswith(f".{output.name}.") for name in left)
-        counts.row(f"{words[0]}, killed", output.read_bytes() == before and is_named, f"{left}")
+        counts.case(f"{words[0]}, killed", output.read_bytes() == before and is_named, f"{left}")
         for name in left:
             (folder / name).unlink()
         status, said = ran(*words, "--output", output, path)
-        counts.row(f"{words[0]}, run again", status == 0 and output.exists(), said)
+        counts.case(f"{words[0]}, run again", status == 0 and output.exists(), said)
 
 
 def main():
-    """Runs all rows, and returns the status."""
+    """Runs all test cases, and returns the status."""
     asked = argparse.ArgumentParser(description=__doc__.split("\n")[0])
     asked.add_argument("--megabytes", type=int, default=60)
     wanted, counts = asked.parse_args(), Counts()

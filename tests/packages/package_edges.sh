@@ -1,10 +1,10 @@
 #!/usr/bin/env bash
 # Tries the edges of the package's command: closed descriptors, refused memory and threads, and
-# signals. Others are outputs that would destroy the input, and files that change. A row is a
-# function named row_*. If it fails, it prints its name, what is wanted and what came. The last line
-# is 'N passed, M failed', and the status is 0 if all passed.
+# signals. Others are outputs that would destroy the input, and files that change. A test case is a
+# function named case_*. If it fails, it prints its name, what is wanted and what came. The last
+# line is 'N passed, M failed', and the status is 0 if all passed.
 #
-#     tests/packages/package_edges.sh [PYTHON [ROW..]]      (python3, and all rows)
+#     tests/packages/package_edges.sh [PYTHON [CASE..]]      (python3, and all cases)
 set -u
 python=$(command -v "${1:-python3}") || exit
 shift $(($# < 1 ? $# : 1))
@@ -12,7 +12,7 @@ cd "$(dirname "$0")/../.." || exit
 export PYTHONPATH=$PWD/python
 examples=$PWD/examples
 
-scratch=$(mktemp -d) # the files of one row
+scratch=$(mktemp -d) # the files of one test case
 unset PYTHONDONTWRITEBYTECODE
 export PYTHONPYCACHEPREFIX=$scratch-compiled
 trap 'rm -rf "$scratch" "$scratch-compiled"' EXIT
@@ -36,24 +36,24 @@ stream() {
 # Whether what came is what is wanted.
 same() {
   [ "$1" = "$2" ] && return
-  printf '%s: wanted %q, got %q\n' "$row" "$1" "$2"
+  printf '%s: wanted %q, got %q\n' "$test_case" "$1" "$2"
   false
 }
 
 # ---- descriptors that are closed
 
-row_reports_and_a_closed_standard_error() {
+case_reports_and_a_closed_standard_error() {
   cityseq filter --keep-going "$examples/delivery.city.jsonl" 2> /dev/null > "$scratch/wanted"
   cityseq filter --keep-going "$examples/delivery.city.jsonl" 2>&- > "$scratch/out"
   same 1 $? && same "$(cat "$scratch/wanted")" "$(cat "$scratch/out")"
 }
 
-row_help_progress_and_a_closed_standard_error() {
+case_help_progress_and_a_closed_standard_error() {
   same '' "$(cityseq check --progress "$examples/broken.city.jsonl" 2>&-)" &&
     same '' "$(cityseq 2>&-)" && same '' "$(cityseq check --depth x - 2>&- < /dev/null)"
 }
 
-row_no_file_gets_the_number_of_standard_error() {
+case_no_file_gets_the_number_of_standard_error() {
   local found
   found=$("$python" -c 'import os
 from cityseq.cli.output import hold_descriptors
@@ -70,7 +70,7 @@ ended_well() {
   same 5 "$1" && same 'out of memory' "$(sed 's/^.*: //' "$scratch/said")"
 }
 
-row_little_memory_and_many_threads() {
+case_little_memory_and_many_threads() {
   local n
   stream 50000 > "$scratch/stream"
   (ulimit -v 250000 && cityseq check --jobs 8 --part-size 100000 "$scratch/stream" > "$scratch/out" 2> "$scratch/said")
@@ -82,13 +82,13 @@ row_little_memory_and_many_threads() {
   done
 }
 
-row_memory_for_four_threads_is_enough_for_eight() {
+case_memory_for_four_threads_is_enough_for_eight() {
   stream 50000 > "$scratch/stream"
   (ulimit -v 250000 && cityseq check --jobs 8 --part-size 100000 "$scratch/stream" > "$scratch/out" 2> "$scratch/said")
   same 0 $?
 }
 
-row_what_nobody_expected() {
+case_what_nobody_expected() {
   "$python" -c 'import sys
 from cityseq import cli
 from cityseq.cli import stream_commands
@@ -108,7 +108,7 @@ objects = f"\"b\":{{\"type\":\"Building\",\"children\":[{children}]}},{parts}"
 print(f"{{\"type\":\"CityJSONFeature\",\"id\":\"b\",\"CityObjects\":{{{objects}}},\"vertices\":[]}}")'
 }
 
-row_trees_and_any_limit_of_the_stack() {
+case_trees_and_any_limit_of_the_stack() {
   local size jobs
   many_objects > "$scratch/stream"
   for size in unlimited 2048 512; do
@@ -124,7 +124,7 @@ row_trees_and_any_limit_of_the_stack() {
 # Has Python compile the package before a limit is set. With less than 24 MB it cannot compile it, and ends before the command begins.
 compiled() { cityseq index --output "$scratch/other.gpkg" "$scratch/stream" > "$scratch/out"; }
 
-row_memory_that_is_not_enough_to_begin() {
+case_memory_that_is_not_enough_to_begin() {
   local size
   stream 100 > "$scratch/stream"
   compiled
@@ -134,7 +134,7 @@ row_memory_that_is_not_enough_to_begin() {
   done
 }
 
-row_an_index_and_memory_that_is_not_enough_to_begin() {
+case_an_index_and_memory_that_is_not_enough_to_begin() {
   local size
   stream 100 > "$scratch/stream"
   compiled
@@ -168,14 +168,14 @@ index_without_temporary_room() {
 }
 
 # Boxes are sorted by the package.
-row_a_full_folder_of_temporary_files() {
+case_a_full_folder_of_temporary_files() {
   local feature='{"type":"CityJSONFeature","id":"b","CityObjects":{"b":{"type":"Building","geometry":[{"type":"MultiPoint","lod":"1","boundaries":[0]}]}},"vertices":[[0,0,0]]}'
   stream 70000 > "$scratch/stream"
   index_without_temporary_room 'No space left on device'
 }
 
 # Ids are sorted by SQLite.
-row_a_full_folder_of_the_temporary_files_of_sqlite() {
+case_a_full_folder_of_the_temporary_files_of_sqlite() {
   local id
   id=$(printf 'b%.0s' {1..400})
   local feature='{"type":"CityJSONFeature","id":"'$id'","CityObjects":{"'$id'":{"type":"Building"}},"vertices":[]}'
@@ -183,15 +183,15 @@ row_a_full_folder_of_the_temporary_files_of_sqlite() {
   index_without_temporary_room 'no space left for temporary files'
 }
 
-# Runs a row, and counts it.
+# Runs a test case, and counts it.
 try() {
-  row=${1#row_}
+  test_case=${1#case_}
   rm -rf "${scratch:?}"/*
-  if "$1"; then passed=$((passed + 1)); else echo "$row: FAILED" && failed=$((failed + 1)); fi
+  if "$1"; then passed=$((passed + 1)); else echo "$test_case: FAILED" && failed=$((failed + 1)); fi
 }
 
 passed=0 failed=0
-[ $# -gt 0 ] || set -- $(compgen -A function row_)
+[ $# -gt 0 ] || set -- $(compgen -A function case_)
 for tried in "$@"; do try "$tried"; done
 echo "$passed passed, $failed failed"
 [ "$failed" = 0 ]

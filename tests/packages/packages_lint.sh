@@ -16,7 +16,7 @@ version=$(cat VERSION)
 passed=0 failed=0
 
 # Counts a command as passed if its status is 0, and shows what it printed else.
-row() {
+test_case() {
   local name=$1
   shift
   if "$@" > "$scratch/printed" 2>&1; then
@@ -71,12 +71,12 @@ finds_another_version() {
   ! "$scratch/packaging/version.py" > "$scratch/said" && grep -q 'lib.rt has' "$scratch/said"
 }
 
-row 'all files name one version' packaging/version.py
-row 'a version that differs is found' finds_another_version
-row 'the program has it' program_has_version
-row 'the package has it' package_has_version
-row 'the library has it' library_has_version
-row 'the Debian packages have it' debian_has_version
+test_case 'all files name one version' packaging/version.py
+test_case 'a version that differs is found' finds_another_version
+test_case 'the program has it' program_has_version
+test_case 'the package has it' package_has_version
+test_case 'the library has it' library_has_version
+test_case 'the Debian packages have it' debian_has_version
 
 # ---- manual pages and completions
 
@@ -87,8 +87,9 @@ pages_pass_lint() {
   [ ! -s "$scratch/lint" ] || { cat "$scratch/lint"; false; }
 }
 
-row 'pages and completions have the options that the help has' packaging/options.py "$program"
-have mandoc 'the layout of manual pages' && row 'manual pages pass mandoc -Tlint' pages_pass_lint
+test_case 'pages and completions have the options that the help has' packaging/options.py "$program"
+have mandoc 'the layout of manual pages' &&
+  test_case 'manual pages pass mandoc -Tlint' pages_pass_lint
 
 # Prints how a shell completes each line of standard input.
 in_bash() {
@@ -121,9 +122,9 @@ completes() {
   "$1" < "$scratch/lines" > "$scratch/completed" && diff "$scratch/wanted" "$scratch/completed"
 }
 
-row 'bash completes' completes in_bash
-have fish 'completion in fish' && row 'fish completes' completes in_fish
-have zsh 'completion in zsh' && row 'zsh completes' completes in_zsh
+test_case 'bash completes' completes in_bash
+have fish 'completion in fish' && test_case 'fish completes' completes in_fish
+have zsh 'completion in zsh' && test_case 'zsh completes' completes in_zsh
 
 # ---- headers
 
@@ -139,10 +140,10 @@ is_clean() {
 for compiler in gcc clang; do
   have "$compiler" "the headers by $compiler" || continue
   for standard in c99 c11 c++11; do
-    row "cityseq.h as $standard by $compiler" is_clean "$compiler" "$standard" cityseq.h
+    test_case "cityseq.h as $standard by $compiler" is_clean "$compiler" "$standard" cityseq.h
   done
   [ ! -f c/cityseq.hpp ] ||
-    row "cityseq.hpp as c++17 by $compiler" is_clean "$compiler" c++17 cityseq.hpp
+    test_case "cityseq.hpp as c++17 by $compiler" is_clean "$compiler" c++17 cityseq.hpp
 done
 
 # ---- make, and installation
@@ -198,19 +199,19 @@ mkdir "$scratch/bare/c" && cp c/*.h "$scratch/bare/c/"
 mkdir "$scratch/few" && ln -s /usr/bin/* "$scratch/few/" 2> "$scratch/unread"
 rm -f "$scratch"/few/{dpkg-buildpackage,dh,objdump,rt}
 
-row 'make alone shows its targets' help_names_all_targets
-for folder in tests bench; do row "$folder/run lists all" lists_scripts $folder; done
-row 'bench/run runs by name' runs_scripts
-row 'the first command of README' tests/cli/first_command.sh "$program"
-have pkg-config 'an installation' && row 'a folder with a space' installs_and_removes
-row 'no rights to install' fails_with 'set PREFIX' make -s install PREFIX=/proc/cityseq
+test_case 'make alone shows its targets' help_names_all_targets
+for folder in tests bench; do test_case "$folder/run lists all" lists_scripts $folder; done
+test_case 'bench/run runs by name' runs_scripts
+test_case 'the first command of README' tests/cli/first_command.sh "$program"
+have pkg-config 'an installation' && test_case 'a folder with a space' installs_and_removes
+test_case 'no rights to install' fails_with 'set PREFIX' make -s install PREFIX=/proc/cityseq
 for target in install deb wheel dist; do
-  row "no build for $target" fails_with "run 'make build'" \
+  test_case "no build for $target" fails_with "run 'make build'" \
     make -s -C "$scratch/bare" "$target" PREFIX="$scratch/none"
 done
 few=(env PATH="$scratch/few" make -s)
-row 'no tool for deb' fails_with 'dpkg-dev' "${few[@]}" deb
-row 'no tool for wheel' fails_with 'binutils' "${few[@]}" wheel
-row 'no toolchain to build' fails_with 'rt is missing' "${few[@]}" -C "$scratch/bare" build
+test_case 'no tool for deb' fails_with 'dpkg-dev' "${few[@]}" deb
+test_case 'no tool for wheel' fails_with 'binutils' "${few[@]}" wheel
+test_case 'no toolchain to build' fails_with 'rt is missing' "${few[@]}" -C "$scratch/bare" build
 echo "$passed passed, $failed failed"
 [ "$failed" = 0 ]

@@ -3,7 +3,7 @@
 #
 # - Its own tests.
 # - The edges of its command.
-# - The rows of the program, over its command.
+# - The test cases of the program, over its command.
 # - Its types, by mypy.
 # - All Python sources of the repository, by flake8.
 # - Their format, by black and isort.

@@ -23,7 +23,7 @@ skip() {
 command -v debootstrap > /dev/null || skip 'for want of debootstrap'
 
 # Counts a command as passed if its status is 0, and shows what it printed else.
-row() {
+test_case() {
   local name=$1
   shift
   if "$@" > "$scratch/printed" 2>&1; then
@@ -159,57 +159,58 @@ make_base() {
     rmdir "$base/try"
 }
 
-row 'all packages are made' make_all
+test_case 'all packages are made' make_all
 [ $failed = 0 ] || { echo "$passed passed, $failed failed"; exit 1; }
 made=$scratch/made
 if command -v lintian > /dev/null; then
-  row 'lintian finds no errors and no warnings' \
+  test_case 'lintian finds no errors and no warnings' \
     lintian --allow-root --fail-on error,warning "$made"/*.changes
 else
   echo 'left out: lintian, which is not here'
 fi
-row 'README names the oldest glibc' readme_names_glibc
-row 'the sources of the Python package say what they need' sources_need_a_library
+test_case 'README names the oldest glibc' readme_names_glibc
+test_case 'the sources of the Python package say what they need' sources_need_a_library
 make_base > "$scratch/said" 2>&1 || skip "as debootstrap failed: $(tail -n 1 "$scratch/said")"
 
 # ---- Debian packages
 make_system debian "$made"/*.deb || exit
 files_of debian > "$scratch/debian.before"
 install='apt-get install -y --no-install-recommends'
-row 'the program is installed' inside debian "$install ./cityseq_*.deb"
-row 'the program does the main job' inside debian "$main_job"
-row 'its manual page is there' inside debian 'man -P cat cityseq | grep -q "valid lines=N"'
-row 'its completions are found' inside debian "$(completions_of cityseq cityseq)"
-row 'the library is installed' inside debian "$install ./libcityseq*.deb"
-row 'programs are built by pkg-config' inside debian "$by_pkg_config"
-row 'programs are built by CMake' inside debian "$by_cmake"
-row 'the Python package is installed' inside debian "$install ./python3-cityseq_*.deb"
-row 'the Python package does the main job' inside debian "$package_job"
-row 'its completions are found' inside debian "$(completions_of cityseq-run cityseq_run)"
-row 'all are removed' inside debian 'apt-get purge -y "*cityseq*"'
-row 'nothing is left of them' nothing_is_left debian
+test_case 'the program is installed' inside debian "$install ./cityseq_*.deb"
+test_case 'the program does the main job' inside debian "$main_job"
+test_case 'its manual page is there' inside debian 'man -P cat cityseq | grep -q "valid lines=N"'
+test_case 'its completions are found' inside debian "$(completions_of cityseq cityseq)"
+test_case 'the library is installed' inside debian "$install ./libcityseq*.deb"
+test_case 'programs are built by pkg-config' inside debian "$by_pkg_config"
+test_case 'programs are built by CMake' inside debian "$by_cmake"
+test_case 'the Python package is installed' inside debian "$install ./python3-cityseq_*.deb"
+test_case 'the Python package does the main job' inside debian "$package_job"
+test_case 'its completions are found' inside debian "$(completions_of cityseq-run cityseq_run)"
+test_case 'all are removed' inside debian 'apt-get purge -y "*cityseq*"'
+test_case 'nothing is left of them' nothing_is_left debian
 
 # ---- the wheel
 make_system wheel "$made"/*.whl || exit
 venv=/root/venv
-row 'a clean venv' inside wheel "python3 -m venv $venv; find $venv | sort > before"
-row 'the wheel is installed without a network' \
+test_case 'a clean venv' inside wheel "python3 -m venv $venv; find $venv | sort > before"
+test_case 'the wheel is installed without a network' \
   inside wheel "$venv/bin/pip install --no-index ./*.whl"
-row 'it does the main job' inside wheel "PATH=$venv/bin:\$PATH; $package_job"
-row 'it is removed' inside wheel "$venv/bin/pip uninstall -y cityseq"
-row 'nothing is left of it' \
+test_case 'it does the main job' inside wheel "PATH=$venv/bin:\$PATH; $package_job"
+test_case 'it is removed' inside wheel "$venv/bin/pip uninstall -y cityseq"
+test_case 'nothing is left of it' \
   inside wheel "find $venv | grep -v __pycache__ | sort | diff <(grep -v __pycache__ before) -"
 
 # ---- the binary tarball, in a system without any of the packages
 make_system tarball "$made"/cityseq-*-linux-x86_64.tar.gz "$made/SHA256SUMS" || exit
 root=/root/cityseq-$version-linux-x86_64
-row 'the tarball has its sum' inside tarball 'sha256sum --check --ignore-missing SHA256SUMS'
-row 'it is unpacked' inside tarball 'tar -C /root -xzf cityseq-*-linux-x86_64.tar.gz'
-row 'its program does the main job' inside tarball "PATH=$root/bin:\$PATH; $main_job"
-row 'programs are built by its pkg-config' inside tarball "
+test_case 'the tarball has its sum' inside tarball 'sha256sum --check --ignore-missing SHA256SUMS'
+test_case 'it is unpacked' inside tarball 'tar -C /root -xzf cityseq-*-linux-x86_64.tar.gz'
+test_case 'its program does the main job' inside tarball "PATH=$root/bin:\$PATH; $main_job"
+test_case 'programs are built by its pkg-config' inside tarball "
   export PKG_CONFIG_PATH=$root/lib/pkgconfig LD_LIBRARY_PATH=$root/lib; $by_pkg_config"
-row 'programs are built by its CMake' inside tarball "export CMAKE_PREFIX_PATH=$root; $by_cmake"
-row 'its static library needs libc alone' inside tarball "
+test_case 'programs are built by its CMake' \
+  inside tarball "export CMAKE_PREFIX_PATH=$root; $by_cmake"
+test_case 'its static library needs libc alone' inside tarball "
   cc example.c -I$root/include $root/lib/libcityseq.a -o loader
   ./loader town.city.jsonl | grep -qx 'valid lines=5 features=4'"
 echo "$passed passed, $failed failed"
