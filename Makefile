@@ -1,5 +1,5 @@
-# Each target calls a script that is there for itself; './test' is the gate. PREFIX and DESTDIR say
-# where to install.
+# Each target calls a script that is there for itself; './test' is what CI runs. PREFIX and DESTDIR
+# say where to install.
 PREFIX ?= /usr/local
 export PREFIX DESTDIR
 
@@ -12,7 +12,7 @@ help:                   ## show this list
 build:                  ## prove and build the program and the library
 	@packaging/build.sh
 
-check:                  ## run all tests: the gate
+check:                  ## run all tests, as CI does
 	@./test
 
 quick:                  ## look at layout, names and tests, without a proof

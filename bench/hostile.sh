@@ -6,7 +6,7 @@
 #
 #   bench/hostile.sh [SECONDS [WORD]]      (20 seconds if left out; with a WORD only shapes whose names have it)
 #
-# It builds the program by `rt run`. Needs rt, python3 and cc. It is no part of the gate.
+# It builds the program by `rt run`. Needs rt, python3 and cc. It is no part of CI.
 set -euo pipefail
 cd "$(dirname "$0")"
 (cd ../crates/cityseq && rt run -- filter < ../../examples/sample.city.jsonl > /dev/null)

@@ -2,18 +2,18 @@
 # Proves and builds the library for C: c/out/libcityseq.a and c/out/libcityseq.so. It copies the
 # second for the Python package. It takes a minute if the crates below are proved already.
 #
-#     c/build.sh [--after-gate]
+#     c/build.sh [--after-ci]
 #
-# The gate leaves the libraries of the crates as it has proved them. `rt lib` would prove them all
-# again. With the option, the script takes these libraries as they are, and proves only the crate of
-# the library for C over them. It writes nothing below crates/, because the gate may still run.
+# CI leaves the libraries of the crates as it has proved them. `rt lib` would prove them all again.
+# With the option, the script takes these libraries as they are, and proves only the crate of the
+# library for C over them. It writes nothing below crates/, because CI may still run.
 set -eu
 cd "$(dirname "$0")/.."
 kit=$(dirname "$(rt doc)")
 below="cj_budget cj_decimal cj_spans cj_geometry cj_feature cj_stream"
 
-# Returns whether the libraries are those that the gate left. Those of another command have a stamp.
-are_of_gate() {
+# Returns whether the libraries are those that CI left. Those of another command have a stamp.
+are_of_ci() {
   local crate
   for crate in $below; do
     [ -e "crates/$crate/out/rlib/$crate.rlib/format" ] && ! [ -e "crates/$crate/out/rlib/stamp" ] || return 1
@@ -32,7 +32,7 @@ build_over_them() {
 }
 
 mkdir -p c/out
-if [ "${1:-}" = --after-gate ] && are_of_gate; then
+if [ "${1:-}" = --after-ci ] && are_of_ci; then
   built=c/out/libcityseq_c.a
   build_over_them >&2
 else

@@ -5,7 +5,7 @@ features with a building and its parts, solids with semantics, and attributes in
     make_sample.py FEATURES [SEED] > sample.city.jsonl
 
 The same arguments give the same bytes. The sample is that of 120 features; it stands beside this
-script, and again as stdin and stdout of crates/cityseq, which the gate runs the program on."""
+script, and again as stdin and stdout of crates/cityseq, which CI runs the program on."""
 import json
 import random
 import sys

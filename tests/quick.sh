@@ -1,5 +1,5 @@
 #!/usr/bin/env bash
-# Takes a first look before the gate, within three minutes on four idle cores and without a proof.
+# Takes a first look before CI, within three minutes on four idle cores and without a proof.
 # It checks the layout of the sources, the names in documents and the version. It runs the tests of
 # the crates on an interpreter. The test cases of the engine are left out, since they take longer.
 #
@@ -62,6 +62,6 @@ for crate in $tested; do
 done
 wait
 for crate in $tested; do test_case "tests of $crate" have_passed "$crate"; done
-echo 'left out: the tests of cj_stream_tests_*, which take longer; the gate has them'
+echo 'left out: the tests of cj_stream_tests_*, which take longer; CI has them'
 echo "$passed passed, $failed failed"
 [ "$failed" = 0 ]

@@ -5,7 +5,7 @@
 
 PYTHON runs the package, /usr/bin/python3 if left out. It needs the built library, Chromium, and for
 the index in a map python3-qgis, by which PYTHON draws without a window. The pictures go to
-docs/pictures, and the day to the page. The gate does not run this.
+docs/pictures, and the day to the page. CI does not run this.
 """
 
 import argparse

@@ -5,12 +5,12 @@
 #   bench/geometry/run.sh [MEGABYTES]      (12 if left out)
 #
 # It copies the crates beside a small program (program/main.rattle) in bench/out, proves and builds both
-# with rt (some minutes the first time). Needs rt and python3. It is no part of the gate.
+# with rt (some minutes the first time). Needs rt and python3. It is no part of CI.
 set -euo pipefail
 cd "$(dirname "$0")/.."
 megabytes=${1:-12}
 work=out/geometry
-trap 'rm -f "$work/crates.txt"' EXIT # below the top it stops the gate
+trap 'rm -f "$work/crates.txt"' EXIT # below the top it stops CI
 mkdir -p "$work/crates/geometry_times/src"
 for crate in cj_budget cj_decimal cj_spans cj_geometry; do
   rm -rf "$work/crates/$crate"

@@ -6,12 +6,12 @@
 #
 # It copies the crates beside a small program (program/main.rattle) in bench/out, with what is proved of them, and builds it
 # with rt (seconds where they are proved, and as long as their proofs where they are not). Needs rt and python3. It is no
-# part of the gate.
+# part of CI.
 set -euo pipefail
 cd "$(dirname "$0")/.."
 megabytes=${1:-12}
 work=out/ids
-trap 'rm -f "$work/crates.txt"' EXIT # below the top it stops the gate
+trap 'rm -f "$work/crates.txt"' EXIT # below the top it stops CI
 mkdir -p "$work/crates/ids_times/src"
 (cd ../crates/cj_stream && rt lib > /dev/null 2>&1)
 for crate in cj_budget cj_decimal cj_spans cj_geometry cj_feature cj_stream; do

@@ -4,7 +4,7 @@
 #
 #   bench/queries/run.sh [MEGABYTES]      (100 if left out)
 #
-# It builds the program by `rt run`. Needs rt and python3. It is no part of the gate.
+# It builds the program by `rt run`. Needs rt and python3. It is no part of CI.
 set -euo pipefail
 cd "$(dirname "$0")/.."
 megabytes=${1:-100}

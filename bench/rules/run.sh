@@ -5,12 +5,12 @@
 #   bench/rules/run.sh [MEGABYTES]      (12 if left out)
 #
 # It copies the crates beside a small program (program/main.rattle) in bench/out, proves and builds both
-# with rt (some minutes the first time). Needs rt and python3. It is no part of the gate.
+# with rt (some minutes the first time). Needs rt and python3. It is no part of CI.
 set -euo pipefail
 cd "$(dirname "$0")/.."
 megabytes=${1:-12}
 work=out/rules
-trap 'rm -f "$work/crates.txt"' EXIT # below the top it stops the gate
+trap 'rm -f "$work/crates.txt"' EXIT # below the top it stops CI
 mkdir -p "$work/crates/rules_times/src"
 for crate in cj_budget cj_decimal cj_spans cj_geometry cj_feature; do
   rm -rf "$work/crates/$crate"

@@ -8,7 +8,7 @@ set -euo pipefail
 cd "$(dirname "$0")/.."
 megabytes=${1:-24}
 work=out/scan
-trap 'rm -f "$work/crates.txt"' EXIT # below the top it stops the gate
+trap 'rm -f "$work/crates.txt"' EXIT # below the top it stops CI
 mkdir -p "$work/crates/scan_times/src"
 
 cat > out/cargo.toml <<'CONFIG'

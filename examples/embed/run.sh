@@ -33,7 +33,7 @@ copy_library() {
   $is_try || cmp -s "$from/out/rlib/stamp" "$to/out/rlib/stamp" || copy_parts "$from/out" "$to/out" rlib
 }
 
-# Gives the example's files the endings that rt reads. Here they have others, since the gate takes files with those in a
+# Gives the example's files the endings that rt reads. Here they have others, since CI takes files with those in a
 # crate that crates.txt names alone.
 rename() {
   local file
@@ -44,7 +44,7 @@ rename() {
 
 mkdir -p "$work/crates"
 log=$PWD/$work/log
-# below the top it stops the gate, so it stays for the run alone
+# below the top it stops CI, so it stays for the run alone
 listed=$PWD/$work/crates.txt
 trap 'rm -f "$listed"' EXIT
 $is_try || (cd crates/cj_stream && rt lib > "$log" 2>&1) || { cat "$log" >&2; exit 3; }

@@ -1,7 +1,7 @@
 #!/usr/bin/env bash
 # Attacks the library for C with changed streams: next to pages that may not be touched, with memory
 # that is refused, and from 64 threads. It also attacks it under valgrind, if that is installed. It
-# is no part of the gate.
+# is no part of CI.
 #
 #     tests/capi/library_attack.sh [SECONDS [SEED]]
 #

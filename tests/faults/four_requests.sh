@@ -7,7 +7,7 @@
 #     tests/faults/four_requests.sh
 #
 # It copies the crates and a small program (four_requests/main.rattle) into a folder of its own, and
-# proves nothing (`rt try`). Each of the six runs takes some 30 s. It is no part of the gate.
+# proves nothing (`rt try`). Each of the six runs takes some 30 s. It is no part of CI.
 set -uo pipefail
 cd "$(dirname "$0")/../.." || exit
 

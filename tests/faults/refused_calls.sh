@@ -10,7 +10,7 @@
 # Run `rt all check` first. The script proves and builds the program in a folder of its own, over
 # what the crates' checks kept in out/. That takes two minutes, and 1.5 GB of the folder for
 # temporary files. The runs take seconds. It needs a C compiler, for the lines that refuse. It is no
-# part of the gate.
+# part of CI.
 set -uo pipefail
 cd "$(dirname "$0")/../.." || exit
 

@@ -1,5 +1,5 @@
 #!/usr/bin/env bash
-# Runs the program, which the gate has built, with another of its allocations refused in each run:
+# Runs the program, which CI has built, with another of its allocations refused in each run:
 # the first, the second, and so on. A run must end as out of memory, status 5, with a prefix of the
 # output written. It may also end as if nothing was refused, if a list asked for more memory than it
 # needs and goes on with less. It needs a C compiler, for the lines that refuse.

@@ -1,5 +1,5 @@
 #!/usr/bin/env bash
-# Runs the trials that the gate leaves out, over the program and the outputs of the crates' checks:
+# Runs the trials that CI leaves out, over the program and the outputs of the crates' checks:
 #
 # - The program, with each of its allocations refused, one after another.
 # - Each kind of call of the crates that may be refused memory, with its memory refused.
@@ -11,7 +11,7 @@
 #
 # The last line is 'N passed, M failed'.
 #
-#     tests/beyond_the_gate.sh [--edits]
+#     tests/beyond_ci.sh [--edits]
 set -u
 cd "$(dirname "$0")/.." || exit
 

@@ -1,7 +1,7 @@
-"""Prints the processor time of each crate's proof, of its tests' proof and of its edits, while the
-gate runs.
+"""Prints the processor time of each crate's proof, of its tests' proof and of its edits, while CI
+runs.
 
-    gate_times.py PID
+    ci_times.py PID
 
 It looks once a second at the processes below PID, until a signal ends it, or PID ends. Then it
 prints a table. It does not see what a process took in its last second, so the table is a little
@@ -67,7 +67,7 @@ class Times:
         self.top, self.tasks, self.seen = top, {}, {}
 
     def look(self):
-        """Looks at all processes once. Answers whether the gate still runs."""
+        """Looks at all processes once. Answers whether CI still runs."""
         found, now = processes(), {}
         for it in found.values():
             above = list(chain(found, it.pid))
