@@ -1,5 +1,5 @@
 //! The vectors of the folder `vectors/`, by section, without its three families. Written by
-//! vectors/make.py: change vectors/rows.py and run it again.
+//! vectors/make.py: change vectors/cases.py and run it again.
 //!
 //! A row has cells with bars between them:
 //!
