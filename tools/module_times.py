@@ -4,8 +4,8 @@
 
 FOLDER is the one that a check with an empty `--incremental` folder and `--jobs 1` filled. Such a
 check writes a file for each module as soon as it has checked it. So the time between two files is
-that of the second one's module. With two folders, the table has both, and where they differ most
-comes first.
+that of the second one's module, and of loading what it is the first to import. With two folders,
+the table has both, and where they differ most comes first.
 """
 
 import os
