@@ -1,6 +1,6 @@
 -- Rules on values of a kind, their texts and types, and boundaries level by level.
 use Rattle.cj_geometry.proofs.Common.{List, None, Option, Some, Tree, ap, are_same_texts, bytes_eq-Decides, has_text, text_of, true, ℕ, ◌≡◌, Bool, Finding, kind_of, least, nothing, of_kind, ◌∙◌, [], first_part, other_parts, paired, refl, ◌++◌, ◌∷◌, arith, Array, entry, flat_map, items_if, items_of, other_count, shape, sub-one, suc, values, zero, ◌-◌, ◌<◌, IfSome, Node, Source, if◌then◌else◌, line_of, option_map, source_of, subst, sym, ForSome, TemplateLod, map, replicate, set, slice_get, chars, cond, false, length, nat_eq, number_of, row_at, row_numbered, ◌&&◌}
-use Rattle.cj_spans.proofs.Findings.{least-append, least-swap}
+use Rattle.cj_spans.proofs.Findings.{least-append}
 use Rattle.cj_spans.specs.declared.token.Kind.{Kind}
 use Rattle.cj_geometry.specs.declared.templates.Templates.{Templates}
 use Rattle.cj_geometry.specs.Given.{given_line, given_source}
