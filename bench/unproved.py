@@ -14,8 +14,8 @@ times as high, since `rt try` does not use the byte shuffles of the processor.
 
 `rt try` makes one module of LLVM for the whole program, and puts checks and fills of memory into
 it. They are taken out here. Functions get the inline attributes of the sources, and the module is
-compiled as the build does it. The module of the library is that of its tests, which call each
-function. It needs a C compiler to link."""
+compiled as the build does it. The module of the library is that of a test that calls each
+function, in a copy of the crates. It needs a C compiler to link."""
 import os
 import re
 import shutil
@@ -31,7 +31,44 @@ ROOT = Path(__file__).resolve().parent.parent
 KIT = Path(subprocess.check_output(["rt", "doc"], text=True).strip()).parent
 MODULE = "module.bc"  # in the temporary folder of `rt try`
 PROGRAM = ("cityseq", "--steps", "1000", "--", "check")  # a crate, and words for `rt try`
-LIBRARY = ("cityseq_c", "--steps", "1000", "--test")
+LIBRARY = ("cityseq_exports", "--steps", "1000", "--test")
+# Calls each function of the library, since `rt try` makes code of what tests reach alone.
+CALLS = """
+#[cfg(test)]
+mod calls {
+    use super::*;
+    use cityseq_c::{Number, Range};
+
+    #[test]
+    fn each_is_called(rt: HostRuntime) {
+        let request = Request {
+            line_limit: 1, depth_limit: 1, keep_going: true, tree: false, exclude: false,
+            extensions: false, asks_ids: true, asks_types: true, asks_lods: true, asks_box: true,
+            ids: b"", types: b"", lods: b"", bbox: b"",
+        };
+        let none = Range { some: 0, least: 0, greatest: 0 };
+        let zero = Number { negative: 0, power: 0, high: 0, low: 0 };
+        let mut tally = Tally {
+            features: 0, types: [0; 34], lods: [0; 6], ranges: [none; 3], transformed: 0,
+            scale: [zero; 3], translate: [zero; 3],
+        };
+        let first = cityseq_check(rt.alloc(), b"", b"", &request, &mut []);
+        let next = cityseq_filter(rt.alloc(), b"", b"", &request, &mut [], &mut []);
+        let _ = cityseq_info(rt.alloc(), b"", b"", &request, &mut tally, &mut []);
+        let _ = cityseq_features(rt.alloc(), b"", b"", &request, &mut [], &mut []);
+        let _ = cityseq_answer_then(&first, &next, 0);
+        let _ = cityseq_tally_then(&tally, &tally);
+        let _ = cityseq_part_end(b"", 0);
+        let _ = cityseq_line_begin(b"", b"", 0);
+        let _ = cityseq_stack(&request);
+        let _ = cityseq_memory(&request, 0, 0);
+        let _ = cityseq_reason_text(0, &mut []);
+        let _ = cityseq_type_name(0, &mut []);
+        let _ = cityseq_version(&mut []);
+        let _ = cityseq_interface();
+    }
+}
+"""
 PROTOTYPE = re.compile(r"^((?:struct )?\w+) (cityseq_\w+)\(([^()]*)\)[^;{]*;", re.MULTILINE)
 # How the build has machine code made, but for the levels that `rt try` sets.
 CODE = ["-O3", "-march=x86-64-v2", "-ffunction-sections", "-fdata-sections"]
@@ -90,6 +127,19 @@ def module_of(tree: Path, folder: Path, crate: str, *words: str) -> Path:
     if not found:
         sys.exit(f"rt try made no module: run it in crates/{crate} to see why")
     return found[-1]
+
+
+def with_calls(tree: Path, folder: Path) -> Path:
+    """Returns a copy of the sources in which a test of the library calls each of its functions."""
+    copy = folder / "tree"
+    for path in (tree / "crates").iterdir():
+        for part in ("src", "specs"):
+            if (path / part).is_dir():
+                shutil.copytree(path / part, copy / "crates" / path.name / part)
+    shutil.copy(tree / "crates.txt", copy)
+    with open(copy / "crates" / LIBRARY[0] / "src" / "lib.rt", "a", encoding="utf-8") as source:
+        source.write(CALLS)
+    return copy
 
 
 def attributes_of(crate: str, sources: Path) -> Iterator[Tuple[Tuple[str, str], str]]:
@@ -158,7 +208,7 @@ def compiled(module: Path, tree: Path, position: str) -> Path:
     subprocess.run([*clang, *as_text, str(module), "-o", str(read)], check=True)
     with open(read, encoding="utf-8") as source, open(plain, "w", encoding="utf-8") as sink:
         for line in without_checks(source, all_attributes(tree)):
-            line = re.sub(r'@"cityseq_c::(cityseq_\w+)"', r"@rattle_\1", line)
+            line = re.sub(r'@"cityseq_exports::(cityseq_\w+)"', r"@rattle_\1", line)
             sink.write(re.sub(r"^define internal (.*@rattle_)", r"define \1", line))
     subprocess.run([*clang, "-c", position, *CODE, str(plain), "-o", str(code)], check=True)
     return code
@@ -218,7 +268,10 @@ def main(target: str, tree: str = str(ROOT)) -> None:
     """Builds the program, or the library."""
     top, is_library = Path(tree).resolve(), target == "--library"
     with tempfile.TemporaryDirectory() as folder:
-        module = module_of(top, Path(folder), *(LIBRARY if is_library else PROGRAM))
+        if is_library:
+            module = module_of(with_calls(top, Path(folder)), Path(folder), *LIBRARY)
+        else:
+            module = module_of(top, Path(folder), *PROGRAM)
         code = compiled(module, top, "-fPIC" if is_library else "-fPIE")
         if is_library:
             link_library(code, top)

@@ -6,11 +6,11 @@
 #
 # CI leaves the libraries of the crates as it has proved them. `rt lib` would prove them all again.
 # With the option, the script takes these libraries as they are, and proves only the crate of the
-# library for C over them. It writes nothing below crates/, because CI may still run.
+# exports over them. It writes nothing below crates/, because CI may still run.
 set -eu
 cd "$(dirname "$0")/.."
 kit=$(dirname "$(rt doc)")
-below="cj_budget cj_decimal cj_spans cj_geometry cj_feature cj_stream"
+below="cj_budget cj_decimal cj_spans cj_geometry cj_feature cj_stream cityseq_c"
 
 # Returns whether the libraries are those that CI left. Those of another command have a stamp.
 are_of_ci() {
@@ -22,22 +22,21 @@ are_of_ci() {
 
 # Proves the crate over them, and compiles it, with the options that `rt lib` gives the compiler.
 build_over_them() {
-  local crate words=(--crate-name cityseq_c src/lib.rt --crate-type staticlib --links cityseq_c= --jobs 2)
-  for crate in std memchr; do words+=(--extern "$crate=$kit/rlibs/$crate.rlib"); done
-  for crate in $below; do
-    words+=(--extern "$crate=../$crate/out/rlib/$crate.rlib" -L "dependency=../$crate/out/rlib")
-  done
-  words+=(-L "dependency=$kit/rlibs" --antt-project "$kit/rattle/logic/antt-project.json" --logic-built "$kit/logic_built")
-  (cd crates/cityseq_c && "$kit/bin/rattle" build "${words[@]}" --toolchain "$kit/toolchain" --backend llvm -o "../../$built")
+  local crate words=(--crate-name cityseq_exports src/lib.rt --crate-type staticlib --links cityseq_exports= --jobs 1)
+  words+=(--extern "std=$kit/rlibs/std.rlib" -L "dependency=$kit/rlibs")
+  for crate in cj_stream cityseq_c; do words+=(--extern "$crate=../$crate/out/rlib/$crate.rlib"); done
+  for crate in $below; do words+=(-L "dependency=../$crate/out/rlib"); done
+  words+=(--antt-project "$kit/rattle/logic/antt-project.json" --logic-built "$kit/logic_built")
+  (cd crates/cityseq_exports && "$kit/bin/rattle" build "${words[@]}" --toolchain "$kit/toolchain" --backend llvm -o "../../$built")
 }
 
 mkdir -p c/out
 if [ "${1:-}" = --after-ci ] && are_of_ci; then
-  built=c/out/libcityseq_c.a
+  built=c/out/libcityseq_exports.a
   build_over_them >&2
 else
-  built=crates/cityseq_c/out/libcityseq_c.a
-  (cd crates/cityseq_c && rt lib >&2)
+  built=crates/cityseq_exports/out/libcityseq_exports.a
+  (cd crates/cityseq_exports && rt lib >&2)
 fi
 system=$kit/c/liblibc_c.a
 printf 'CREATE c/out/libcityseq.a\nADDLIB %s\nADDLIB %s\nSAVE\nEND\n' "$built" "$system" | ar -M

@@ -44,7 +44,7 @@ done
 if [ "${1:-}" = --compile ]; then
   need_rt
   cp crates/cityseq/out/cityseq c/out/libcityseq.a c/out/"$shared" "$scratch/"
-  rm -f crates/cityseq/out/cityseq{,.o,.stamp} crates/cityseq_c/out/libcityseq_c.* c/out/*
+  rm -f crates/cityseq/out/cityseq{,.o,.stamp} crates/cityseq_exports/out/libcityseq_exports.* c/out/*
   packaging/build.sh > "$scratch/said" 2>&1 ||
     { tail -n 20 "$scratch/said"; stop 'the program and the library were not built'; }
   same "$scratch/cityseq" crates/cityseq/out/cityseq

@@ -17,7 +17,6 @@ NUMBER = r"(\d+\.\d+\.\d+)"
 PLACES = [
     ("crates/*/src/**/*.rt", rf'const VERSION: &(?:\'static )?(?:str|\[u8\]) = b?"{NUMBER}', 1),
     ("crates/cityseq_tests_options/src/tests/*.rt", rf'b"cityseq {NUMBER}\\n"', 1),
-    ("crates/cityseq_c/src/tests.rt", rf'b"{NUMBER}', 0),
     ("tests/capi/library.c", rf'"{NUMBER}"', 0),
     ("tests/cli/program.sh", rf"lines 'cityseq {NUMBER}'", 1),
     ("c/cityseq.h", rf'#define CITYSEQ_VERSION "{NUMBER}"', 1),

@@ -80,6 +80,9 @@ done
 test_case 'the example on no file' eval '! "$scratch/example" "$scratch/none"'
 count "$scratch/library" cases
 count "$scratch/shared" cases
+test_case 'the worked examples are compiled' \
+  "$compiler" $strict tests/capi/library_worked.c c/out/libcityseq.a -o "$scratch/worked"
+count "$scratch/worked"
 test_case 'the tests of the stack are compiled' \
   "$compiler" $strict tests/capi/library_stack.c c/out/libcityseq.a -pthread -o "$scratch/stack"
 count "$scratch/stack"

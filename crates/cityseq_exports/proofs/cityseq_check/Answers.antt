@@ -1,5 +1,5 @@
 use Rattle.cityseq_c.proofs.JudgedLemmas.{goes, never-full, unjudged}
-use Rattle.cityseq_c.proofs.cityseq_check.Goals as goal
+use Rattle.cityseq_exports.proofs.cityseq_check.Goals as goal
 
 pub returns-clause-checks : goal.returns-clause-checks
 returns-clause-checks c =

@@ -2,7 +2,7 @@ use Rattle.cityseq_c.proofs.Common.{Copied, ap, sym, ◌++◌, ◌∙◌}
 use Rattle.cityseq_c.specs.Room.{room_law, room_bytes, room_loan}
 use Rattle.cityseq_c.proofs.JudgedLemmas.{filters, goes, unjudged}
 use Rattle.cityseq_c.proofs.RoomLemmas.{copied}
-use Rattle.cityseq_c.proofs.cityseq_filter.Goals as goal
+use Rattle.cityseq_exports.proofs.cityseq_filter.Goals as goal
 
 pub returns-clause-filters : goal.returns-clause-filters
 returns-clause-filters c =

@@ -1,8 +1,8 @@
 use Rattle.cityseq_c.proofs.Common.{Complete, IsTalliedOf, IsTally, IsUnhindered, OnOk, Tallies, never_fails, stream_of, sym, ◌++◌, ◌∙◌}
 use Rattle.cityseq_c.proofs.JudgedLemmas.{goes-known, known-ok, never-full, unknown-err}
 use Rattle.cityseq_c.proofs.AnswerLemmas.{tallied}
-use Rattle.cityseq_c.proofs.cityseq_info.Goals.{then-is_ok, else-is_ok}
-use Rattle.cityseq_c.proofs.cityseq_info.Goals as goal
+use Rattle.cityseq_exports.proofs.cityseq_info.Goals.{then-is_ok, else-is_ok}
+use Rattle.cityseq_exports.proofs.cityseq_info.Goals as goal
 
 pub returns-clause-tallies : goal.returns-clause-tallies
 returns-clause-tallies c =

@@ -2,7 +2,7 @@ use Rattle.cityseq_c.proofs.Common.{IsFit, IsUnhindered, ap, never_fails, spots,
 use Rattle.cityseq_c.specs.Features.{HoldsRecords, ListsItem, listed_loan, listed_room}
 use Rattle.cityseq_c.proofs.JudgedLemmas.{goes-known, never-full, unjudged}
 use Rattle.cityseq_c.proofs.RecordLemmas.{recorded}
-use Rattle.cityseq_c.proofs.cityseq_features.Goals as goal
+use Rattle.cityseq_exports.proofs.cityseq_features.Goals as goal
 
 pub returns-clause-lists : goal.returns-clause-lists
 returns-clause-lists c =
