@@ -82,9 +82,7 @@ def reasons_part() -> str:
     """Returns the table of reasons."""
     rows = ["| Code | Text | Name | Functions that name it |", "|---|---|---|---|"]
     functions = functions_by_reason()
-    for name, code, text in re.findall(
-        r'Reason::(\w+) => make_row\((\d+), "([^"]*)"\)', read(REASONS)
-    ):
+    for name, code, text in re.findall(r'Reason::(\w+) => \((\d+), "([^"]*)"\)', read(REASONS)):
         link = f"[{code}]({anchor_of(f'{code} {text}')})"
         rows.append(f"| {link} | {text} | `{name}` | {cell_of(functions.get(name, []))} |")
     return "\n".join(rows)

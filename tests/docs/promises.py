@@ -45,8 +45,7 @@ class Code:
         for folder in "specs", "proofs":
             for path in sorted(ROOT.glob(f"crates/*/{folder}/**/*.antt")):
                 self.read_definitions(path)
-        for folder in "must-fail", "wrong-bodies":
-            self.names.update(path.stem for path in ROOT.glob(f"crates/*/{folder}/*.edit"))
+        self.names.update(path.stem for path in ROOT.glob("crates/*/wrong-bodies/*.edit"))
         for lists in self.functions, self.types:
             self.names.update(lists, *(clauses for each in lists.values() for clauses in each))
         self.names.update(*self.fields.values())
@@ -322,7 +321,7 @@ def tool_of(name):
 def check_reasons(code, report):
     """Each reason has its row and its heading, the tables of RULES are new, and their functions are there."""
     source = (ROOT / "crates/cj_spans/src/reason.rt").read_text()
-    table = re.findall(r'Reason::(\w+) => make_row\((\d+), "([^"]*)"\)', source)
+    table = re.findall(r'Reason::(\w+) => \((\d+), "([^"]*)"\)', source)
     document = (ROOT / "docs/RULES.md").read_text()
     report.place = "docs/RULES.md"
     report.count(document == tool_of("rules").document(), "a table is old: run tools/rules.py")

@@ -62,55 +62,40 @@ pub enum Reason {
     NotReached,
 }
 
-/// The code and the text of a reason.
-#[derive(Clone, Copy)]
-struct ReasonRow {
-    code: u8,
-    text: &'static str,
-}
-
-/// Returns a row of the table, so that code and text are on one line.
-fn make_row(code: u8, text: &'static str) -> ReasonRow
-    ensures code { result.code ≡ code }
-    ensures text { result.text.now ≡ text.now }
-{
-    ReasonRow { code, text }
-}
-
 impl Reason {
-    /// The table of reasons.
-    fn row(self) -> ReasonRow
-        ensures code { result.code ≡ code_of self }
-        ensures text { result.text.now ≡ words_of self }
+    /// Returns the code and the text of the reason.
+    fn row(self) -> (u8, &'static str)
+        ensures code { result.0 ≡ code_of self }
+        ensures text { result.1.now ≡ words_of self }
     {
         match self {
-            Reason::NoHeader => make_row(1, "no header line"),
-            Reason::LineTooLong => make_row(2, "line too long"),
-            Reason::NotUtf8 => make_row(3, "not UTF-8"),
-            Reason::Syntax => make_row(4, "syntax"),
-            Reason::TooDeep => make_row(5, "nested too deep"),
-            Reason::MissingMember => make_row(10, "member missing"),
-            Reason::DuplicateName => make_row(11, "duplicate name"),
-            Reason::WrongKind => make_row(12, "wrong kind"),
-            Reason::NumberRange => make_row(13, "number out of range"),
-            Reason::WrongType => make_row(14, "wrong type"),
-            Reason::WrongVersion => make_row(15, "wrong version"),
-            Reason::NotEmpty => make_row(16, "not empty"),
-            Reason::NotThree => make_row(17, "not three items"),
-            Reason::NotWhole => make_row(18, "not a whole number"),
-            Reason::UnknownObjectType => make_row(19, "unknown object type"),
-            Reason::IdNotFound => make_row(20, "id not among the city objects"),
-            Reason::ChildNotFound => make_row(21, "child not found"),
-            Reason::LinkNotMutual => make_row(22, "link not mutual"),
-            Reason::NoParent => make_row(23, "no parent in the feature"),
-            Reason::UnknownGeometryType => make_row(24, "unknown geometry type"),
-            Reason::VertexIndex => make_row(25, "vertex index out of range"),
-            Reason::SemanticsCount => make_row(26, "semantics count"),
-            Reason::SemanticsIndex => make_row(27, "semantics index out of range"),
-            Reason::TemplateIndex => make_row(28, "template index out of range"),
-            Reason::BadInstance => make_row(29, "bad instance"),
-            Reason::TransformNotFixed => make_row(30, "transform not fixed"),
-            Reason::NotReached => make_row(31, "not reached from the main object"),
+            Reason::NoHeader => (1, "no header line"),
+            Reason::LineTooLong => (2, "line too long"),
+            Reason::NotUtf8 => (3, "not UTF-8"),
+            Reason::Syntax => (4, "syntax"),
+            Reason::TooDeep => (5, "nested too deep"),
+            Reason::MissingMember => (10, "member missing"),
+            Reason::DuplicateName => (11, "duplicate name"),
+            Reason::WrongKind => (12, "wrong kind"),
+            Reason::NumberRange => (13, "number out of range"),
+            Reason::WrongType => (14, "wrong type"),
+            Reason::WrongVersion => (15, "wrong version"),
+            Reason::NotEmpty => (16, "not empty"),
+            Reason::NotThree => (17, "not three items"),
+            Reason::NotWhole => (18, "not a whole number"),
+            Reason::UnknownObjectType => (19, "unknown object type"),
+            Reason::IdNotFound => (20, "id not among the city objects"),
+            Reason::ChildNotFound => (21, "child not found"),
+            Reason::LinkNotMutual => (22, "link not mutual"),
+            Reason::NoParent => (23, "no parent in the feature"),
+            Reason::UnknownGeometryType => (24, "unknown geometry type"),
+            Reason::VertexIndex => (25, "vertex index out of range"),
+            Reason::SemanticsCount => (26, "semantics count"),
+            Reason::SemanticsIndex => (27, "semantics index out of range"),
+            Reason::TemplateIndex => (28, "template index out of range"),
+            Reason::BadInstance => (29, "bad instance"),
+            Reason::TransformNotFixed => (30, "transform not fixed"),
+            Reason::NotReached => (31, "not reached from the main object"),
         }
     }
 
@@ -118,13 +103,13 @@ impl Reason {
     pub fn code(self) -> u8
         ensures { result ≡ code_of self }
     {
-        self.row().code
+        self.row().0
     }
 
     /// Returns the reason in a few words.
     pub fn text(self) -> &'static str
         ensures { result.now ≡ words_of self }
     {
-        self.row().text
+        self.row().1
     }
 }
