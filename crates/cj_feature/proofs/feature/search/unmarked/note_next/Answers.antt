@@ -1,4 +1,4 @@
-use Rattle.cj_feature.proofs.Common.{IsNoted, Tree, ap, arith, inl, inr, length, length-set, members_left, side_in, side_of, source_of, subst, short_hash_of, take, text_of, tree, tree_in, ◌+◌, ◌∙◌, ◌≡◌}
+use Rattle.cj_feature.proofs.Common.{IsMarkedBy, IsNoted, Tree, ap, arith, inl, inr, length, length-set, members_left, side_in, side_of, source_of, subst, sym, short_hash_of, take, text_of, tree, tree_in, ◌+◌, ◌∙◌, ◌≡◌}
 use Rattle.cj_feature.proofs.Questions.{kept-first, last-first}
 use Rattle.cj_feature.proofs.Walking.{next-or}
 use Rattle.cj_feature.proofs.feature.search.unmarked.note_next.Goals as goal
@@ -42,6 +42,30 @@ loop-count-preserved-then-not-marked c =
                   | inr later ↦ inl later
                 ]
             | inr k ↦ inr (elim k [ inl marked ↦ inl marked | inr n ↦ inr (noted m.0 n) ])
+          ];
+      line = steps.1 ∙ inv.line;
+      source = steps.3 ∙ inv.source;
+    }
+
+pub loop-count-preserved : goal.loop-count-preserved
+loop-count-preserved c =
+    let objects = c.args.objects in
+    let inv = c.loop-count.invariant in
+    let steps = c.in-Some.ensures.steps in
+    let here : IsMarkedBy objects (tree c.in-Some.object) =
+    rw (sym (steps.2.1 ∙ inv.line), sym (steps.4.1 ∙ inv.source)) (c.marked.ensures.yes c.if-not-marked.false) in
+    record {
+      few = inv.few;
+      same = inv.same;
+      fewer = omega (arith, inv.fewer, ap length steps.0);
+      passed = λ m h.
+          elim (inv.passed m h) [
+            | inl k ↦ elim (next-or (members_left c.loop-count.later) (tree c.in-Some.name, tree c.in-Some.object)
+                (members_left c.next.new.self) m steps.0 k) [
+                  | inl z ↦ inr (inl (subst (λ (w : Tree × Tree). IsMarkedBy objects w.1) z here))
+                  | inr later ↦ inl later
+                ]
+            | inr k ↦ inr k
           ];
       line = steps.1 ∙ inv.line;
       source = steps.3 ∙ inv.source;
