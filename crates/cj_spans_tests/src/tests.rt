@@ -7,6 +7,7 @@
 //! - `findings`: the least of some findings.
 ghost use Rattle.cj_spans.specs.Sound.{AreOf};
 
+mod checks;
 mod findings;
 mod letters;
 mod scans;

@@ -1,7 +1,7 @@
 //! Rows of the command line: which words ask for what.
 ghost use Rattle.cityseq_command.specs.Performed.{TakesOptions};
 
-use super::calls::{check_bytes, check_number, check_written};
+use super::calls::{check_at, check_bytes, check_written};
 use cityseq_command::ask::{Ask, perform};
 use cityseq_testkit::commanded;
 use cj_budget::Limits;
@@ -104,8 +104,8 @@ fn check_wrong_words(
     let front = &written.err[..told.len().min(written.err.len())];
     check_bytes(rt, front, told.as_bytes(), "standard error", 0);
     check_bytes(rt, &written.out, b"", "standard output", 0);
-    check_number(rt, written.status.into(), 2, "status", 0);
-    check_number(rt, reader.reads, 0, "reads", 0);
+    check_at(rt, written.status, 2, "status", 0);
+    check_at(rt, reader.reads, 0, "reads", 0);
     Ok(())
 }
 
@@ -165,7 +165,7 @@ fn help_is_written_and_nothing_read(rt: HostRuntime) -> Result<(), Fail> {
     let mut reader = SlowReader::new(HEADER, 10);
     let written = commanded(rt.alloc(), &["--version"], &mut reader)?;
     check_written(&rt, &written, 0, b"cityseq 0.2.0\n", b"");
-    check_number(&rt, reader.reads, 0, "reads", 0);
+    check_at(&rt, reader.reads, 0, "reads", 0);
     Ok(())
 }
 
@@ -185,7 +185,7 @@ fn info_reports_odd_numbers(rt: HostRuntime) -> Result<(), Fail> {
     let written = commanded(rt.alloc(), &["info"], &mut SlowReader::new(&input, 7))?;
     let front = &written.out[..told.len().min(written.out.len())];
     check_bytes(&rt, front, told, "standard output", 0);
-    check_number(&rt, written.status.into(), 0, "status", 0);
+    check_at(&rt, written.status, 0, "status", 0);
     Ok(())
 }
 
@@ -211,7 +211,7 @@ fn check_failing_text(
         &mut Output::new(&mut out),
         &mut Output::new(&mut err),
     );
-    check_number(rt, status.into(), 4, "status", fails_at);
+    check_at(rt, status, 4, "status", fails_at);
     check_bytes(rt, &out.bytes, wanted, "standard output", fails_at);
     check_bytes(rt, &err, b"write fault\n", "standard error", fails_at);
     Ok(())

@@ -1,4 +1,5 @@
 //! Rows of the limit of the stack, in the list of limits of a process.
+use super::calls::check_same;
 use cityseq_command::stack_limit::stack_limit_in;
 
 /// The list of a process with 8 MiB, as Linux writes it, up to the line after the stack.
@@ -12,17 +13,19 @@ const EIGHT_MIB: &str =
 
 #[test]
 fn the_soft_limit_is_read(rt: HostRuntime) {
-    assert_eq!(rt; EIGHT_MIB.len(), 6 * 79);
-    assert_eq!(rt; stack_limit_in(EIGHT_MIB), Some(8_388_608));
+    check_same(&rt, EIGHT_MIB.len(), 6 * 79);
+    check_same(&rt, stack_limit_in(EIGHT_MIB), Some(8_388_608));
     // a hard limit comes after it
-    assert_eq!(rt;
+    check_same(
+        &rt,
         stack_limit_in("Max stack size  1048576  8388608  bytes"),
-        Some(1_048_576)
+        Some(1_048_576),
     );
     // the list may end anywhere after the number
-    assert_eq!(rt;
+    check_same(
+        &rt,
         stack_limit_in("Max stack size            524288"),
-        Some(524_288)
+        Some(524_288),
     );
 }
 
@@ -37,6 +40,6 @@ fn no_number_is_no_limit(rt: HostRuntime) {
         "Max data size             8388608              unlimited            bytes     \n",
     ];
     for list in lists {
-        assert_eq!(rt; stack_limit_in(list), None);
+        check_same(&rt, stack_limit_in(list), None);
     }
 }

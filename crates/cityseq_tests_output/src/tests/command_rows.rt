@@ -1,5 +1,5 @@
 //! Rows of the program: what it writes if a line is invalid, and if a device fails.
-use super::calls::{check_bytes, check_number, check_written};
+use super::calls::{check_at, check_bytes, check_written};
 use cityseq_command::ask::{Ask, perform};
 use cityseq_command::fault_lines::{status, write_fault_line};
 use cityseq_testkit::{Written, commanded};
@@ -193,7 +193,7 @@ fn check_failing_error(rt: &impl Abort, alloc: Global, fails_at: u64) -> Result<
     err.fails_at = fails_at;
     let mut reader = SlowReader::new(b"", 100);
     let status = filter_to(alloc, limits, &mut reader, &mut out, &mut err);
-    check_number(rt, status.into(), 1, "status", fails_at);
+    check_at(rt, status, 1, "status", fails_at);
     check_bytes(rt, &out, b"", "standard output", fails_at);
     Ok(())
 }
@@ -209,7 +209,7 @@ fn a_standard_error_that_fails_is_ignored(rt: HostRuntime) -> Result<(), Fail> {
 fn check_end(rt: &impl Abort, alloc: Global, end: End, code: u8, line: &[u8]) {
     let mut err = Vec::new(alloc);
     assert_eq!(rt; write_fault_line(&mut Output::new(&mut err), end), Ok(()));
-    check_number(rt, status(end).into(), code.into(), "status", 0);
+    check_at(rt, status(end), code, "status", 0);
     check_bytes(rt, &err, line, "line", code.into());
 }
 

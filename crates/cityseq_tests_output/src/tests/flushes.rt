@@ -1,5 +1,5 @@
 //! Rows of standard output that counts its flushes. No clause can count them.
-use super::calls::{check_bytes, check_number};
+use super::calls::{check_at, check_bytes};
 use cityseq_testkit::commanded_to;
 use cj_stream_testkit::{FEATURE, HEADER, joined};
 use std::alloc::{AllocError, Global};
@@ -44,7 +44,7 @@ fn check_flushes(
     alloc: Global,
     arguments: &[&str],
     input: &[u8],
-    status: u64,
+    status: u8,
     flushes: u64,
 ) -> Result<(), Fail> {
     let mut out = FlushedWriter {
@@ -55,8 +55,8 @@ fn check_flushes(
     let mut err = Vec::new(alloc);
     let mut reader = input;
     let got = commanded_to(alloc, arguments, &mut reader, &mut out, &mut err)?;
-    check_number(rt, got.into(), status, "status", 0);
-    check_number(rt, out.flushes, flushes, "flushes", status);
+    check_at(rt, got, status, "status", 0);
+    check_at(rt, out.flushes, flushes, "flushes", status.into());
     Ok(())
 }
 
@@ -95,7 +95,7 @@ fn check_failed_first(
     let mut err = Vec::new(alloc);
     let mut reader = input;
     let status = commanded_to(alloc, arguments, &mut reader, &mut out, &mut err)?;
-    check_number(rt, status.into(), 4, "status", 0);
+    check_at(rt, status, 4, "status", 0);
     check_bytes(rt, &out.bytes, wanted, "standard output", 0);
     check_bytes(rt, &err, b"write fault\n", "standard error", 0);
     Ok(())

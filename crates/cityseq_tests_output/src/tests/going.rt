@@ -1,5 +1,5 @@
 //! Rows of the program with `--keep-going`.
-use super::calls::{check_bytes, check_number, check_written};
+use super::calls::{check_at, check_bytes, check_written};
 use cityseq_command::ask::{Ask, perform};
 use cityseq_testkit::{Written, commanded};
 use cj_budget::Limits;
@@ -174,7 +174,7 @@ fn check_failing_error(
     let input = with_several(alloc)?;
     let good = joined(alloc, &[HEADER, b"\n", FEATURE, b"\n", FEATURE])?;
     let written = going_over(alloc, &input, failing(alloc, 0), failing(alloc, fails_at));
-    check_number(rt, written.status.into(), 1, "status", fails_at);
+    check_at(rt, written.status, 1, "status", fails_at);
     check_bytes(rt, &written.out, &good, "standard output", fails_at);
     check_bytes(rt, &written.err, told, "standard error", fails_at);
     Ok(())
@@ -243,7 +243,7 @@ fn a_read_fault_after_a_report(rt: HostRuntime) -> Result<(), Fail> {
     let mut out = failing(rt.alloc(), 0);
     let mut err = failing(rt.alloc(), 0);
     let status = going_to(rt.alloc(), &mut reader, &mut out, &mut err);
-    check_number(&rt, status.into(), 3, "status", 0);
+    check_at(&rt, status, 3, "status", 0);
     check_bytes(&rt, &out.bytes, &front, "standard output", 0);
     check_bytes(&rt, &err.bytes, &told, "standard error", 0);
     Ok(())
@@ -299,7 +299,7 @@ fn check_failing_text(
         &mut Output::new(&mut out),
         &mut Output::new(&mut err),
     );
-    check_number(rt, status.into(), 4, "status", fails_at);
+    check_at(rt, status, 4, "status", fails_at);
     check_bytes(rt, &out.bytes, wanted, "standard output", fails_at);
     check_bytes(rt, &err.bytes, &told, "standard error", fails_at);
     Ok(())

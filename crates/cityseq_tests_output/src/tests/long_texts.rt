@@ -1,5 +1,5 @@
 //! Texts longer than each buffer, long words, and the default limits.
-use super::calls::{check_bytes, check_number, check_written};
+use super::calls::{check_at, check_bytes, check_written};
 use cityseq_command::ask::{Ask, perform};
 use cityseq_command::command::OUTPUT_BUFFER;
 use cityseq_testkit::commanded;
@@ -54,7 +54,7 @@ fn check_fault(
     writer.flush_fails = fails_at == 0;
     let mut err = Vec::new(alloc);
     let status = filter_through(alloc, text, &mut writer, &mut err)?;
-    check_number(rt, status.into(), 4, "status", fails_at);
+    check_at(rt, status, 4, "status", fails_at);
     check_bytes(rt, &err, b"write fault\n", "standard error", fails_at);
     let written = writer.bytes.as_slice();
     assert!(rt; written.len() <= text.len());
@@ -80,7 +80,7 @@ fn check_whole(rt: &impl Abort, alloc: Global, text: &[u8], step: usize) -> Resu
     let mut writer = SlowWriter::new(Vec::new(alloc), step);
     let mut err = Vec::new(alloc);
     let status = filter_through(alloc, text, &mut writer, &mut err)?;
-    check_number(rt, status.into(), 0, "status", step as u64);
+    check_at(rt, status, 0, "status", step as u64);
     check_bytes(rt, &err, b"", "standard error", step as u64);
     check_bytes(rt, &writer.bytes, text, "whole", step as u64);
     Ok(())
@@ -152,7 +152,7 @@ fn a_query_of_many_texts(rt: HostRuntime) -> Result<(), Fail> {
     let arguments = ["filter", "--type", unknown.as_str()];
     let written = commanded(rt.alloc(), &arguments, &mut reader)?;
     check_written(&rt, &written, 2, b"", b"unknown object type\n");
-    check_number(&rt, reader.reads, 0, "reads", 0);
+    check_at(&rt, reader.reads, 0, "reads", 0);
     Ok(())
 }
 

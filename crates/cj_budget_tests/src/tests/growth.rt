@@ -1,11 +1,12 @@
 //! Whether growths failed.
+use super::checks::check_same;
 use cj_budget::{NoMemory, Refusals};
 use std::process::Abort;
 
 /// Notes the answer of a growth, and compares what is passed on.
 fn check_note(rt: &impl Abort, failed_growths: &mut Refusals, answer: Result<(), NoMemory>) {
     let wanted = answer.is_ok();
-    assert_eq!(rt; failed_growths.note(answer).is_ok(), wanted);
+    check_same(rt, failed_growths.note(answer).is_ok(), wanted);
 }
 
 #[test]
@@ -17,5 +18,5 @@ fn answers_of_growths_are_noted(rt: HostRuntime) {
 
 #[test]
 fn one_lack_of_memory_is_like_another(rt: HostRuntime) {
-    assert_eq!(rt; NoMemory, NoMemory);
+    check_same(&rt, NoMemory, NoMemory);
 }

@@ -1,4 +1,5 @@
 //! Limits in range, and limits that are declined.
+use super::checks::{check_named, check_same};
 use cj_budget::{LimitFault, Limits, Peaks, USUAL_DEPTH, USUAL_LINE};
 use std::process::Abort;
 
@@ -12,19 +13,19 @@ struct Row {
 
 /// Compares limits that were made with the numbers of a row.
 fn check_made(rt: &impl Abort, limits: Limits, row: &Row) {
-    assert_eq!(rt; row.fault, None, "{}", row.name);
+    check_named(rt, row.fault, None, row.name);
     check_number(rt, limits.line(), row.line);
     check_number(rt, limits.depth(), row.depth);
 }
 
 /// Compares numbers.
 fn check_number(rt: &impl Abort, got: u64, wanted: u64) {
-    assert_eq!(rt; got, wanted);
+    check_same(rt, got, wanted);
 }
 
 /// Compares a fault with that of a row.
 fn check_fault(rt: &impl Abort, fault: LimitFault, row: &Row) {
-    assert_eq!(rt; row.fault, Some(fault), "{}", row.name);
+    check_named(rt, row.fault, Some(fault), row.name);
 }
 
 /// Makes the limits of each row, and compares the result.
@@ -89,7 +90,7 @@ fn limits_in_range_are_kept(rt: HostRuntime) {
 
 /// Makes the usual limits by their numbers, and compares them.
 fn check_usual(rt: &impl Abort, usual: Limits) {
-    assert_eq!(rt; Limits::new(USUAL_LINE, USUAL_DEPTH), Ok(usual));
+    check_same(rt, Limits::new(USUAL_LINE, USUAL_DEPTH), Ok(usual));
 }
 
 #[test]
@@ -102,12 +103,13 @@ fn the_usual_limits(rt: HostRuntime) {
 
 #[test]
 fn no_peaks(rt: HostRuntime) {
-    assert_eq!(rt;
+    check_same(
+        &rt,
         Peaks::default(),
         Peaks {
             bytes: 0,
             tokens: 0,
-            depth: 0
-        }
+            depth: 0,
+        },
     );
 }

@@ -1,10 +1,11 @@
 //! Lists that are filled, emptied and reserved.
+use super::checks::check_same;
 use cj_budget::{Bounded, ExtendFault, NoMemory, Refused};
 use std::process::Abort;
 
 /// Adds an element, and compares the answer.
 fn check_push(rt: &impl Abort, list: &mut Bounded<u8>, x: u8, wanted: Result<(), Refused<u8>>) {
-    assert_eq!(rt; list.push(x), wanted);
+    check_same(rt, list.push(x), wanted);
 }
 
 /// Adds an element where there is room for it.
@@ -15,7 +16,7 @@ fn push(rt: &impl Abort, list: &mut Bounded<u8>, x: u8) {
 /// Adds an element by the call that checks no limit.
 fn put(rt: &impl Abort, list: &mut Bounded<u8>, x: u8) {
     assert!(rt; list.len() < list.limit());
-    assert_eq!(rt; list.put(x), Ok(()));
+    check_same(rt, list.put(x), Ok(()));
 }
 
 /// Adds a slice, and compares the answer.
@@ -25,7 +26,7 @@ fn check_extend(
     xs: &[u8],
     wanted: Result<(), ExtendFault>,
 ) {
-    assert_eq!(rt; list.extend_from_slice(xs), wanted);
+    check_same(rt, list.extend_from_slice(xs), wanted);
 }
 
 /// Adds a slice where there is room for it.
@@ -35,12 +36,12 @@ fn extend(rt: &impl Abort, list: &mut Bounded<u8>, xs: &[u8]) {
 
 /// Compares the elements.
 fn check_items(rt: &impl Abort, list: &Bounded<u8>, wanted: &[u8]) {
-    assert_eq!(rt; list.as_slice(), wanted);
+    check_same(rt, list.as_slice(), wanted);
 }
 
 /// Compares lengths.
 fn check_length(rt: &impl Abort, got: usize, wanted: usize) {
-    assert_eq!(rt; got, wanted);
+    check_same(rt, got, wanted);
 }
 
 /// Compares the length and the peak of a list.
@@ -52,17 +53,17 @@ fn check_lengths(rt: &impl Abort, list: &Bounded<u8>, length: usize, peak: usize
 
 /// Compares whether a list is empty.
 fn check_empty(rt: &impl Abort, list: &Bounded<u8>, wanted: bool) {
-    assert_eq!(rt; list.is_empty(), wanted);
+    check_same(rt, list.is_empty(), wanted);
 }
 
 /// Compares whether a list has memory for all elements that its limit allows.
 fn check_reserved(rt: &impl Abort, list: &Bounded<u8>, wanted: bool) {
-    assert_eq!(rt; list.is_reserved(), wanted);
+    check_same(rt, list.is_reserved(), wanted);
 }
 
 /// Reserves memory for all elements that the limit allows.
 fn reserve_all(rt: &impl Abort, list: &mut Bounded<u8>) {
-    assert_eq!(rt; list.reserve_all(), Ok(()));
+    check_same(rt, list.reserve_all(), Ok(()));
 }
 
 /// Reserves memory in a list that has too little for its limit.
@@ -188,18 +189,18 @@ fn replace(rt: &impl Abort, list: &mut Bounded<u8>, at: usize, x: u8) {
 
 /// Adds a number to a list of eight bytes a number.
 fn push_wide(rt: &impl Abort, list: &mut Bounded<u64>, x: u64) {
-    assert_eq!(rt; list.push(x), Ok(()));
+    check_same(rt, list.push(x), Ok(()));
 }
 
 /// Reserves memory that no machine has.
 fn check_no_room(rt: &impl Abort, list: &mut Bounded<u64>) {
-    assert_eq!(rt; list.reserve_all(), Err(NoMemory));
+    check_same(rt, list.reserve_all(), Err(NoMemory));
 }
 
 /// Compares the numbers of a list that has too little memory for its limit.
 fn check_kept(rt: &impl Abort, list: &Bounded<u64>, wanted: &[u64]) {
     assert!(rt; !list.is_reserved());
-    assert_eq!(rt; list.as_slice(), wanted);
+    check_same(rt, list.as_slice(), wanted);
 }
 
 #[test]

@@ -1,10 +1,11 @@
 //! Stacks in their inline room, past it, and past what a machine has.
+use super::checks::check_same;
 use cj_budget::{NoMemory, Refused, Stack};
 use std::process::Abort;
 
 /// Pushes an item, and compares the answer.
 fn check_push(rt: &impl Abort, stack: &mut Stack, item: u32, wanted: Result<(), Refused<u32>>) {
-    assert_eq!(rt; stack.push(item), wanted);
+    check_same(rt, stack.push(item), wanted);
 }
 
 /// Pushes an item where there is room for it.
@@ -31,17 +32,17 @@ fn push_and_pop(rt: &impl Abort, stack: &mut Stack) {
 
 /// Pops an item, and compares it.
 fn check_pop(rt: &impl Abort, stack: &mut Stack, wanted: Option<u32>) {
-    assert_eq!(rt; stack.pop(), wanted);
+    check_same(rt, stack.pop(), wanted);
 }
 
 /// Compares the item on top.
 fn check_top(rt: &impl Abort, stack: &Stack, wanted: Option<u32>) {
-    assert_eq!(rt; stack.top(), wanted);
+    check_same(rt, stack.top(), wanted);
 }
 
 /// Compares lengths.
 fn check_length(rt: &impl Abort, got: usize, wanted: usize) {
-    assert_eq!(rt; got, wanted);
+    check_same(rt, got, wanted);
 }
 
 /// Compares the length and the peak of a stack.
@@ -53,17 +54,17 @@ fn check_lengths(rt: &impl Abort, stack: &Stack, length: usize, peak: usize) {
 
 /// Compares whether a stack is empty.
 fn check_empty(rt: &impl Abort, stack: &Stack, wanted: bool) {
-    assert_eq!(rt; stack.is_empty(), wanted);
+    check_same(rt, stack.is_empty(), wanted);
 }
 
 /// Compares whether a stack has room for all items that its limit allows.
 fn check_reserved(rt: &impl Abort, stack: &Stack, wanted: bool) {
-    assert_eq!(rt; stack.is_reserved(), wanted);
+    check_same(rt, stack.is_reserved(), wanted);
 }
 
 /// Reserves room for all items that the limit allows, and compares the answer.
 fn check_reserve(rt: &impl Abort, stack: &mut Stack, wanted: Result<(), NoMemory>) {
-    assert_eq!(rt; stack.reserve_all(), wanted);
+    check_same(rt, stack.reserve_all(), wanted);
 }
 
 /// Pops the items below this number, the greatest first.

@@ -1,4 +1,5 @@
 //! Rows of findings, each with its least one.
+use super::checks::{check_named, check_same};
 use cj_spans::{Finding, Least, Reason};
 use std::process::Abort;
 
@@ -47,7 +48,7 @@ fn least_of(findings: &[Finding]) -> Option<Finding> {
 }
 
 fn meets(rt: &impl Abort, name: &str, findings: &[Finding], want: Option<Finding>) {
-    assert_eq!(rt; least_of(findings), want, "{name}");
+    check_named(rt, least_of(findings), want, name);
 }
 
 /// The name of a row, its findings, and the least one.
@@ -103,7 +104,7 @@ fn is_at_most(rt: &impl Abort, first: Finding, second: Finding) {
 }
 
 fn is_the_same(rt: &impl Abort, first: Finding, second: Finding) {
-    assert_eq!(rt; first, second);
+    check_same(rt, first, second);
 }
 
 fn is_another(rt: &impl Abort, first: Finding, second: Finding) {

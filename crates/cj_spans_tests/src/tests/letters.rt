@@ -1,6 +1,7 @@
 //! Letters beyond ASCII in a string, at each side of the borders of 16 and of 64 bytes, and bytes
 //! that are no letters. RFC 3629, section 4, says which bytes are letters. A fault is at the first
 //! byte of what is none.
+use super::checks::check_same;
 use cj_budget::{Bounded, Stack};
 use cj_spans::{ScanFault, Token, scan};
 use std::alloc::{AllocError, Global};
@@ -73,7 +74,7 @@ fn answer(
 
 /// Checks a result of a scan.
 fn is_answer(rt: &impl Abort, got: Result<(), ScanFault>, want: Result<(), ScanFault>) {
-    assert_eq!(rt; got, want);
+    check_same(rt, got, want);
 }
 
 /// Checks that bytes are accepted as letters behind `front`, or rejected at their place.

@@ -2,6 +2,7 @@
 ghost use Rattle.std.specs.Prelude.{◌≤◌, length};
 ghost use Rattle.cj_spans.specs.Sound.{AreOf};
 
+use super::checks::{check_named, check_same};
 use super::tokens_of;
 use cj_budget::{Bounded, Stack};
 use cj_spans::{Doc, Node, Reason, ScanFault, Token, scan, scan_reserved, slow_next};
@@ -40,8 +41,8 @@ const SMALL: &[u8] =
 
 /// Reserves the memory of two lists.
 fn reserve(rt: &impl Abort, tokens: &mut Bounded<Token>, stack: &mut Stack) {
-    assert_eq!(rt; tokens.reserve_all(), Ok(()));
-    assert_eq!(rt; stack.reserve_all(), Ok(()));
+    check_same(rt, tokens.reserve_all(), Ok(()));
+    check_same(rt, stack.reserve_all(), Ok(()));
 }
 
 /// Scans a line into lists with reserved memory.
@@ -71,7 +72,7 @@ fn answer(rt: &impl Abort, line: &[u8], tokens: &mut Bounded<Token>, stack: &mut
 }
 
 fn is_answer(rt: &impl Abort, got: Answer, want: Answer) {
-    assert_eq!(rt; got, want);
+    check_same(rt, got, want);
 }
 
 /// Scans a line into lists, and compares the result.
@@ -99,7 +100,7 @@ fn answers_reserved(
 }
 
 fn is_wanted(rt: &impl Abort, got: Answer, row: &Row) {
-    assert_eq!(rt; got, row.want, "{}", row.name);
+    check_named(rt, got, row.want, row.name);
 }
 
 /// Checks lists after a scan. If the line was a text, no container is open. The tokens are at their
@@ -686,15 +687,15 @@ fn members_that_are_containers(rt: HostRuntime) {
 }
 
 fn have_lengths(rt: &impl Abort, tokens: &Bounded<Token>, stack: &Stack, want: (usize, usize)) {
-    assert_eq!(rt; (tokens.len(), stack.len()), want);
+    check_same(rt, (tokens.len(), stack.len()), want);
 }
 
 fn have_peaks(rt: &impl Abort, tokens: &Bounded<Token>, stack: &Stack, want: (usize, usize)) {
-    assert_eq!(rt; (tokens.peak(), stack.peak()), want);
+    check_same(rt, (tokens.peak(), stack.peak()), want);
 }
 
 fn have_limits(rt: &impl Abort, tokens: &Bounded<Token>, stack: &Stack, want: (usize, usize)) {
-    assert_eq!(rt; (tokens.limit(), stack.limit()), want);
+    check_same(rt, (tokens.limit(), stack.limit()), want);
 }
 
 /// Scans brackets into lists of which the stack holds 1,024.
@@ -758,12 +759,12 @@ fn link_of(node: Node) -> u32 {
 /// Checks where a value or name is, and what it links to. It has no mark.
 fn is_placed(rt: &impl Abort, node: Node, want: (usize, usize, u32)) {
     let (start, stop) = node.span();
-    assert_eq!(rt; (start, stop, link_of(node)), want);
+    check_same(rt, (start, stop, link_of(node)), want);
     assert!(rt; !node.marked());
 }
 
 fn is_count(rt: &impl Abort, got: usize, want: usize) {
-    assert_eq!(rt; got, want);
+    check_same(rt, got, want);
 }
 
 /// Checks where each value and name is, and what it links to. None has a mark.
@@ -797,7 +798,7 @@ fn tokens_stand_where_the_values_do(rt: HostRuntime) {
 }
 
 fn is_link(rt: &impl Abort, got: u32, want: u32) {
-    assert_eq!(rt; got, want);
+    check_same(rt, got, want);
 }
 
 /// Checks that each token has its link, and that places give the same.
@@ -942,11 +943,11 @@ const REASONS: [(Reason, u8, &str); 27] = [
 ];
 
 fn has_code(rt: &impl Abort, reason: Reason, code: u8) {
-    assert_eq!(rt; reason.code(), code);
+    check_same(rt, reason.code(), code);
 }
 
 fn has_text(rt: &impl Abort, reason: Reason, text: &str) {
-    assert_eq!(rt; reason.text(), text);
+    check_same(rt, reason.text(), text);
 }
 
 #[test]

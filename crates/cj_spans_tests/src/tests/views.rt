@@ -1,6 +1,7 @@
 //! Rows of views. Expected values are read from the lines by hand.
 ghost use Rattle.cj_spans.specs.Sound.{AreOf};
 
+use super::checks::{check_named, check_same};
 use super::tokens_of;
 use cj_spans::{Doc, Items, Kind, Node, Token, tail_of_string};
 use std::alloc::Global;
@@ -33,11 +34,11 @@ fn has_parts(node: Node, row: &Row) -> bool {
 }
 
 fn are_bytes(rt: &impl Abort, got: &[u8], want: &[u8]) {
-    assert_eq!(rt; got, want);
+    check_same(rt, got, want);
 }
 
 fn is_number(rt: &impl Abort, got: u64, want: u64) {
-    assert_eq!(rt; got, want);
+    check_same(rt, got, want);
 }
 
 /// Checks that something holds for the value at a place.
@@ -186,7 +187,7 @@ fn is_shown(rt: &impl Abort, root: Node, shown: Shown) {
         Shown::Members(want) => members_are(rt, root, want),
         Shown::Got(want) => are_got(rt, root, want),
         Shown::GotWithin(name, want) => are_got_within(rt, root, name, want),
-        Shown::Apart(want) => assert_eq!(rt; root.get_four("", "", "", "").apart, want),
+        Shown::Apart(want) => check_same(rt, root.get_four("", "", "", "").apart, want),
         Shown::Texts(texts) => are_texts(rt, root.items(), texts),
         Shown::Ranks(ranks) => are_ranked(rt, root.items(), ranks),
         Shown::Beside(text, want) => are_ordered_beside(rt, root.items(), text, want),
@@ -282,16 +283,16 @@ fn got<'a>(node: Node<'a>, name: &str) -> Option<&'a [u8]> {
 fn are_got_of_four(rt: &impl Abort, object: Node, name: &str, other: &str, want: Option<&[u8]>) {
     let members = object.get_four(name, other, name, other);
     let behind = got(object, other);
-    assert_eq!(rt; bytes_of(object.at_if(members.first)), want, "{name}");
-    assert_eq!(rt; bytes_of(object.at_if(members.second)), behind, "{other}");
-    assert_eq!(rt; bytes_of(object.at_if(members.third)), want, "{name}");
-    assert_eq!(rt; bytes_of(object.at_if(members.fourth)), behind, "{other}");
+    check_named(rt, bytes_of(object.at_if(members.first)), want, name);
+    check_named(rt, bytes_of(object.at_if(members.second)), behind, other);
+    check_named(rt, bytes_of(object.at_if(members.third)), want, name);
+    check_named(rt, bytes_of(object.at_if(members.fourth)), behind, other);
 }
 
 /// Checks that an object has these values by name, alone and beside others.
 fn are_got(rt: &impl Abort, object: Node, rows: &[Got]) {
     for (name, want) in rows {
-        assert_eq!(rt; got(object, *name), *want, "{name}");
+        check_named(rt, got(object, *name), *want, name);
         for (other, _) in rows {
             are_got_of_four(rt, object, *name, *other, *want);
         }

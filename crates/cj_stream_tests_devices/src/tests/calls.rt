@@ -3,28 +3,29 @@ use cj_budget::{Limits, Peaks};
 use cj_stream::{End, Engine, LineSink, Options, Outcome, Query, ReportSink};
 use cj_stream_testkit::{NoteReports, joined};
 use std::alloc::Global;
+use std::fmt::Debug;
 use std::process::Abort;
 use std::test::Fail;
 
-/// Compares bytes, at a place of a row. The asserts have functions of their own, since each one
-/// makes the proof of its function slower.
+/// Compares two values.
+pub fn check_same<T: PartialEq + Debug + Copy>(rt: &impl Abort, got: T, wanted: T) {
+    assert_eq!(rt; got, wanted);
+}
+
+/// Compares two values, at a place of a row.
+pub fn check_at<T: PartialEq + Debug + Copy>(
+    rt: &impl Abort,
+    got: T,
+    wanted: T,
+    row: &str,
+    at: u64,
+) {
+    assert_eq!(rt; got, wanted, "{row}, at {at}");
+}
+
+/// Compares bytes, at a place of a row.
 pub fn check_bytes(rt: &impl Abort, got: &[u8], wanted: &[u8], row: &str, at: u64) {
-    assert_eq!(rt; got, wanted, "{row}, at {at}");
-}
-
-/// Compares numbers.
-pub fn check_number(rt: &impl Abort, got: u64, wanted: u64, row: &str, at: u64) {
-    assert_eq!(rt; got, wanted, "{row}, at {at}");
-}
-
-/// Compares ends.
-pub fn check_ended(rt: &impl Abort, got: End, wanted: End, row: &str, at: u64) {
-    assert_eq!(rt; got, wanted, "{row}, at {at}");
-}
-
-/// Compares outcomes.
-pub fn check_outcome(rt: &impl Abort, got: Outcome, wanted: Outcome, row: &str, at: u64) {
-    assert_eq!(rt; got, wanted, "{row}, at {at}");
+    check_at(rt, got, wanted, row, at);
 }
 
 /// Compares bytes with the joined parts.
@@ -71,7 +72,7 @@ pub fn check_feed<S: LineSink, N: ReportSink>(
 ) {
     assert!(rt; engine.taken() <= 1_000_000_000);
     assert!(rt; piece.len() <= 1_000_000_000);
-    assert_eq!(rt; engine.feed(piece, sink, reports), wanted);
+    check_same(rt, engine.feed(piece, sink, reports), wanted);
 }
 
 /// Ends the stream of an engine, and compares the result.
@@ -82,18 +83,18 @@ pub fn check_finish<S: LineSink, N: ReportSink>(
     reports: &mut N,
     wanted: End,
 ) {
-    assert_eq!(rt; engine.finish(sink, reports), wanted);
+    check_same(rt, engine.finish(sink, reports), wanted);
 }
 
 /// Compares what an engine counts.
 pub fn check_counts(rt: &impl Abort, engine: &Engine, taken: u64, lines: u64, kept: u64) {
-    check_number(rt, engine.taken(), taken, "taken", taken);
-    check_number(rt, engine.lines(), lines, "lines", taken);
-    check_number(rt, engine.kept(), kept, "kept", taken);
+    check_at(rt, engine.taken(), taken, "taken", taken);
+    check_at(rt, engine.lines(), lines, "lines", taken);
+    check_at(rt, engine.kept(), kept, "kept", taken);
 }
 
 /// Compares what an engine holds, and what it held at most.
 pub fn check_held(rt: &impl Abort, engine: &Engine, held: Peaks, peaks: Peaks) {
-    assert_eq!(rt; engine.held(), held);
-    assert_eq!(rt; engine.peaks(), peaks);
+    check_same(rt, engine.held(), held);
+    check_same(rt, engine.peaks(), peaks);
 }

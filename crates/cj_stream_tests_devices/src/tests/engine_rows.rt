@@ -1,5 +1,5 @@
 //! Rows of an engine that is called step by step.
-use super::calls::{check_bytes, check_number};
+use super::calls::{check_at, check_bytes};
 use super::steps::{Opening, Step, written_by_steps};
 use cj_spans::Reason;
 use cj_stream::End;
@@ -37,7 +37,7 @@ fn check_end(
 #[test]
 fn an_end_stays_the_end(rt: HostRuntime) -> Result<(), Fail> {
     let text = joined(rt.alloc(), &[STREAM, FEATURE, b" \n"])?;
-    check_number(&rt, text.len() as u64, 564, "bytes of the text", 0);
+    check_at(&rt, text.len() as u64, 564, "bytes of the text", 0);
     let end = refused(3, 210, Reason::LineTooLong);
     check_end(&rt, rt.alloc(), 210, &text, end, STREAM)
 }

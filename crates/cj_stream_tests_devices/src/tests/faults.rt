@@ -1,5 +1,5 @@
 //! Devices that fail: a prefix of the output is written, and the end says why.
-use super::calls::{check_bytes, check_ended, check_number};
+use super::calls::{check_at, check_bytes};
 use super::steps::{Opening, Step, check_steps};
 use cj_budget::Limits;
 use cj_spans::Reason;
@@ -27,8 +27,8 @@ fn a_writer_that_takes_five_bytes_and_fails(rt: HostRuntime) -> Result<(), Fail>
     writer.fails_at = 2;
     let mut sink = WriteSink::new(writer);
     let outcome = ran_from_slice(rt.alloc(), STREAM, &mut sink);
-    check_ended(&rt, outcome.ended, End::WriteFault, "five bytes", 0);
-    check_number(&rt, outcome.lines, 0, "lines", 0);
+    check_at(&rt, outcome.ended, End::WriteFault, "five bytes", 0);
+    check_at(&rt, outcome.lines, 0, "lines", 0);
     check_bytes(&rt, &sink.into_inner().bytes, b"{\"typ", "five bytes", 0);
     Ok(())
 }
@@ -46,11 +46,11 @@ fn check_failing_write(
     writer.fault = fault;
     let mut reader = SlowReader::new(text, 100);
     let outcome = copied_to(alloc, &mut reader, &mut writer, Limits::usual());
-    check_ended(rt, outcome.ended, End::WriteFault, "write", fails_at);
+    check_at(rt, outcome.ended, End::WriteFault, "write", fails_at);
     let written = writer.bytes.as_slice();
     assert!(rt; written.len() <= text.len());
-    check_number(rt, writer.writes, fails_at, "writes", fails_at);
-    check_number(
+    check_at(rt, writer.writes, fails_at, "writes", fails_at);
+    check_at(
         rt,
         written.len() as u64 + 1,
         fails_at,
@@ -73,10 +73,10 @@ fn check_step(rt: &impl Abort, alloc: Global, text: &[u8], step: usize, ended: E
     let mut writer = SlowWriter::new(Vec::new(alloc), step);
     let mut reader = SlowReader::new(text, 1_000);
     let outcome = copied_to(alloc, &mut reader, &mut writer, Limits::usual());
-    check_ended(rt, outcome.ended, ended, "by steps", step as u64);
+    check_at(rt, outcome.ended, ended, "by steps", step as u64);
     check_bytes(rt, &writer.bytes, wanted, "by steps", step as u64);
     let writes = (wanted.len() as u64).max(1);
-    check_number(rt, writer.writes, writes, "writes", step as u64);
+    check_at(rt, writer.writes, writes, "writes", step as u64);
 }
 
 #[test]
@@ -103,9 +103,9 @@ fn check_failing_read(
         _ => (2, 352),
     };
     assert!(rt; front <= text.len());
-    check_ended(rt, outcome.ended, End::ReadFault, "read", fails_at);
-    check_number(rt, outcome.lines, lines, "lines", fails_at);
-    check_number(rt, reader.reads, fails_at, "reads", fails_at);
+    check_at(rt, outcome.ended, End::ReadFault, "read", fails_at);
+    check_at(rt, outcome.lines, lines, "lines", fails_at);
+    check_at(rt, reader.reads, fails_at, "reads", fails_at);
     check_bytes(rt, &written, &text[..front], "read", fails_at);
 }
 
@@ -122,9 +122,9 @@ fn a_reader_that_fails_in_the_second_line(rt: HostRuntime) {
     let mut reader = SlowReader::new(STREAM, 145);
     reader.fails_at = 2;
     let (outcome, written) = copied(rt.alloc(), &mut reader, Limits::usual());
-    check_ended(&rt, outcome.ended, End::ReadFault, "second line", 2);
-    check_number(&rt, outcome.lines, 1, "lines", 2);
-    check_number(&rt, outcome.kept, 0, "kept", 2);
+    check_at(&rt, outcome.ended, End::ReadFault, "second line", 2);
+    check_at(&rt, outcome.lines, 1, "lines", 2);
+    check_at(&rt, outcome.kept, 0, "kept", 2);
     check_bytes(&rt, &written, FIRST, "second line", 2);
 }
 
@@ -156,10 +156,10 @@ fn check_fault_of(rt: &impl Abort, alloc: Global, writer: &mut SlowWriter) -> Re
 fn a_write_fault_stays_the_end(rt: HostRuntime) -> Result<(), Fail> {
     let mut writer = SlowWriter::new(Vec::new(rt.alloc()), 0);
     check_fault_of(&rt, rt.alloc(), &mut writer)?;
-    check_number(&rt, writer.writes, 1, "writes", 0);
+    check_at(&rt, writer.writes, 1, "writes", 0);
     let ended = run_to(rt.alloc(), HEADER, &mut Output::new(&mut writer));
-    check_ended(&rt, ended, End::WriteFault, "another run", 0);
-    check_number(&rt, writer.writes, 2, "writes", 1);
+    check_at(&rt, ended, End::WriteFault, "another run", 0);
+    check_at(&rt, writer.writes, 2, "writes", 1);
     Ok(())
 }
 
@@ -188,8 +188,8 @@ fn check_fault_told_again(
     )?;
     let written = writer.bytes.as_slice();
     assert!(rt; written.len() <= text.len());
-    check_number(rt, writer.writes, at, "writes", at);
-    check_number(rt, written.len() as u64 + 1, at, "bytes and one", at);
+    check_at(rt, writer.writes, at, "writes", at);
+    check_at(rt, written.len() as u64 + 1, at, "bytes and one", at);
     check_bytes(rt, written, &text[..written.len()], "write", at);
     Ok(())
 }
@@ -210,8 +210,8 @@ fn an_engine_tells_each_write_fault_again(rt: HostRuntime) -> Result<(), Fail> {
 /// Runs over a stream to a sink whose writer fails in it, and then once more. Only contracts can
 /// see how often a sink's writer failed. The test sees that a failure does not stay.
 fn check_one_failure<S: LineSink>(rt: &impl Abort, alloc: Global, text: &[u8], sink: &mut S) {
-    check_ended(rt, run_to(alloc, text, sink), End::WriteFault, "first", 0);
-    check_ended(rt, run_to(alloc, text, sink), End::Complete, "second", 0);
+    check_at(rt, run_to(alloc, text, sink), End::WriteFault, "first", 0);
+    check_at(rt, run_to(alloc, text, sink), End::Complete, "second", 0);
 }
 
 /// Checks sinks with a writer that fails at this write. `front` was written before, and then the
@@ -252,8 +252,8 @@ fn a_refused_line_is_not_put(rt: HostRuntime) -> Result<(), Fail> {
     writer.fails_at = 3;
     let ended = run_to(rt.alloc(), &text, &mut Output::new(&mut writer));
     let wanted = refused(2, 144, Reason::VertexIndex);
-    check_ended(&rt, ended, wanted, "refused", 0);
-    check_number(&rt, writer.writes, 2, "writes", 0);
+    check_at(&rt, ended, wanted, "refused", 0);
+    check_at(&rt, writer.writes, 2, "writes", 0);
     check_bytes(&rt, &writer.bytes, FIRST, "refused", 0);
     Ok(())
 }

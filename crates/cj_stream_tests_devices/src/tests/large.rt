@@ -1,5 +1,5 @@
 //! Large lists, and queries of many and of long texts.
-use super::calls::{check_bytes, check_ended, check_number, check_outcome};
+use super::calls::{check_at, check_bytes};
 use cj_budget::Limits;
 use cj_spans::Reason;
 use cj_stream::{End, Outcome, Query};
@@ -31,8 +31,8 @@ fn check_large(
 ) -> Outcome {
     let mut reader = SlowReader::new(text, 8_192);
     let (outcome, bytes) = copied(alloc, &mut reader, Limits::usual());
-    check_ended(rt, outcome.ended, wanted, row, 0);
-    check_number(rt, bytes.len() as u64, written.len() as u64, row, 1);
+    check_at(rt, outcome.ended, wanted, row, 0);
+    check_at(rt, bytes.len() as u64, written.len() as u64, row, 1);
     check_bytes(rt, &bytes, written, row, 2);
     outcome
 }
@@ -66,7 +66,7 @@ fn zeros_in_a_list(rt: HostRuntime) -> Result<(), Fail> {
     let got = check_large(&rt, rt.alloc(), &text, End::Complete, &text, "a list");
     let peaks = held(8_388_747, 4_194_257, 8);
     let wanted = outcome(2, 1, peaks, End::Complete);
-    check_outcome(&rt, got, wanted, "a list", 3);
+    check_at(&rt, got, wanted, "a list", 3);
     Ok(())
 }
 
@@ -83,8 +83,8 @@ fn check_keeps(
     let mut reader = SlowReader::new(&text, 8_192);
     let reading = Reading::usual(Limits::usual(), query);
     let (outcome, _) = written_by(alloc, &mut reader, &reading);
-    check_ended(rt, outcome.ended, End::Complete, row, 0);
-    check_number(rt, outcome.kept, keeps.into(), row, 1);
+    check_at(rt, outcome.ended, End::Complete, row, 0);
+    check_at(rt, outcome.kept, keeps.into(), row, 1);
     Ok(())
 }
 

@@ -1,5 +1,5 @@
 //! What a sink borrows: the header, and each feature by itself, with the contents of their lines.
-use super::calls::{check_bytes, check_outcome};
+use super::calls::{check_at, check_bytes};
 use cj_feature::{Feature, Header};
 use cj_stream::{CountSink, End, IgnoreSink, LineSink, WriteFault};
 use cj_stream_testkit::{FEATURE, STREAM, held, joined, outcome, ran_to};
@@ -145,7 +145,7 @@ fn a_sink_counts_headers_and_features(rt: HostRuntime) -> Result<(), Fail> {
     };
     let told = ran_to(rt.alloc(), &text, 100, &mut sink);
     let wanted = outcome(4, 2, held(350, 65, 8), End::Complete);
-    check_outcome(&rt, told, wanted, "counts", 0);
+    check_at(&rt, told, wanted, "counts", 0);
     assert_eq!(&rt;
         sink,
         CountSink {
@@ -160,5 +160,5 @@ fn a_sink_counts_headers_and_features(rt: HostRuntime) -> Result<(), Fail> {
 fn a_sink_ignores_what_it_is_lent(rt: HostRuntime) {
     let told = ran_to(rt.alloc(), &STREAM[..351], 100, &mut IgnoreSink);
     let wanted = outcome(2, 1, held(350, 65, 8), End::Complete);
-    check_outcome(&rt, told, wanted, "ignored", 0);
+    check_at(&rt, told, wanted, "ignored", 0);
 }

@@ -1,5 +1,5 @@
 //! Devices that are slow or that fail, with streams longer than each buffer.
-use super::calls::{check_bytes, check_ended, check_number};
+use super::calls::{check_at, check_bytes};
 use super::long_lines::{long_text, many_features};
 use cj_budget::Limits;
 use cj_stream::End;
@@ -22,8 +22,8 @@ fn check_front(
     let mut reader = SlowReader::new(text, 10_000);
     let limits = Limits::usual();
     let outcome = copied_to(alloc, &mut reader, &mut writer, limits);
-    check_ended(rt, outcome.ended, End::WriteFault, "write", fails_at);
-    check_number(rt, writer.writes, fails_at, "writes", fails_at);
+    check_at(rt, outcome.ended, End::WriteFault, "write", fails_at);
+    check_at(rt, writer.writes, fails_at, "writes", fails_at);
     let written = writer.bytes.as_slice();
     assert!(rt; written.len() <= text.len());
     check_bytes(rt, written, &text[..written.len()], "write", fails_at);
@@ -33,7 +33,7 @@ fn check_front(
 /// A writer that takes one byte per write has taken one byte less than it had calls.
 fn check_bytewise(rt: &impl Abort, alloc: Global, text: &[u8], fails_at: u64) -> Result<(), Fail> {
     let written = check_front(rt, alloc, text, 1, fails_at)?;
-    check_number(
+    check_at(
         rt,
         written.saturating_add(1),
         fails_at,
@@ -71,7 +71,7 @@ fn check_whole(rt: &impl Abort, alloc: Global, text: &[u8], step: usize) -> Resu
     let mut reader = SlowReader::new(text, 10_000);
     let limits = Limits::usual();
     let outcome = copied_to(alloc, &mut reader, &mut writer, limits);
-    check_ended(rt, outcome.ended, End::Complete, "whole", step as u64);
+    check_at(rt, outcome.ended, End::Complete, "whole", step as u64);
     check_bytes(rt, &writer.bytes, text, "whole", step as u64);
     Ok(())
 }
@@ -100,8 +100,8 @@ fn check_failing_read(
     let mut reader = SlowReader::new(text, 100);
     reader.fails_at = fails_at;
     let (outcome, bytes) = copied(alloc, &mut reader, Limits::usual());
-    check_ended(rt, outcome.ended, End::ReadFault, "read", fails_at);
-    check_number(rt, outcome.lines, lines, "lines", fails_at);
+    check_at(rt, outcome.ended, End::ReadFault, "read", fails_at);
+    check_at(rt, outcome.lines, lines, "lines", fails_at);
     assert!(rt; written <= text.len());
     check_bytes(rt, &bytes, &text[..written], "read", fails_at);
     Ok(())

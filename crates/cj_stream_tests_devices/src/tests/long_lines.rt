@@ -1,5 +1,5 @@
 //! Lines longer than one read, given at once and in very many pieces.
-use super::calls::{check_bytes, check_outcome};
+use super::calls::{check_at, check_bytes};
 use super::steps::{Opening, Step, written_by_steps};
 use cj_budget::Limits;
 use cj_stream::{End, Outcome};
@@ -29,7 +29,7 @@ pub fn long_text(alloc: Global, length: usize) -> Result<Vec<u8>, Fail> {
 fn check_run(rt: &impl Abort, alloc: Global, text: &[u8], step: usize, wanted: Outcome, row: &str) {
     let mut reader = SlowReader::new(text, step);
     let (outcome, written) = copied(alloc, &mut reader, Limits::usual());
-    check_outcome(rt, outcome, wanted, row, step as u64);
+    check_at(rt, outcome, wanted, row, step as u64);
     check_bytes(rt, &written, text, row, step as u64);
 }
 

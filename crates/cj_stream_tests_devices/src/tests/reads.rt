@@ -1,6 +1,6 @@
 //! Runs with a limit on the number of reads: how often the reader is read, what is written, and how
 //! they end.
-use super::calls::{check_bytes, check_ended, check_number};
+use super::calls::{check_at, check_bytes};
 use cj_budget::Limits;
 use cj_spans::Reason;
 use cj_stream::{End, NoReports, Outcome, Output, Query, ReportSink, WriteSink, run_within};
@@ -71,7 +71,7 @@ fn check_counts(rt: &impl Abort, got: (u64, u64, u64), wanted: (u64, u64, u64), 
 /// written.
 fn check_went(rt: &impl Abort, outcome: &Outcome, written: &[u8], made: u64, row: &Row) {
     let counts = (outcome.lines, outcome.kept, made);
-    check_ended(rt, outcome.ended, row.ended, row.name, row.reads);
+    check_at(rt, outcome.ended, row.ended, row.name, row.reads);
     check_counts(rt, counts, (row.lines, row.kept, row.made), row);
     check_bytes(rt, written, row.written, row.name, row.reads);
 }
@@ -289,8 +289,8 @@ fn check_reads_to(rt: &impl Abort, alloc: Global, fails_at: u64, reads: u64) {
     let reading = Reading::usual(Limits::usual(), &query);
     let mut sink = Output::new(&mut writer);
     let outcome = ran(alloc, &mut reader, &mut sink, &mut NoReports, &reading);
-    check_ended(rt, outcome.ended, End::WriteFault, "write", fails_at);
-    check_number(rt, reader.reads, reads, "reads", fails_at);
+    check_at(rt, outcome.ended, End::WriteFault, "write", fails_at);
+    check_at(rt, reader.reads, reads, "reads", fails_at);
 }
 
 /// The reader is not read after a failed write. The LF of the header is byte 141, and that of the

@@ -1,6 +1,6 @@
 //! What is reported of invalid lines if reading goes on after them. It has a sink that notes each
 //! report, the sink that counts, and cases without any report.
-use super::calls::{check_bytes, check_ended, check_notes, check_number};
+use super::calls::{check_at, check_bytes, check_notes};
 use super::reads::ran_within;
 use super::steps::{Opening, Step, check_steps, written_by_steps};
 use cj_budget::Limits;
@@ -40,9 +40,9 @@ fn counted(alloc: Global, text: &[u8], from: u64) -> Result<(Outcome, u64), Fail
 fn check_counted(rt: &impl Abort, alloc: Global, from: u64, wanted: u64) -> Result<(), Fail> {
     let text = joined(alloc, &[FIRST, b"{}\n", FEATURE, b"\n3"])?;
     let (outcome, reports) = counted(alloc, &text, from)?;
-    check_ended(rt, outcome.ended, End::Complete, "counted", from);
-    check_number(rt, outcome.refused, 2, "refused", from);
-    check_number(rt, reports, wanted, "reports", from);
+    check_at(rt, outcome.ended, End::Complete, "counted", from);
+    check_at(rt, outcome.refused, 2, "refused", from);
+    check_at(rt, reports, wanted, "reports", from);
     Ok(())
 }
 
@@ -80,9 +80,9 @@ fn check_unreported(
     wanted: End,
     row: &str,
 ) {
-    check_ended(rt, outcome.ended, wanted, row, 0);
-    check_number(rt, outcome.lines, 2, row, 1);
-    check_number(rt, outcome.refused, 1, row, 2);
+    check_at(rt, outcome.ended, wanted, row, 0);
+    check_at(rt, outcome.lines, 2, row, 1);
+    check_at(rt, outcome.refused, 1, row, 2);
     check_notes(rt, reports, "2 0 10\n", row, 3);
 }
 
@@ -289,8 +289,8 @@ fn written_unread(rt: &impl Abort, alloc: Global, text: &[u8]) -> Result<Vec<u8>
     let query = Query::all(alloc);
     let reading = going_within(Limits::new(1_000, 64)?, &query);
     let (outcome, written) = written_by(alloc, &mut SlowReader::new(text, 100), &reading);
-    check_ended(rt, outcome.ended, End::Complete, "no one reads", 0);
-    check_number(rt, outcome.refused, 2, "refused", 0);
+    check_at(rt, outcome.ended, End::Complete, "no one reads", 0);
+    check_at(rt, outcome.refused, 2, "refused", 0);
     Ok(written)
 }
 

@@ -2,7 +2,7 @@
 //! and the engine's expected counts. One function opens all of these engines, since the proof of a
 //! function that owns one is slow.
 use super::calls::{
-    check_counts, check_feed, check_finish, check_held, check_notes, check_number, opened,
+    check_at, check_counts, check_feed, check_finish, check_held, check_notes, opened,
 };
 use cj_budget::Peaks;
 use cj_stream::{End, Engine, LineSink, Options, Query, WriteSink};
@@ -58,7 +58,7 @@ fn check_reported(
     refused: u64,
     notes: &str,
 ) {
-    check_number(rt, engine.refused(), refused, "refused", engine.taken());
+    check_at(rt, engine.refused(), refused, "refused", engine.taken());
     check_notes(rt, reports, notes, "reports", engine.taken());
 }
 
@@ -78,7 +78,7 @@ fn check_step<S: LineSink>(
         Step::HeldWithHeader(bytes, most) => {
             check_held(rt, engine, held(bytes, 21, 0), held(most, 21, 3))
         }
-        Step::PeakOfBytes(most) => check_number(rt, engine.peaks().bytes, most, "peak", 0),
+        Step::PeakOfBytes(most) => check_at(rt, engine.peaks().bytes, most, "peak", 0),
         Step::Counts(taken, lines, kept) => check_counts(rt, engine, taken, lines, kept),
         Step::Reported(refused, notes) => check_reported(rt, engine, reports, refused, notes),
     }

@@ -3,28 +3,29 @@ use cj_budget::Limits;
 use cj_stream::{End, Outcome};
 use cj_stream_testkit::{NoteReports, SlowReader, copied, joined};
 use std::alloc::Global;
+use std::fmt::Debug;
 use std::process::Abort;
 use std::test::Fail;
 
-/// Compares bytes, at a place of a row. The asserts have functions of their own, since each one
-/// makes the proof of its function slower.
+/// Compares two values.
+pub fn check_same<T: PartialEq + Debug + Copy>(rt: &impl Abort, got: T, wanted: T) {
+    assert_eq!(rt; got, wanted);
+}
+
+/// Compares two values, at a place of a row.
+pub fn check_at<T: PartialEq + Debug + Copy>(
+    rt: &impl Abort,
+    got: T,
+    wanted: T,
+    row: &str,
+    at: u64,
+) {
+    assert_eq!(rt; got, wanted, "{row}, at {at}");
+}
+
+/// Compares bytes, at a place of a row.
 pub fn check_bytes(rt: &impl Abort, got: &[u8], wanted: &[u8], row: &str, at: u64) {
-    assert_eq!(rt; got, wanted, "{row}, at {at}");
-}
-
-/// Compares numbers.
-pub fn check_number(rt: &impl Abort, got: u64, wanted: u64, row: &str, at: u64) {
-    assert_eq!(rt; got, wanted, "{row}, at {at}");
-}
-
-/// Compares ends.
-pub fn check_ended(rt: &impl Abort, got: End, wanted: End, row: &str, at: u64) {
-    assert_eq!(rt; got, wanted, "{row}, at {at}");
-}
-
-/// Compares outcomes.
-pub fn check_outcome(rt: &impl Abort, got: Outcome, wanted: Outcome, row: &str, at: u64) {
-    assert_eq!(rt; got, wanted, "{row}, at {at}");
+    check_at(rt, got, wanted, row, at);
 }
 
 /// Compares bytes with the joined parts.

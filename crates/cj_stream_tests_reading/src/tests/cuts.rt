@@ -1,6 +1,6 @@
 //! Streams that are read whole, by single bytes, and cut in two at every place. A run, an engine
 //! and a reader of lines read them.
-use super::calls::{check_bytes, check_notes, check_outcome};
+use super::calls::{check_at, check_bytes, check_notes};
 use super::line_pieces::given_behind;
 use cj_budget::Limits;
 use cj_stream::{Options, Outcome, Query, WriteSink};
@@ -118,7 +118,7 @@ fn check_told(
 ) {
     let row = case.row;
     check_notes(rt, reports, row.reports, row.name, at);
-    check_outcome(rt, outcome, row.outcome, row.name, at);
+    check_at(rt, outcome, row.outcome, row.name, at);
     check_bytes(rt, written, case.written, row.name, at);
 }
 

@@ -1,5 +1,5 @@
 //! Which of several broken rules of one line is reported.
-use super::calls::{check_ended, ended_by_bytes};
+use super::calls::{check_at, ended_by_bytes};
 use cj_budget::Limits;
 use cj_spans::Reason;
 use cj_stream_testkit::{FIRST, joined, refused};
@@ -22,7 +22,7 @@ fn check_row(rt: &impl Abort, alloc: Global, row: &Row) -> Result<(), Fail> {
     let limits = Limits::new(row.limits.0, row.limits.1)?;
     let ended = ended_by_bytes(alloc, &text, limits);
     let wanted = refused(2, row.place, row.reason);
-    check_ended(rt, ended, wanted, "first fault", row.place);
+    check_at(rt, ended, wanted, "first fault", row.place);
     Ok(())
 }
 

@@ -1,7 +1,5 @@
 //! Worked examples: inputs, what is written of them, and how they end.
-use super::calls::{
-    check_bytes, check_ended, check_joined, check_number, check_outcome, ended_by_bytes,
-};
+use super::calls::{check_at, check_bytes, check_joined, ended_by_bytes};
 use super::cuts::{Row, USUAL_LINE, check};
 use cj_budget::{Limits, Peaks};
 use cj_spans::Reason;
@@ -37,7 +35,7 @@ pub fn check_run(
 ) {
     let mut reader = SlowReader::new(text, step);
     let (outcome, written) = copied(alloc, &mut reader, limits);
-    check_outcome(rt, outcome, wanted.outcome, wanted.name, step as u64);
+    check_at(rt, outcome, wanted.outcome, wanted.name, step as u64);
     check_bytes(rt, &written, wanted.written, wanted.name, step as u64);
 }
 
@@ -69,7 +67,7 @@ const LENGTHS: [(&[u8], u64); 3] = [(HEADER, 140), (FEATURE, 210), (SMALL, 89)];
 #[test]
 fn texts_have_their_lengths(rt: HostRuntime) {
     for (text, length) in &LENGTHS {
-        check_number(&rt, text.len() as u64, *length, "bytes", *length);
+        check_at(&rt, text.len() as u64, *length, "bytes", *length);
     }
 }
 
@@ -237,7 +235,7 @@ fn bytes_before_syntax(rt: HostRuntime) -> Result<(), Fail> {
 pub fn check_place(rt: &impl Abort, alloc: Global, line: &[u8], place: u64) -> Result<(), Fail> {
     let text = joined(alloc, &[FIRST, line])?;
     let ended = ended_by_bytes(alloc, &text, Limits::usual());
-    check_ended(
+    check_at(
         rt,
         ended,
         refused(2, place, Reason::Syntax),

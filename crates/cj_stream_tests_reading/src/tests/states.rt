@@ -1,5 +1,5 @@
 //! Rows through the two states, with every cut, and what both return where one becomes the other.
-use super::calls::{check_bytes, check_ended, check_outcome};
+use super::calls::{check_at, check_bytes, check_same};
 use super::rows::Wanted;
 use super::turn_steps::{HeaderStep, LineStep, written_by_turns};
 use cj_budget::Limits;
@@ -183,7 +183,7 @@ fn check_pieces(
     at: u64,
 ) -> Result<(), Fail> {
     let (told, written) = copied_by_states(rt, alloc, pieces, limits)?;
-    check_outcome(rt, told, wanted.outcome, wanted.name, at);
+    check_at(rt, told, wanted.outcome, wanted.name, at);
     check_bytes(rt, &written, wanted.written, wanted.name, at);
     Ok(())
 }
@@ -264,7 +264,7 @@ fn a_line_too_long_by_states(rt: HostRuntime) -> Result<(), Fail> {
     let text = joined(rt.alloc(), &[FIRST, FEATURE, b" \n"])?;
     let (told, written) = copied_by_states(&rt, rt.alloc(), &[&text], Limits::new(210, 64)?)?;
     let wanted = refused(2, 210, Reason::LineTooLong);
-    check_ended(&rt, told.ended, wanted, "too long", 0);
+    check_at(&rt, told.ended, wanted, "too long", 0);
     check_bytes(&rt, &written, FIRST, "too long", 0);
     Ok(())
 }
@@ -276,7 +276,7 @@ pub fn check_progress(
     used: usize,
     accepted: bool,
 ) {
-    assert_eq!(rt; got, Ok(Progress { used, accepted }));
+    check_same(rt, got, Ok(Progress { used, accepted }));
 }
 
 /// Gives a header and an invalid line to the reader of a header, which uses 141 bytes. The rest

@@ -1,7 +1,7 @@
 //! Readers of a header and of lines that are called step by step. A row is a list of calls, each
 //! with its expected result and the reader's expected counts. One function opens all of these
 //! readers.
-use super::calls::check_number;
+use super::calls::{check_at, check_same};
 use super::states::{check_progress, feed_header, feed_lines, finish_header, turned, usual_header};
 use cj_budget::Peaks;
 use cj_stream::{
@@ -57,7 +57,7 @@ fn check_header_end<S: LineSink>(
     sink: &mut S,
     end: HeaderEnd,
 ) {
-    assert_eq!(rt; feed_header(rt, header, piece, sink), Err(end));
+    check_same(rt, feed_header(rt, header, piece, sink), Err(end));
 }
 
 /// Ends the stream of the reader of a header, and compares the result.
@@ -67,12 +67,12 @@ fn check_header_finish<S: LineSink>(
     sink: &mut S,
     end: HeaderEnd,
 ) {
-    assert_eq!(rt; finish_header(rt, header, sink), end);
+    check_same(rt, finish_header(rt, header, sink), end);
 }
 
 /// Compares what a reader holds, and what it held at most.
 fn check_held(rt: &impl Abort, got: (Peaks, Peaks), wanted: (Peaks, Peaks)) {
-    assert_eq!(rt; got, wanted);
+    check_same(rt, got, wanted);
 }
 
 /// Gives a piece, and the end, to the reader of a header that has ended.
@@ -91,10 +91,10 @@ fn check_header_again<S: LineSink>(
 
 /// Compares what the reader of a header counts.
 fn check_header_counts(rt: &impl Abort, header: &HeaderReader, taken: u64, lines: u64) {
-    check_number(rt, header.taken(), taken, "taken of a header", taken);
-    check_number(rt, header.lines(), lines, "lines of a header", taken);
-    check_number(rt, header.kept(), 0, "kept of a header", taken);
-    check_number(rt, header.refused(), 0, "refused of a header", taken);
+    check_at(rt, header.taken(), taken, "taken of a header", taken);
+    check_at(rt, header.lines(), lines, "lines of a header", taken);
+    check_at(rt, header.kept(), 0, "kept of a header", taken);
+    check_at(rt, header.refused(), 0, "refused of a header", taken);
 }
 
 /// Takes a step of the reader of a header.
@@ -140,7 +140,7 @@ fn check_line_feed<S: LineSink>(
     sink: &mut S,
     wanted: Result<(), LineEnd>,
 ) {
-    assert_eq!(rt; feed_lines(rt, lines, piece, sink), wanted);
+    check_same(rt, feed_lines(rt, lines, piece, sink), wanted);
 }
 
 /// Ends the stream of the reader of lines, and compares the result.
@@ -150,7 +150,7 @@ fn check_line_finish<S: LineSink>(
     sink: &mut S,
     end: LineEnd,
 ) {
-    assert_eq!(rt; lines.finish(sink, &mut NoReports), end);
+    check_same(rt, lines.finish(sink, &mut NoReports), end);
 }
 
 /// Gives a piece, and the end, to the reader of lines that has ended.
@@ -169,10 +169,10 @@ fn check_line_again<S: LineSink>(
 
 /// Compares what the reader of lines counts.
 fn check_line_counts(rt: &impl Abort, reader: &LineReader, taken: u64, lines: u64, kept: u64) {
-    check_number(rt, reader.taken(), taken, "taken of lines", taken);
-    check_number(rt, reader.lines(), lines, "lines", taken);
-    check_number(rt, reader.kept(), kept, "kept of lines", taken);
-    check_number(rt, reader.refused(), 0, "refused of lines", taken);
+    check_at(rt, reader.taken(), taken, "taken of lines", taken);
+    check_at(rt, reader.lines(), lines, "lines", taken);
+    check_at(rt, reader.kept(), kept, "kept of lines", taken);
+    check_at(rt, reader.refused(), 0, "refused of lines", taken);
 }
 
 /// Takes a step of the reader of lines.

@@ -1,5 +1,5 @@
 //! What both states return, call by call: where one becomes the other, and after an end.
-use super::calls::{check_bytes, check_number};
+use super::calls::{check_at, check_bytes};
 use super::states::{by_states, usual_header};
 use super::turn_steps::{HeaderStep, LineStep, check_turns, written_by_turns};
 use cj_spans::Reason;
@@ -65,8 +65,8 @@ fn both_states_tell_what_they_hold(rt: HostRuntime) -> Result<(), Fail> {
         &feature_steps(),
         &mut sink,
     )?;
-    check_number(&rt, sink.headers, 1, "headers", 0);
-    check_number(&rt, sink.features, 1, "features", 0);
+    check_at(&rt, sink.headers, 1, "headers", 0);
+    check_at(&rt, sink.features, 1, "features", 0);
     Ok(())
 }
 
@@ -222,7 +222,7 @@ fn check_taken(
     assert!(rt; at <= text.len());
     let whole = if at <= last { at as u64 } else { 0 };
     let states = taken_by_states(rt, alloc, &[&text[..at], &text[at..]])?;
-    check_number(rt, states, whole.max(141), "taken by the states", at as u64);
+    check_at(rt, states, whole.max(141), "taken by the states", at as u64);
     Ok(())
 }
 

@@ -2,7 +2,7 @@
 //! left out.
 //!
 //! The rows with a whole outcome are run whole, by single bytes, and cut in two at every place.
-use super::calls::{check_bytes, check_flag, check_notes, check_number, check_outcome, check_text};
+use super::calls::{check_at, check_bytes, check_named, check_notes, check_text};
 use super::rows::{
     bytes_of, cell, end_told, has_word, options_of, outcome_told, push_side, query_of,
 };
@@ -144,9 +144,9 @@ fn check_rows(rt: &impl Abort, alloc: Global, rows: &str) -> Result<(), Fail> {
 
 /// Compares what options return.
 fn check_options(rt: &impl Abort, options: Options, wanted: &str, row: &str) {
-    check_flag(rt, options.keeps_going(), has_word(wanted, "going"), row);
-    check_flag(rt, options.asks_for_trees(), has_word(wanted, "tree"), row);
-    check_flag(rt, options.excludes(), has_word(wanted, "exclude"), row);
+    check_named(rt, options.keeps_going(), has_word(wanted, "going"), row);
+    check_named(rt, options.asks_for_trees(), has_word(wanted, "tree"), row);
+    check_named(rt, options.excludes(), has_word(wanted, "exclude"), row);
 }
 
 /// A method that sets an option leaves the others as they are, and can reset it. A row has what is
@@ -214,7 +214,7 @@ pub fn check_went(
 ) -> Result<(), Fail> {
     let ended = end_told(alloc, came.outcome.ended)?;
     check_text(rt, &ended, wanted.ended, row, 0);
-    check_number(rt, came.outcome.kept, wanted.kept, row, 1);
+    check_at(rt, came.outcome.kept, wanted.kept, row, 1);
     check_bytes(rt, &came.written, wanted.written, row, 2);
     Ok(())
 }
@@ -389,9 +389,9 @@ fn check_together(rt: &impl Abort, inside: Outcome, outside: Outcome, row: &str)
         kept: inside.kept,
         ..outside
     };
-    check_number(rt, inside.lines, 5, row, 3);
-    check_number(rt, kept, 4, row, 4);
-    check_outcome(rt, same, inside, row, 5);
+    check_at(rt, inside.lines, 5, row, 3);
+    check_at(rt, kept, 4, row, 4);
+    check_at(rt, same, inside, row, 5);
 }
 
 /// Checks both sides of a row. Its cells are the name, the query, and the features that it selects.

@@ -1,5 +1,5 @@
 //! Queries of many ids: each id that was added is found, and no other.
-use super::calls::{check_ended, check_number};
+use super::calls::check_at;
 use super::rows::cell;
 use cj_budget::Limits;
 use cj_stream::{CountSink, End, NoReports, Query};
@@ -86,8 +86,8 @@ fn check_kept(
     };
     let reading = Reading::usual(Limits::usual(), query);
     let outcome = ran(alloc, &mut reader, &mut sink, &mut NoReports, &reading);
-    check_ended(rt, outcome.ended, End::Complete, row, kept);
-    check_number(rt, sink.features, kept, row, kept);
+    check_at(rt, outcome.ended, End::Complete, row, kept);
+    check_at(rt, sink.features, kept, row, kept);
     Ok(())
 }
 

@@ -1,7 +1,7 @@
 //! Every two options, and all three, with every two parts of a query.
 //!
 //! Which features satisfy two parts follows from the rows for one part each, in `choosing`.
-use super::calls::{check_notes, check_number};
+use super::calls::{check_at, check_notes};
 use super::choosing::{Came, Went, came_of, check_went};
 use super::rows::{bytes_of, cell, has_word, options_of, push_side, query_of};
 use cj_stream::Query;
@@ -75,7 +75,7 @@ fn check_reported(
         row,
         3,
     );
-    check_number(rt, came.outcome.lines, case.lines.parse()?, row, 4);
+    check_at(rt, came.outcome.lines, case.lines.parse()?, row, 4);
     Ok(())
 }
 

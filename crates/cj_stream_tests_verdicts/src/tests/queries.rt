@@ -1,5 +1,5 @@
 //! Rows of queries: which features of a stream are kept.
-use super::calls::{check_ended, check_joined, check_number, check_text};
+use super::calls::{check_at, check_joined, check_named, check_text};
 use super::rows::{ask, bytes_of, cell, end_told, query_of};
 use cj_budget::Limits;
 use cj_stream::{End, Outcome, Query, QueryFault};
@@ -46,9 +46,9 @@ fn check_keeps(
     let lines = [pair.header, b"\n", pair.feature, b"\n"];
     let text = joined(alloc, &lines)?;
     let (outcome, written) = kept_of(alloc, &text, Limits::usual(), query);
-    check_ended(rt, outcome.ended, End::Complete, row, 0);
-    check_number(rt, outcome.lines, 2, row, 1);
-    check_number(rt, outcome.kept, keeps.into(), row, 2);
+    check_at(rt, outcome.ended, End::Complete, row, 0);
+    check_at(rt, outcome.lines, 2, row, 1);
+    check_at(rt, outcome.kept, keeps.into(), row, 2);
     let kept = if keeps { 4 } else { 2 };
     check_joined(rt, alloc, &written, &lines[..kept], row, 3)
 }
@@ -368,13 +368,13 @@ fn check_fault(
     wanted: Result<(), QueryFault>,
     row: &str,
 ) {
-    assert_eq!(rt; got, wanted, "{row}");
+    check_named(rt, got, wanted, row);
 }
 
 /// Runs over the usual header and feature, and checks whether the feature is kept.
 fn check_query(rt: &impl Abort, alloc: Global, query: &Query, keeps: bool, row: &str) {
     let (outcome, _) = kept_of(alloc, STREAM, Limits::usual(), query);
-    check_number(rt, outcome.kept, keeps.into(), row, 0);
+    check_at(rt, outcome.kept, keeps.into(), row, 0);
 }
 
 /// Does to a query what the words say, and checks whether the usual feature is kept then.

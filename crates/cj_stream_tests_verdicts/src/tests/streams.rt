@@ -1,7 +1,7 @@
 //! Streams of many lines that look random, each compared with the plain program. They run with and
 //! without going on after invalid lines. They are cut into single bytes, into reads of varying
 //! lengths, and in two.
-use super::calls::{check_bound, check_bytes, check_notes, check_outcome};
+use super::calls::{check_at, check_bound, check_bytes, check_notes};
 use super::plain::{Known, Plain, Verdict, Way, plainly};
 use cj_budget::{Limits, Peaks};
 use cj_spans::Reason;
@@ -288,7 +288,7 @@ fn check_came(
         peaks: peaks_of(case.plain, got.peaks),
         ..case.plain.outcome
     };
-    check_outcome(rt, got, wanted, row, case.stream);
+    check_at(rt, got, wanted, row, case.stream);
     check_notes(rt, reports, case.plain.reports.as_bytes(), row, case.stream);
     check_bytes(rt, written, &case.plain.written, row, at);
 }

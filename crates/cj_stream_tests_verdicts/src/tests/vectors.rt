@@ -3,7 +3,7 @@
 //!
 //! There are two families. One is a feature that is cut short at each place. The other is a feature
 //! with a byte that is not UTF-8 at each place. All other vectors are in `table`.
-use super::calls::{check_bound, check_bytes, check_ended, check_outcome};
+use super::calls::{check_at, check_bound, check_bytes, check_named};
 use super::rows::{bytes_of, cell, end_told, options_of, peaks_told, query_of};
 use cj_budget::Limits;
 use cj_stream::{End, IgnoreSink, Outcome, Query, Report, ReportSink};
@@ -67,7 +67,7 @@ fn check_cut(rt: &impl Abort, alloc: Global, vector: &Vector, at: usize, first: 
         _ => got.peaks,
     };
     let wanted = Outcome { peaks, ..first };
-    check_outcome(rt, got, wanted, vector.name, at as u64);
+    check_at(rt, got, wanted, vector.name, at as u64);
 }
 
 /// Keeps the first report.
@@ -117,8 +117,8 @@ fn check_going(rt: &impl Abort, alloc: Global, vector: &Vector, ended: End) {
     };
     let outcome = ran(alloc, &mut reader, &mut IgnoreSink, &mut reports, &reading);
     check_bound(rt, vector.text, reading.limits, outcome.peaks);
-    check_ended(rt, outcome.ended, wanted, vector.name, SINGLE_BYTES);
-    assert_eq!(rt; reports.report, report, "{}", vector.name);
+    check_at(rt, outcome.ended, wanted, vector.name, SINGLE_BYTES);
+    check_named(rt, reports.report, report, vector.name);
 }
 
 /// Checks a vector in every way.
@@ -126,7 +126,7 @@ fn check(rt: &impl Abort, alloc: Global, vector: &Vector) -> Result<(), Fail> {
     let mut reader = SlowReader::new(vector.text, 1);
     let first = run_over(rt, alloc, vector, &mut reader, SINGLE_BYTES);
     let told = told(alloc, first)?;
-    assert_eq!(rt; told.as_str(), vector.told, "{}", vector.name);
+    check_named(rt, told.as_str(), vector.told, vector.name);
     check_going(rt, alloc, vector, first.ended);
     for at in 0..=vector.text.len() {
         check_cut(rt, alloc, vector, at, first);
