@@ -55,7 +55,7 @@ def task_of(pid):
     if "--crate-name" not in words[:-1]:
         return None
     crate = words[words.index("--crate-name") + 1]
-    if os.path.basename(os.readlink(f"/proc/{pid}/cwd")).startswith("rt-edit-"):
+    if "--only" in words:
         return crate, "edits"
     return crate, "tests" if "--test" in words else "proof"
 

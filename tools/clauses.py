@@ -19,7 +19,7 @@ from typing import Iterator, Optional
 
 ROOT = Path(__file__).resolve().parent.parent
 INDEX = Path("docs") / "CLAUSES.md"
-FOLDERS = "must-fail", "wrong-bodies"
+FOLDER = "wrong-bodies"
 WIDEST = 150  # characters of a cell that a list fills
 LONGEST, MOST_WORDS = 160, 25  # characters and words of the sentence in a cell
 
@@ -157,8 +157,7 @@ def functions_of(text: str) -> Iterator[Function]:
 
 def edits_of(crate: Path) -> Iterator[tuple[str, list[tuple[str, str]]]]:
     """Yields the edits of a crate: the name, and file and old text of each change."""
-    paths = [path for folder in FOLDERS for path in (crate / folder).glob("*.edit")]
-    for path in sorted(paths, key=lambda path: path.stem):
+    for path in sorted((crate / FOLDER).glob("*.edit"), key=lambda path: path.stem):
         file, changes = "", []
         for line in path.read_text(encoding="utf-8").splitlines():
             word, _, text = line.partition(": ")

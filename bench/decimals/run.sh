@@ -14,7 +14,7 @@ least() {
 
 mkdir -p "$work/crates/decimal_times/src"
 cp -r "$here/../../crates/cj_decimal" "$work/crates/cj_decimal"
-rm -rf "$work/crates/cj_decimal/out" "$work/crates/cj_decimal/must-fail"
+rm -rf "$work/crates/cj_decimal/out"
 cp "$here/program/main.rattle" "$work/crates/decimal_times/src/main.rt"
 printf 'cj_decimal: thiserror\ndecimal_times: cj_decimal\n' > "$work/crates.txt"
 rustc --edition 2024 -C opt-level=3 -C target-cpu=x86-64-v2 -o "$work/twin" "$here/twin/main.rs"

@@ -940,7 +940,7 @@ case_the_example_counts() {
 
 # ---- wrong bodies
 
-# Whether CI and `tests/mutation/wrong_bodies.sh` can apply each: they are not tried here.
+# Whether `tests/mutation/wrong_bodies.sh` can apply each: they are not tried here.
 case_each_edit_can_be_applied() {
   command -v python3 > "$scratch/noise" || return $skipped
   tests/mutation/edits.py > "$scratch/written" && grep -qx '[1-9][0-9]* edits, 0 that cannot be applied' "$scratch/written" ||

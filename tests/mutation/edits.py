@@ -1,5 +1,5 @@
 #!/usr/bin/env python3
-"""Looks whether each edit in must-fail/ and wrong-bodies/ can be applied. It proves nothing, and takes a moment.
+"""Looks whether each edit in wrong-bodies/ can be applied. It proves nothing, and takes a moment.
 
     tests/mutation/edits.py [CRATE..]     (with no crate, all crates)
 
@@ -11,7 +11,7 @@ text has to stand once in its file, and the new one has to differ. It prints wha
 import pathlib
 import sys
 
-FOLDERS = "must-fail", "wrong-bodies"
+FOLDER = "wrong-bodies"
 
 
 def pairs_of(lines):
@@ -58,7 +58,7 @@ def main(names):
     )
     tried = wrong = 0
     for crate in folders:
-        for edit in sorted(it for folder in FOLDERS for it in (crate / folder).glob("*.edit")):
+        for edit in sorted((crate / FOLDER).glob("*.edit")):
             tried += 1
             fault = fault_of(crate, edit)
             if fault:

@@ -1,18 +1,24 @@
-"""Tries the edits of one crate on a copy of it, as many by one check as are in functions of their own.
+"""Tries the edits of one crate on a copy of it.
 
     wrong_bodies.py CRATE FOLDER EDIT..
 
-FOLDER is the copy's crate. A check goes on past a function that is not proved, and names it. So a batch of edits, each in
-another function, is one check: an edit is refused where its function has a goal that is not proved. Where the function
-only calls one that is not proved, the edit is tried again in the next batch. What a batch does not refuse is tried alone,
-and so is an edit that is in no function: it is refused where the check refuses the crate. The last line is
-'N refused, M get past'.
+FOLDER is the copy's crate. The libraries of the crates below stand beside it, as any check left them. A check of some functions
+goes on past one that is not proved, and names it. So a batch of edits, each in another function, is one check of these functions:
+an edit is refused where its function has a goal that is not proved. Where the function only calls one that is not proved, the
+edit is tried again in the next batch. What a batch does not refuse is tried alone by a check of the crate, and so is an edit that
+is in no function: it is refused where that check refuses the crate. At last all functions are checked as they are, and all have
+to be proved. The last line is 'N refused, M get past'.
 """
 
 import os
 import re
 import subprocess
 import sys
+
+KIT = os.path.dirname(
+    subprocess.run(["rt", "doc"], stdout=subprocess.PIPE, text=True, check=True).stdout.strip()
+)
+BATCH = 6  # edits: in larger ones more functions call one that is not proved
 
 HEAD = re.compile(
     r"( *)(?:pub(?:\([^)]*\))? )?(?:default )?(?:const )?(?:unsafe )?(?:extern \"C\" )?fn (\w+)"
@@ -135,18 +141,56 @@ def owner_of(text):
     return "".join(reversed(names[:2]))
 
 
-def check(sources, made):
-    """What a check says with these texts in place: a word for each function, or None where it does not come so far."""
+def crates_below(table, crate):
+    """The crates of the repository below a crate, and the libraries of the kit that it names."""
+    lines = (line.partition("#")[0].partition(":") for line in table.splitlines())
+    named = {head.split()[0]: words.split() for head, colon, words in lines if colon}
+    below, left = [], [crate]
+    while left:
+        found = [it for it in named[left.pop()] if it in named and it not in below]
+        below += found
+        left += found
+    return below, [it for it in named[crate] if it not in named], named[crate]
+
+
+def words_of(sources):
+    """What a check is told of the crate: its root, the libraries below it, and where the check keeps its work."""
+    with open(f"{sources.folder}/../../crates.txt", encoding="utf-8") as it:
+        below, of_kit, named = crates_below(it.read(), sources.crate)
+    root = next(
+        it for it in ("src/lib.rt", "src/main.rt") if os.path.exists(f"{sources.folder}/{it}")
+    )
+    words = ["--crate-name", sources.crate, root, "-L", f"dependency={KIT}/rlibs"]
+    for name in ["std", *of_kit]:
+        words += ["--extern", f"{name}={KIT}/rlibs/{name}.rlib"]
+    for name in below:
+        if name in named:
+            words += ["--extern", f"{name}=../{name}/out/rlib/{name}.rlib"]
+        words += ["-L", f"dependency=../{name}/out/rlib"]
+    words += [
+        "--antt-project",
+        f"{KIT}/rattle/logic/antt-project.json",
+        "--logic-built",
+        f"{KIT}/logic_built",
+    ]
+    os.makedirs(f"{sources.folder}/out/incremental", exist_ok=True)
+    return [*words, "--incremental", "out/incremental", "--jobs", "1"]
+
+
+def check(sources, made, functions=None):
+    """What a check of these functions, or of the crate, says with these texts in place: a word for each function, and whether
+    all is proved; or None where the check does not come so far."""
     sources.write(made)
+    only = [word for it in functions or () for word in ("--only", path_of(it))]
     ran = subprocess.run(
-        ["rt", "check"],
+        [f"{KIT}/bin/rattle", "check", *words_of(sources), *only],
         cwd=sources.folder,
         stdin=subprocess.DEVNULL,
         stdout=subprocess.PIPE,
         stderr=subprocess.STDOUT,
         errors="replace",
     )
-    last = [it for it in ran.stdout.split("\n") if it.startswith("logic=")]
+    last = [it for it in ran.stdout.split("\n") if it.startswith(("only=", "logic="))]
     if not last:
         return None, ran.stdout
     said = {}
@@ -154,7 +198,13 @@ def check(sources, made):
         told = re.match(r"fn (\S+): (.*)", line)
         if told:
             said[told[1]] = word_of(told[2])
-    return (said, last[-1].startswith("logic=proved")), ran.stdout
+    return (said, ran.returncode == 0), ran.stdout
+
+
+def path_of(function):
+    """The path of a function below the crate, as a check prints it."""
+    module, owner, name = function
+    return "::".join([*module.split("::")[1:], *([owner] if owner else []), name])
 
 
 def word_of(told):
@@ -197,7 +247,7 @@ def batch_of(left):
     """Edits that are each in functions of their own."""
     batch, taken = {}, set()
     for edit, (spans, functions) in left.items():
-        if not functions & taken:
+        if len(batch) < BATCH and not functions & taken:
             batch[edit] = spans, functions
             taken |= functions
     return batch
@@ -205,7 +255,8 @@ def batch_of(left):
 
 def try_batch(sources, batch):
     """What a batch says of each of its edits; halves are tried where the check does not come so far."""
-    answer, _ = check(sources, joined(sources, batch))
+    functions = set().union(*(it for _, it in batch.values()))
+    answer, _ = check(sources, joined(sources, batch), functions)
     if answer is None and len(batch) > 1:
         edits = list(batch)
         half = len(edits) // 2
@@ -262,10 +313,6 @@ def try_alone(sources, edit):
 
 def main(crate, folder, *paths):
     sources = Sources(folder, crate)
-    answer, printed = check(sources, {})
-    if not answer or not answer[1]:
-        print(f"{printed}\n{crate} is not proved as it is")
-        return 1
     refused = past = 0
 
     def tell(edit, what):
@@ -277,17 +324,17 @@ def main(crate, folder, *paths):
     for edit in map(Edit, paths):
         spans = sources.spans(edit) if sources.edited(edit) else None
         functions = sources.functions(spans) if spans else None
-        known = functions and all(told_of(answer[0], it) for it in functions)
-        if known:
+        if functions:
             left[edit] = spans, functions
         else:
             alone.append(edit)
+    tried = set().union(*(functions for _, functions in left.values()))
     for edit in try_batches(sources, left, tell) + alone:
         tell(edit, try_alone(sources, edit))
-    # what was kept meanwhile has to stand for the crate itself still
-    answer, _ = check(sources, {})
+    # what was kept meanwhile has to stand for the functions, or for the crate itself, as they are
+    answer, printed = check(sources, {}, None if alone else tried)
     if not answer or not answer[1]:
-        print(f"{crate} is not proved over what was kept: nothing is known")
+        print(f"{printed}\n{crate} is not proved as it is: nothing is known")
         return 1
     print(f"{refused} refused, {past} get past")
     return 1 if past else 0
