@@ -237,9 +237,6 @@ test_in_range n e = search (arith, nat_tests, ints)
 
 -- ---- as a whole number
 
-small_is : (w : ℤ) → unsigned_abs w < 10 ^ 18 → small_whole w ≡ Some w
-small_is w h = grind (arith, nat_tests)
-
 is_small : (x w : ℤ) → small_whole x ≡ Some w → (w ≡ x) × (unsigned_abs w < 10 ^ 18)
 is_small x w h = (grind (arith, nat_tests), grind (arith, nat_tests))
 

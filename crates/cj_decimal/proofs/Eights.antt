@@ -46,10 +46,6 @@ of_sign true s e = behind 45 [] refl tt e
 of_sign false s (inl e) = none e
 of_sign false s (inr e) = behind 43 [] refl tt e
 
-of_mark : (m : ℕ) (s : List ℕ) {t : List ℕ} → (m ≡ 101) ⊎ (m ≡ 69) → NumberBytes s → t ≡ m ∷ s → NumberBytes t
-of_mark m s (inl e) h is = behind 101 s refl h (is ∙ ap (λ k. k ∷ s) e)
-of_mark m s (inr e) h is = behind 69 s refl h (is ∙ ap (λ k. k ∷ s) e)
-
 of_exp : (e : ℤ) (s : List ℕ) → IsExp e s → NumberBytes s
 of_exp e s (inl nothing) = none nothing.1
 of_exp e s (inr p) = search (arith, both, of_sign, of_digits, all_of)

@@ -1,6 +1,6 @@
 -- Numbers of at most eight digits in a line, and behind a minus.
 use Rattle.cj_decimal.proofs.Common.{◌≡◌, ℕ, ◌≤◌, List, [], ◌∷◌, Bool, true, false, refl, ap, ◌∙◌, arith, AllDigits, IsInt, SpellsNumber, zero, suc, and_parts, ◌+◌, ◌-◌, ◌<◌, length, length-drop, slice_range, take, drop, ◌&&◌, nat_eq, sym, get_or, IsTrue, bit_and, IsShort, after_frac, digits_front, digits_rest, begins, body, is_exp, is_frac, is_int, written_of, IsFewDigits, IsNumberIfBegun}
-use Rattle.cj_decimal.proofs.Grammar.{digit_begins, digit_begins_alone, front_all, front_rest, int_from_test, int_is_digits, minus_there, no_minus, spells_test, test_spells}
+use Rattle.cj_decimal.proofs.Grammar.{digit_begins, front_all, front_rest, int_from_test, int_is_digits, minus_there, no_minus, spells_test, test_spells}
 use Rattle.std.proofs.lemmas.Bool.{eq-eqb, ne_eqb}
 use Rattle.std.proofs.lemmas.List.{drop-take, drop-drop, get_or-take, get_or-drop, length-take-le}
 use Rattle.cj_decimal.specs.Word.{little_endian, AllBelow}
@@ -93,11 +93,6 @@ pub all_from_eight : (line : List ℕ) (count stop : ℕ) → count ≤ 8 → 8 
 all_from_eight line count stop few room all = rw (end_of_eight line count stop few room) all
 
 -- ---- digits that are a number of JSON
-
-digits_unsigned : (s : List ℕ) → AllDigits s → begins 45 s ≡ false
-unfolding begins
-digits_unsigned [] all = refl
-digits_unsigned (b ∷ t) all = digit_begins_alone 45 (b ∷ t) all (omega arith)
 
 -- they are an int
 pub number_int : (s : List ℕ) → SpellsNumber s → AllDigits s → IsInt s

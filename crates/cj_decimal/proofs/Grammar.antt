@@ -226,9 +226,6 @@ mark_test : (b : ℕ) → IsMark b → (nat_eq b 101 || nat_eq b 69) ≡ true
 mark_test b (inl e) = rw e
 mark_test b (inr e) = rw e
 
-mark_from_test : (b : ℕ) → (nat_eq b 101 || nat_eq b 69) ≡ true → IsMark b
-mark_from_test b h = search arith
-
 mark_no_digit : (b : ℕ) → IsMark b → is_ascii_digit b ≡ false
 mark_no_digit b (inl e) = rw e
 mark_no_digit b (inr e) = rw e

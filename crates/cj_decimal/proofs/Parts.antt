@@ -33,10 +33,6 @@ too_long_new n d p h big = record { too_long = λ c k e. at c k e }
           (over_ten n d c (10 ^ k) h (e ∙ ap (λ p. c * p) (pow-suc 10 k))).0,
         ))
 
-no_extra : (lead extra : ℕ) → lead < 10 ^ 35 → (0 < extra → 10 ^ 35 ≤ lead) → extra ≡ 0
-no_extra lead zero h full = refl
-no_extra lead (suc x) h full = absurd (omega arith)
-
 pub push_short : {lead extra : ℕ} (lost : Bool) {n : ℕ} (d : ℕ) → lead < 10 ^ 35 → (0 < extra → 10 ^ 35 ≤ lead)
     → (IsTrue lost → 10 ^ 35 ≤ lead) → d < 10 → StandsFor lead extra lost n
     → StandsFor (lead * 10 + d) extra lost (10 * n + d)

@@ -1,5 +1,5 @@
 -- Walks over the city objects of a feature, and the marks that they set.
-use Rattle.cj_feature.proofs.Common.{IsMarked, List, Token, Tree, [], ap, arith, cases_eq, cond, false, has_mark, is_marked_at, length, refl, spans_of, suc, tree_at, true, zero, ℕ, ◌+◌, ◌<◌, ◌∙◌, ◌∷◌, ◌≡◌, ◌≢◌, ◌⊎◌, Contains, IfNone, IsBeside, IsMarkedBy, Node, None, Option, Some, contains_cases, contains_first, contains_later, line_of, members_left, members_line, members_of, members_source, source_of, subst, sym, tokens_in, tree, trees}
+use Rattle.cj_feature.proofs.Common.{ArePassed, IsMarked, IsNoted, List, Noted, Token, Tree, [], ap, arith, cases_eq, cond, false, has_mark, inl, inr, is_marked_at, length, refl, spans_of, suc, tree_at, true, zero, ℕ, ◌+◌, ◌<◌, ◌∙◌, ◌∷◌, ◌≡◌, ◌≢◌, ◌⊎◌, Contains, IfNone, IsBeside, IsMarkedBy, Node, None, Option, Some, contains_cases, contains_first, contains_later, line_of, members_left, members_line, members_of, members_source, source_of, subst, sym, tokens_in, tree, trees}
 use Rattle.cj_spans.specs.View.{YieldsMember}
 use Rattle.cj_spans.specs.declared.node.Members.{Members}
 
@@ -68,6 +68,20 @@ module _ (m n : Node) (b : IsBeside m n) where
 pub next-or : {X : Type 0} (xs : List X) (x : X) (ys : List X) (y : X) → xs ≡ x ∷ ys → Contains xs y → (x ≡ y)
     ⊎ Contains ys y
 next-or xs x ys y e h = contains_cases x ys y (subst (λ zs. Contains zs y) e h)
+
+-- one more is passed, if it has a mark or its name is noted, and what was noted still is
+pub passed-on : (objects : Node) (these xs ys : List (Tree × Tree)) (names more : List Noted) (x : Tree × Tree)
+    → xs ≡ x ∷ ys → IsMarkedBy objects x.1 ⊎ IsNoted objects more x.0
+    → ((t : Tree) → IsNoted objects names t → IsNoted objects more t) → ArePassed objects these xs names
+    → ArePassed objects these ys more
+passed-on objects these xs ys names more x e here kept passed m h =
+    elim (passed m h) [
+      | inl k ↦ elim (next-or xs x ys m e k) [
+        | inl z ↦ inr (subst (λ (w : Tree × Tree). IsMarkedBy objects w.1 ⊎ IsNoted objects more w.0) z here)
+        | inr later ↦ inl later
+      ]
+      | inr k ↦ inr (elim k [ inl marked ↦ inl marked | inr n ↦ inr (kept m.0 n) ])
+    ]
 
 -- what holds of the next one and of each of the rest, holds of each
 pub each-more : {X : Type 0} (P : X → Type 0) (xs : List X) (x : X) (ys : List X) → xs ≡ x ∷ ys → P x

@@ -128,11 +128,6 @@ passed_is n ts passed e h =
     let whole = ap total_size (take-append-drop n ts) in let parts = total_size-append (take n ts) (drop n ts) in
     let same = ap total_size e in omega arith
 
--- before the walk
-pub begins_at_step : {places : ℕ} (step : ℕ) {ts left : List Tree} (sizes : List ℕ) → length sizes ≡ places
-    → length ts < places * step → left ≡ ts → total_size left < 2147483648 → IsNoted places step ts left sizes 0 0 0
-begins_at_step step {ts} {left} sizes room below same small = search arith
-
 -- a step is due: there is a place for it
 pub has_place : {places step : ℕ} {ts left : List Tree} (t : Tree) (rest : List Tree) {sizes : List ℕ}
     {place until passed : ℕ} → IsNoted places step ts left sizes place until passed → left ≡ t ∷ rest → until ≡ 0

@@ -224,12 +224,6 @@ pub whole-kind : (t : Tree) (w : ℤ) → whole_of t ≡ Some w → kind_of t �
 whole-kind (scalar Number a) w is = refl
 whole-kind _ w is = absurd (cc is)
 
-by-whole : (rule : ℤ → List Finding) (t : Tree) (r : Result DecimalNumber DecimalFault) (w : ℤ)
-    → option_and_then as_whole (result_ok r) ≡ Some w
-    → value_findings (λ v. whole_findings rule t (as_whole v)) t r ≡ rule w
-by-whole rule t (Ok v) w is = ap (whole_findings rule t) is
-by-whole rule t (Err e) w is = absurd (cc is)
-
 -- a rule on a whole number is that on its value
 pub rule-of-whole : (rule : ℤ → List Finding) (t : Tree) (w : ℤ) → whole_of t ≡ Some w → of_whole rule t ≡ rule w
 rule-of-whole rule t w is = search arith

@@ -42,12 +42,6 @@ pub ruleset finding_steps = (least-append)
 
 -- ---- findings one after another
 
--- a value with the first part, and the others with the other parts
-paired-first : (rule : Tree → Option Tree → List Finding) (t : Tree) (ts parts : List Tree)
-    → paired rule (t ∷ ts) parts ≡ rule t (first_part parts) ++ paired rule ts (other_parts parts)
-paired-first rule t ts [] = refl
-paired-first rule t ts (b ∷ bs) = refl
-
 -- one value more, with the part beside it
 pub beside-on : (rule : Tree → Option Tree → List Finding) {all : List Tree} (rest parts : List Tree) (t : Tree)
     {b : Option Tree}

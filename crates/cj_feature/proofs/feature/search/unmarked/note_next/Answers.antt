@@ -1,6 +1,6 @@
-use Rattle.cj_feature.proofs.Common.{IsMarkedBy, IsNoted, Tree, ap, arith, inl, inr, length, length-set, members_left, side_in, side_of, source_of, subst, sym, short_hash_of, take, text_of, tree, tree_in, ◌+◌, ◌∙◌, ◌≡◌}
+use Rattle.cj_feature.proofs.Common.{IsMarkedBy, IsNoted, Tree, ap, arith, inl, inr, length, length-set, side_in, side_of, source_of, sym, short_hash_of, take, text_of, tree, tree_in, ◌+◌, ◌∙◌, ◌≡◌}
 use Rattle.cj_feature.proofs.Questions.{kept-first, last-first}
-use Rattle.cj_feature.proofs.Walking.{next-or}
+use Rattle.cj_feature.proofs.Walking.{passed-on}
 use Rattle.cj_feature.proofs.feature.search.unmarked.note_next.Goals as goal
 
 pub loop-count-preserved-then-not-marked : goal.loop-count-preserved-then-not-marked
@@ -32,17 +32,7 @@ loop-count-preserved-then-not-marked c =
       few = omega (arith, below, long);
       same = long ∙ inv.same;
       fewer = omega (arith, inv.fewer, ap length steps.0);
-      passed = λ m h.
-          elim (inv.passed m h) [
-            | inl k ↦ elim (next-or (members_left c.loop-count.later) (name, tree c.in-Some.object)
-                (members_left c.next.new.self) m steps.0 k) [
-                  | inl z ↦ inr (inr (subst
-                      (λ (w : Tree × Tree). IsNoted objects (take (count + 1) c.note.new.names) w.0) z
-                      here))
-                  | inr later ↦ inl later
-                ]
-            | inr k ↦ inr (elim k [ inl marked ↦ inl marked | inr n ↦ inr (noted m.0 n) ])
-          ];
+      passed = passed-on objects _ _ _ _ _ (name, tree c.in-Some.object) steps.0 (inr here) noted inv.passed;
       line = steps.1 ∙ inv.line;
       source = steps.3 ∙ inv.source;
     }
@@ -58,15 +48,8 @@ loop-count-preserved c =
       few = inv.few;
       same = inv.same;
       fewer = omega (arith, inv.fewer, ap length steps.0);
-      passed = λ m h.
-          elim (inv.passed m h) [
-            | inl k ↦ elim (next-or (members_left c.loop-count.later) (tree c.in-Some.name, tree c.in-Some.object)
-                (members_left c.next.new.self) m steps.0 k) [
-                  | inl z ↦ inr (inl (subst (λ (w : Tree × Tree). IsMarkedBy objects w.1) z here))
-                  | inr later ↦ inl later
-                ]
-            | inr k ↦ inr k
-          ];
+      passed = passed-on objects _ _ _ _ _ (tree c.in-Some.name, tree c.in-Some.object) steps.0 (inl here)
+          (λ t n. n) inv.passed;
       line = steps.1 ∙ inv.line;
       source = steps.3 ∙ inv.source;
     }
