@@ -2,8 +2,8 @@
  *
  *     library_worked
  *
- * The inputs are a header and a feature, invalid lines, and wrong requests. The expected values were counted by hand. The last
- * line is 'N passed, M failed', and the status is 0 if all passed. */
+ * The inputs are a header and a feature, invalid lines, and wrong requests. The last line is 'N passed, M failed', and the status
+ * is 0 if all passed. */
 #include "../../c/cityseq.h"
 #include <stdio.h>
 #include <string.h>
